@@ -1,0 +1,250 @@
+//! The refusals that definitions and code share. A variant's number, where a line or a table shows one, is its `code`.
+
+ghost use Rattle.std.specs.Prelude.{◌≡◌};
+ghost use Rattle.lost_spec.specs.Codes.{urn_code, geo_code, ring_code, civic_code, source_code, stamp_code, mapping_code, edit_code};
+
+use thiserror::Error;
+
+/// Why a text is no service URN (RFC 5031, section 3; the bounds are an own rule).
+#[derive(Clone, Copy, PartialEq, Eq, Debug, Error)]
+pub enum UrnError {
+    #[error("the text does not begin with urn:service:")]
+    Prefix,
+    #[error("a label is empty")]
+    EmptyLabel,
+    #[error("a label has a character other than ASCII letters, digits and hyphens")]
+    BadCharacter,
+    #[error("a label begins or ends with a hyphen")]
+    HyphenAtEnd,
+    #[error("a label has more than 63 characters")]
+    LabelTooLong,
+    #[error("there are more than 8 labels")]
+    TooManyLabels,
+    #[error("memory ran out")]
+    Memory,
+}
+
+impl UrnError {
+    /// The number of the refusal, from 1 to 7 in the order of the checks.
+    pub fn code(self) -> u8
+        ensures { result ≡ urn_code self }
+    {
+        match self {
+            UrnError::Prefix => 1,
+            UrnError::EmptyLabel => 2,
+            UrnError::BadCharacter => 3,
+            UrnError::HyphenAtEnd => 4,
+            UrnError::LabelTooLong => 5,
+            UrnError::TooManyLabels => 6,
+            UrnError::Memory => 7,
+        }
+    }
+}
+
+/// Why two numbers are no point (RFC 5222, section 12.2; the unit of 1e-7 degrees is an own rule).
+#[derive(Clone, Copy, PartialEq, Eq, Debug, Error)]
+pub enum GeoError {
+    #[error("the latitude is outside -900000000 to 900000000")]
+    Latitude,
+    #[error("the longitude is outside -1800000000 to 1800000000")]
+    Longitude,
+}
+
+impl GeoError {
+    /// The number of the refusal, 1 or 2 in the order of the checks.
+    pub fn code(self) -> u8
+        ensures { result ≡ geo_code self }
+    {
+        match self {
+            GeoError::Latitude => 1,
+            GeoError::Longitude => 2,
+        }
+    }
+}
+
+/// Why a list of points is no ring (RFC 5222, section 12.2; the greatest length is an own rule).
+#[derive(Clone, Copy, PartialEq, Eq, Debug, Error)]
+pub enum RingError {
+    #[error("the ring has fewer than 4 positions")]
+    TooShort,
+    #[error("the ring does not end where it begins")]
+    NotClosed,
+    #[error("the ring has more than 4096 positions")]
+    TooLong,
+}
+
+impl RingError {
+    /// The number of the refusal, from 1 to 3 in the order of the checks.
+    pub fn code(self) -> u8
+        ensures { result ≡ ring_code self }
+    {
+        match self {
+            RingError::TooShort => 1,
+            RingError::NotClosed => 2,
+            RingError::TooLong => 3,
+        }
+    }
+}
+
+/// Why a list of pairs is no civic address or no civic pattern (own rule). The numbers are not the order of the
+/// checks: an address checks 3, 2, 1, 4, and a pattern 3, 2, 5, 1, 4.
+#[derive(Clone, Copy, PartialEq, Eq, Debug, Error)]
+pub enum CivicError {
+    #[error("no name is that of a civic element")]
+    NoKnownElement,
+    #[error("a name stands twice")]
+    Repeated,
+    #[error("there are more than 128 pairs, or a name or a value has more than 512 bytes")]
+    TooLong,
+    #[error("memory ran out")]
+    Memory,
+    #[error("a name is not that of a civic element")]
+    UnknownElement,
+}
+
+impl CivicError {
+    /// The number of the refusal.
+    pub fn code(self) -> u8
+        ensures { result ≡ civic_code self }
+    {
+        match self {
+            CivicError::NoKnownElement => 1,
+            CivicError::Repeated => 2,
+            CivicError::TooLong => 3,
+            CivicError::Memory => 4,
+            CivicError::UnknownElement => 5,
+        }
+    }
+}
+
+/// Why a text is no mapping source and no server name (RFC 5222, section 5.1; own spelling).
+#[derive(Clone, Copy, PartialEq, Eq, Debug, Error)]
+pub enum SourceError {
+    #[error("the text is no name of labels joined by dots")]
+    Bad,
+    #[error("memory ran out")]
+    Memory,
+}
+
+impl SourceError {
+    /// The number of the refusal, 1 or 2.
+    pub fn code(self) -> u8
+        ensures { result ≡ source_code self }
+    {
+        match self {
+            SourceError::Bad => 1,
+            SourceError::Memory => 2,
+        }
+    }
+}
+
+/// Why a text is no stamp (RFC 5222, sections 5.1 and 5.2; own spelling).
+#[derive(Clone, Copy, PartialEq, Eq, Debug, Error)]
+pub enum StampError {
+    #[error("the text is no time in UTC such as 2026-01-01T00:00:00Z")]
+    Bad,
+    #[error("memory ran out")]
+    Memory,
+}
+
+impl StampError {
+    /// The number of the refusal, 1 or 2.
+    pub fn code(self) -> u8
+        ensures { result ≡ stamp_code self }
+    {
+        match self {
+            StampError::Bad => 1,
+            StampError::Memory => 2,
+        }
+    }
+}
+
+/// Why the parts of a mapping are no mapping (RFC 5222, section 5; the bounds are own rules).
+#[derive(Clone, Copy, PartialEq, Eq, Debug, Error)]
+pub enum MappingError {
+    #[error("the source is no name of labels joined by dots")]
+    BadSource,
+    #[error("the sourceId is no text of 1 to 128 bytes without control characters")]
+    BadSourceId,
+    #[error("lastUpdated is no stamp")]
+    BadStamp,
+    #[error("expires is neither NO-CACHE, NO-EXPIRATION nor a stamp")]
+    BadExpires,
+    #[error("the service is no service URN")]
+    BadService,
+    #[error("the list of URIs is empty or too long, or has a bad URI or a scheme twice")]
+    BadUri,
+    #[error("the service number is no text of 1 to 64 digits, stars and hashes")]
+    BadNumber,
+    #[error("a region is no polygon and no civic pattern")]
+    BadRegion,
+    #[error("a default has a region, or another mapping has none")]
+    RegionMissing,
+    #[error("there are too many polygons, patterns or display names, or a display name is too long")]
+    TooLarge,
+    #[error("the key is bad, or stands at a default, or is missing elsewhere")]
+    BadKey,
+    #[error("memory ran out")]
+    Memory,
+}
+
+impl MappingError {
+    /// The number of the refusal on the desk's lines: 2 to 12 in the order of the checks, and 20.
+    pub fn code(self) -> u8
+        ensures { result ≡ mapping_code self }
+    {
+        match self {
+            MappingError::BadSource => 2,
+            MappingError::BadSourceId => 3,
+            MappingError::BadStamp => 4,
+            MappingError::BadExpires => 5,
+            MappingError::BadService => 6,
+            MappingError::BadUri => 7,
+            MappingError::BadNumber => 8,
+            MappingError::BadRegion => 9,
+            MappingError::RegionMissing => 10,
+            MappingError::TooLarge => 11,
+            MappingError::BadKey => 12,
+            MappingError::Memory => 20,
+        }
+    }
+}
+
+/// Why a book refuses an edit (own rule).
+#[derive(Clone, Copy, PartialEq, Eq, Debug, Error)]
+pub enum EditError {
+    #[error("a mapping with this source and sourceId is held")]
+    IdentityHeld,
+    #[error("no mapping with this source and sourceId is held")]
+    IdentityUnknown,
+    #[error("lastUpdated is not after that of the mapping held")]
+    NotNewer,
+    #[error("another mapping has the key")]
+    KeyHeld,
+    #[error("the regions changed and the key did not")]
+    KeyUnchanged,
+    #[error("as many mappings as the limit are held")]
+    Full,
+    #[error("as many edits as the limit were accepted")]
+    EditsSpent,
+    #[error("memory ran out")]
+    Memory,
+}
+
+impl EditError {
+    /// The number of the refusal on the desk's lines, from 13 to 20. It is not the order of the checks.
+    pub fn code(self) -> u8
+        ensures { result ≡ edit_code self }
+    {
+        match self {
+            EditError::IdentityHeld => 13,
+            EditError::IdentityUnknown => 14,
+            EditError::NotNewer => 15,
+            EditError::KeyHeld => 16,
+            EditError::KeyUnchanged => 17,
+            EditError::Full => 18,
+            EditError::EditsSpent => 19,
+            EditError::Memory => 20,
+        }
+    }
+}
