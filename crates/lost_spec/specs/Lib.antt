@@ -3,3 +3,11 @@ pub mod Text
 pub mod Service
 pub mod Ring
 pub mod Civic
+pub mod Moment
+pub mod Mapping
+pub mod Book
+pub mod Find
+pub mod Validation
+pub mod Services
+pub mod Request
+pub mod Answer

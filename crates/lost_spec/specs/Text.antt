@@ -1,5 +1,5 @@
 -- Texts, as lists of bytes: how they are compared, and how a list of checks gives its first refusal.
-use Rattle.std.specs.Prelude.{ℕ, Bool, false, cond, ◌&&◌, ◌||◌, List, [], ◌∷◌, Option, Some, None, nat_le, bytes_eq, ◌==◌}
+use Rattle.std.specs.Prelude.{ℕ, Bool, false, cond, if◌then◌else◌, ◌&&◌, ◌||◌, List, [], ◌∷◌, Option, Some, None, nat_le, bytes_eq, ◌==◌}
 use Rattle.std.specs.List.{list_any}
 use Rattle.std.specs.Option.{option_or}
 use Rattle.std.specs.Ordering.{nat_cmp, is_lt}
@@ -76,3 +76,17 @@ first_fault (check ∷ rest) = cond check.0 (Some check.1) (first_fault rest)
 abbrev pub first_fault_of : {Thing Fault : Type 0} → (Thing → Option Fault) → List Thing → Option Fault
 first_fault_of fault [] = None
 first_fault_of fault (thing ∷ rest) = option_or (fault thing) (first_fault_of fault rest)
+
+-- ---- lists in order, each thing once
+
+-- x put into a list in the order of the texts of its things, unless a thing with the same text is there
+abbrev pub insert_by : {Thing : Type 0} → (Thing → Text) → Thing → List Thing → List Thing
+insert_by text_of x [] = x ∷ []
+insert_by text_of x (y ∷ rest) =
+    if is_before (text_of x) (text_of y) then x ∷ y ∷ rest
+    else (if same_text (text_of x) (text_of y) then y ∷ rest else y ∷ insert_by text_of x rest)
+
+-- the things of a list in ascending order of their texts, each once
+abbrev pub ascending_by : {Thing : Type 0} → (Thing → Text) → List Thing → List Thing
+ascending_by text_of [] = []
+ascending_by text_of (x ∷ rest) = insert_by text_of x (ascending_by text_of rest)
