@@ -101,26 +101,26 @@ is_key_unchanged (Some old) m = not (same_regions old m) && same_key old.key m.k
 abbrev pub publish_refusal : Book → Mapping → Option EditError
 publish_refusal b m =
     first_fault (
-      (is_spent b, EditsSpent)
-      ∷ (is_held b (identity_of m), IdentityHeld)
-      ∷ (is_full b, Full)
-      ∷ (is_key_held b (identity_of m) m.key, KeyHeld) ∷ [])
+    (is_spent b, EditsSpent)
+    ∷ (is_held b (identity_of m), IdentityHeld)
+    ∷ (is_full b, Full)
+    ∷ (is_key_held b (identity_of m) m.key, KeyHeld) ∷ [])
 
 abbrev pub replace_refusal : Book → Mapping → Option EditError
 replace_refusal b m =
     first_fault (
-      (is_spent b, EditsSpent)
-      ∷ (not (is_held b (identity_of m)), IdentityUnknown)
-      ∷ (is_not_newer (held b (identity_of m)) m.stamp, NotNewer)
-      ∷ (is_key_held b (identity_of m) m.key, KeyHeld)
-      ∷ (is_key_unchanged (held b (identity_of m)) m, KeyUnchanged) ∷ [])
+    (is_spent b, EditsSpent)
+    ∷ (not (is_held b (identity_of m)), IdentityUnknown)
+    ∷ (is_not_newer (held b (identity_of m)) m.stamp, NotNewer)
+    ∷ (is_key_held b (identity_of m) m.key, KeyHeld)
+    ∷ (is_key_unchanged (held b (identity_of m)) m, KeyUnchanged) ∷ [])
 
 abbrev pub withdraw_refusal : Book → Identity → Stamp → Option EditError
 withdraw_refusal b id stamp =
     first_fault (
-      (is_spent b, EditsSpent)
-      ∷ (not (is_held b id), IdentityUnknown)
-      ∷ (is_not_newer (held b id) stamp, NotNewer) ∷ [])
+    (is_spent b, EditsSpent)
+    ∷ (not (is_held b id), IdentityUnknown)
+    ∷ (is_not_newer (held b id) stamp, NotNewer) ∷ [])
 
 -- the first refusal of an edit, or none; live or not, a mapping held counts
 abbrev pub refusal : Book → Edit → Option EditError

@@ -11,3 +11,5 @@ pub mod Validation
 pub mod Services
 pub mod Request
 pub mod Answer
+pub mod Examples
+pub mod Rows

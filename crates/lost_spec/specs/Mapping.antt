@@ -167,33 +167,34 @@ has_right_key false (Some key) = is_id key
 unfoldable pub parts_fault : Parts → Option MappingError
 parts_fault parts =
     first_fault (
-      (not (is_source parts.source), BadSource)
-      ∷ (not (is_id parts.source_id), BadSourceId)
-      ∷ (not (is_stamp parts.last_updated), BadStamp)
-      ∷ (not (is_expires parts.expires), BadExpires)
-      ∷ (is_err (read_service parts.service), BadService)
-      ∷ (not (are_uris parts.uris), BadUri)
-      ∷ (not (is_number parts.number), BadNumber)
-      ∷ (not (list_all is_region parts.regions), BadRegion)
-      ∷ (not (has_right_regions parts.is_default parts.regions), RegionMissing)
-      ∷ (is_too_large parts, TooLarge)
-      ∷ (not (has_right_key parts.is_default parts.key), BadKey) ∷ [])
+    (not (is_source parts.source), BadSource)
+    ∷ (not (is_id parts.source_id), BadSourceId)
+    ∷ (not (is_stamp parts.last_updated), BadStamp)
+    ∷ (not (is_expires parts.expires), BadExpires)
+    ∷ (is_err (read_service parts.service), BadService)
+    ∷ (not (are_uris parts.uris), BadUri)
+    ∷ (not (is_number parts.number), BadNumber)
+    ∷ (not (list_all is_region parts.regions), BadRegion)
+    ∷ (not (has_right_regions parts.is_default parts.regions), RegionMissing)
+    ∷ (is_too_large parts, TooLarge)
+    ∷ (not (has_right_key parts.is_default parts.key), BadKey) ∷ [])
 
 -- the mapping of parts that are not refused: the source and the service in lower case, all else as given
 unfoldable pub mapping_of : Parts → Mapping
 mapping_of parts = record {
-    source = lowered parts.source;
-    source_id = parts.source_id;
-    stamp = stamp_of parts.last_updated;
-    expires = expires_of parts.expires;
-    service = result_unwrap_or (read_service parts.service) [];
-    uris = parts.uris;
-    number = parts.number;
-    polygons = polygons_of parts.regions;
-    patterns = patterns_of parts.regions;
-    is_default = parts.is_default;
-    display_names = parts.display_names;
-    key = parts.key }
+  source = lowered parts.source;
+  source_id = parts.source_id;
+  stamp = stamp_of parts.last_updated;
+  expires = expires_of parts.expires;
+  service = result_unwrap_or (read_service parts.service) [];
+  uris = parts.uris;
+  number = parts.number;
+  polygons = polygons_of parts.regions;
+  patterns = patterns_of parts.regions;
+  is_default = parts.is_default;
+  display_names = parts.display_names;
+  key = parts.key;
+}
 
 abbrev pub mapping_or : Option MappingError → Mapping → Result Mapping MappingError
 mapping_or None m = Ok m

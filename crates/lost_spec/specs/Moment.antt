@@ -101,10 +101,11 @@ is_stamp text =
 unfoldable pub moment_of : Text → Instant
 unfolding day_number
 moment_of text = record {
-    day = day_number (number_at text 0 4) (number_at text 5 7) (number_at text 8 10);
-    nanosecond =
-        ((number_at text 11 13 * 60 + number_at text 14 16) * 60 + number_at text 17 19) * 1_000_000_000
-        + unwrap_or (read_end (drop 19 text)) 0 }
+  day = day_number (number_at text 0 4) (number_at text 5 7) (number_at text 8 10);
+  nanosecond =
+      ((number_at text 11 13 * 60 + number_at text 14 16) * 60 + number_at text 17 19) * 1_000_000_000
+      + unwrap_or (read_end (drop 19 text)) 0;
+}
 
 -- a stamp: its text, which is kept, and its instant
 pub record Stamp : Type 0 where

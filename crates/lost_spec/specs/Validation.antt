@@ -77,7 +77,8 @@ unfoldable pub validation : Book → Instant → Service → List Mapping → Pa
 validation b t u found address =
     let references = reference_patterns b t u found address in
     record {
-        invalid = filter (is_invalid references found address) (ordered_names address);
-        unchecked =
-            filter (λ name. not (is_valid found address name) && not (is_invalid references found address name)) (ordered_names address);
-        valid = valid_names found address }
+      invalid = filter (is_invalid references found address) (ordered_names address);
+      unchecked =
+          filter (λ name. not (is_valid found address name) && not (is_invalid references found address name)) (ordered_names address);
+      valid = valid_names found address;
+    }

@@ -4,3 +4,4 @@
 
 pub mod answers;
 pub mod faults;
+pub mod rows;
