@@ -1,11 +1,11 @@
 -- Books: the edits that a book refuses, and the book after an edit and after a list of edits.
-use Rattle.std.specs.Prelude.{ℕ, ◌+◌, Bool, true, false, not, ◌&&◌, if◌then◌else◌, List, [], ◌∷◌, ◌++◌, length, Option, Some, None, is_none, nat_le, find, fold, codes}
+use Rattle.std.specs.Prelude.{ℕ, ◌+◌, Bool, true, false, not, ◌&&◌, if◌then◌else◌, List, [], ◌∷◌, ◌++◌, length, Option, Some, None, is_none, nat_le, find, fold}
 use Rattle.std.specs.List.{list_any}
 use lib.Pointwise.{pointwise}
 use Rattle.lost_spec.specs.declared.faults.EditError.{EditError}
 use Rattle.lost_spec.specs.declared.faults.EditError.TheVariants.{IdentityHeld, IdentityUnknown, NotNewer, KeyHeld, KeyUnchanged, Full, EditsSpent}
 use Rattle.lost_spec.specs.Text.{Text, same_text, is_between, first_fault}
-use Rattle.lost_spec.specs.Ring.{Point, same_point}
+use Rattle.lost_spec.specs.Ring.{same_point}
 use Rattle.lost_spec.specs.Civic.{Pairs}
 use Rattle.lost_spec.specs.Moment.{is_earlier, Stamp}
 use Rattle.lost_spec.specs.Mapping.{Mapping}

@@ -1,18 +1,17 @@
 -- The things that the worked rows speak of: rings, mappings, edits, requests and replies, each written out.
-use Rattle.std.specs.Prelude.{ℕ, ◌-◌, Bool, true, false, List, [], ◌∷◌, ◌++◌, map, Option, Some, None, ℤ, pos, negsuc, codes}
-use Rattle.lost_spec.specs.declared.answers.AnswerError.{AnswerError}
+use Rattle.std.specs.Prelude.{ℕ, true, false, List, [], ◌∷◌, ◌++◌, map, Option, Some, None, ℤ, pos, negsuc, codes}
 use Rattle.lost_spec.specs.declared.answers.Warning.{Warning}
 use Rattle.lost_spec.specs.Text.{Text}
 use Rattle.lost_spec.specs.Service.{Service, read_service}
 use Rattle.lost_spec.specs.Ring.{Point}
 use Rattle.lost_spec.specs.Civic.{Pairs}
 use Rattle.lost_spec.specs.Moment.{Instant, Stamp, is_stamp, moment_of}
-use Rattle.lost_spec.specs.Mapping.{Region, RingRegion, PatternRegion, Parts, Mapping, NoExpiration, Expires, At, point_of, is_source, is_id, is_uri, parts_fault, mapping_of}
-use Rattle.lost_spec.specs.Book.{Limits, Edit, Publish, book_of}
+use Rattle.lost_spec.specs.Mapping.{Region, Parts, Mapping, NoExpiration, point_of, is_source, is_id, is_uri, parts_fault, mapping_of}
+use Rattle.lost_spec.specs.Book.{Limits, Edit, book_of}
 use Rattle.lost_spec.specs.Find.{found, is_implemented}
-use Rattle.lost_spec.specs.Validation.{Validation, validation}
+use Rattle.lost_spec.specs.Validation.{validation}
 use Rattle.lost_spec.specs.Services.{services, all_services, by_key}
-use Rattle.lost_spec.specs.Request.{Body, PointBody, AddressBody, Location, Request, FindService, ListServicesByLocation, Boundary, ByReference, ByPolygons, NoBoundary, ShownMapping, Reply, FindServiceResponse, Errors}
+use Rattle.lost_spec.specs.Request.{Body, PointBody, AddressBody, Location, Request, FindService, ListServicesByLocation, ByReference, ByPolygons, NoBoundary, ShownMapping, Reply, FindServiceResponse}
 use Rattle.lost_spec.specs.Answer.{answer}
 use Rattle.std.specs.Str.{chars, is_utf8}
 use lib.Utf8.{encode}

@@ -1,5 +1,5 @@
 -- Instants and stamps: the calendar, which texts are stamps, and the instant that a stamp names.
-use Rattle.std.specs.Prelude.{ℕ, zero, suc, ◌+◌, ◌-◌, ◌*◌, ◌%◌, ◌^◌, Bool, false, not, ◌&&◌, ◌||◌, if◌then◌else◌, List, [], ◌∷◌, take, drop, length, Option, Some, None, is_some, unwrap_or, ℤ, pos, ◌-ℤ◌, int_lt, nat_le, nat_lt, ◌==◌, slice_range, fold, codes}
+use Rattle.std.specs.Prelude.{ℕ, zero, suc, ◌+◌, ◌-◌, ◌*◌, ◌%◌, ◌^◌, Bool, not, ◌&&◌, ◌||◌, if◌then◌else◌, [], ◌∷◌, take, drop, length, Option, Some, None, is_some, unwrap_or, ℤ, pos, ◌-ℤ◌, int_lt, nat_le, nat_lt, ◌==◌, slice_range, fold, codes}
 use Rattle.std.specs.List.{list_all}
 use Rattle.std.specs.Ordering.{int_eq}
 use lib.Pointwise.{pointwise}

@@ -1,18 +1,17 @@
 -- The worked rows that need no text of JSON, each as a fact that holds by computing. docs/EXAMPLES.md has them in full.
-use Rattle.std.specs.Prelude.{◌≡◌, ℕ, Bool, true, false, List, [], ◌∷◌, ◌++◌, map, Option, Some, None, Result, Ok, Err, pos, negsuc, ◌+ℤ◌, length, replicate, codes}
+use Rattle.std.specs.Prelude.{◌≡◌, true, false, List, [], ◌∷◌, ◌++◌, map, Some, None, Ok, Err, pos, negsuc, replicate, codes}
 use Rattle.lost_spec.specs.declared.faults.UrnError.TheVariants.{Prefix, EmptyLabel, BadCharacter, HyphenAtEnd, LabelTooLong, TooManyLabels}
 use Rattle.lost_spec.specs.declared.faults.MappingError.TheVariants.{BadUri, BadNumber, BadRegion, RegionMissing, TooLarge, BadKey}
 use Rattle.lost_spec.specs.declared.faults.EditError.TheVariants.{IdentityHeld, IdentityUnknown, NotNewer, KeyHeld, KeyUnchanged, Full, EditsSpent}
 use Rattle.lost_spec.specs.declared.answers.AnswerError.TheVariants.{Loop, LocationProfileUnrecognized, SrsInvalid, LocationInvalid, NotFound, ServiceNotImplemented}
 use Rattle.lost_spec.specs.declared.answers.Warning.TheVariants.{ServiceSubstitution, DefaultMappingReturned, LocationValidationUnavailable}
-use Rattle.lost_spec.specs.Text.{Text, lowered}
+use Rattle.lost_spec.specs.Text.{lowered}
 use Rattle.lost_spec.specs.Service.{read_service, service_text}
-use Rattle.lost_spec.specs.Civic.{Pairs}
-use Rattle.lost_spec.specs.Moment.{Stamp, is_stamp, read_stamp}
+use Rattle.lost_spec.specs.Moment.{Stamp, read_stamp}
 use Rattle.lost_spec.specs.Mapping.{RingRegion, PatternRegion, DisplayName, Parts, Mapping, At, is_source, build}
 use Rattle.lost_spec.specs.Book.{Book, Edit, Publish, Replace, Withdraw, limits_of, refusal, after, empty_book, book_of, is_accepted}
-use Rattle.lost_spec.specs.Request.{UnreadableBody, PointBody, Request, FindService, ListServices, GetServiceBoundary, ByPatterns, Reply, FindServiceResponse, ListServicesByLocationResponse, ListServicesResponse, GetServiceBoundaryResponse, Errors}
-use Rattle.lost_spec.specs.Examples.{square, points, december, first_day, second_day, third_day, fourth_day, server, desk, sos, police, parts_of, mapping_with, mapping_on, renewed, ring_a, ring_b, ring_c, world_ring, far_ring, wide_ring, mapping_a, mapping_b, mapping_c, mapping_d, mapping_t, wide_pattern, house_pattern, mapping_g, address_with, usual_limits, ask, geodetic, civic, location_at, at_point, at_address, find_at, query, services_at, own_path, by_reference, by_polygons, as_default, shown_a, shown_b, shown_c, shown_d, found_with, found_reply, validated}
+use Rattle.lost_spec.specs.Request.{UnreadableBody, PointBody, FindService, ListServices, GetServiceBoundary, ByPatterns, FindServiceResponse, ListServicesByLocationResponse, ListServicesResponse, GetServiceBoundaryResponse, Errors}
+use Rattle.lost_spec.specs.Examples.{points, december, first_day, second_day, third_day, fourth_day, desk, sos, police, parts_of, mapping_with, mapping_on, renewed, ring_a, ring_b, world_ring, far_ring, wide_ring, mapping_a, mapping_b, mapping_c, mapping_d, mapping_t, wide_pattern, house_pattern, mapping_g, address_with, usual_limits, ask, geodetic, location_at, at_point, at_address, find_at, query, services_at, own_path, by_reference, by_polygons, as_default, shown_a, shown_b, shown_c, shown_d, found_with, found_reply, validated}
 
 -- the edits that publish mappings, in order
 abbrev pub published : List Mapping → List Edit

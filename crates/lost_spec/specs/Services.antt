@@ -1,5 +1,5 @@
 -- The services below a service, at a place or anywhere, and the mapping of a key.
-use Rattle.std.specs.Prelude.{Bool, not, ◌&&◌, List, Option, filter, filter_map, find}
+use Rattle.std.specs.Prelude.{not, ◌&&◌, List, Option, filter, filter_map, find}
 use Rattle.lost_spec.specs.Text.{Text, ascending_by}
 use Rattle.lost_spec.specs.Service.{Service, service_text, child}
 use Rattle.lost_spec.specs.Moment.{Instant}

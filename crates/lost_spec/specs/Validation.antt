@@ -1,5 +1,5 @@
 -- Validation of a civic address: which of its elements are valid, invalid and unchecked.
-use Rattle.std.specs.Prelude.{Bool, false, not, ◌&&◌, ◌||◌, List, [], ◌∷◌, ◌++◌, Option, Some, None, option_map, filter, flat_map}
+use Rattle.std.specs.Prelude.{Bool, false, not, ◌&&◌, List, ◌++◌, Option, Some, None, option_map, filter, flat_map}
 use Rattle.std.specs.List.{list_all, list_any}
 use Rattle.lost_spec.specs.Text.{Text, same_text, is_among, ascending_by}
 use Rattle.lost_spec.specs.Service.{Service}

@@ -1,0 +1,40 @@
+-- Laws of the lists of an answer: the names of a validation, and the services below a service.
+use Rattle.std.specs.Prelude.{◌≡◌, ◌+◌, IsTrue, IsFalse, List, [], ◌++◌, Option, length, unwrap_or}
+use Rattle.std.specs.List.{AllByRecursion}
+use Rattle.lost_spec.specs.Text.{Text, is_among, has_repeat}
+use Rattle.lost_spec.specs.Service.{Service, is_at_or_below, is_service_before}
+use Rattle.lost_spec.specs.Civic.{Pairs, names_of}
+use Rattle.lost_spec.specs.Moment.{Instant}
+use Rattle.lost_spec.specs.Mapping.{Mapping}
+use Rattle.lost_spec.specs.Book.{Book}
+use Rattle.lost_spec.specs.Find.{Place}
+use Rattle.lost_spec.specs.Validation.{Validation, validation}
+use Rattle.lost_spec.specs.Services.{services, all_services}
+use Rattle.lost_spec.specs.Laws.{EachWithLater}
+
+-- all names of a validation
+abbrev pub all_names : Validation → List Text
+all_names v = v.valid ++ (v.invalid ++ v.unchecked)
+
+-- the names of a validation are those of the address, each once
+pub record CoversEachNameOnce (address : Pairs) (v : Validation) : Type 0 where
+  pub once : IsFalse (has_repeat (all_names v))
+  pub same_names : (name : Text) → is_among name (all_names v) ≡ is_among name (names_of address)
+
+-- valid, invalid and unchecked together are the names of the address, each once
+abbrev pub ValidationCoversTheAddress : Type 0
+ValidationCoversTheAddress =
+    (b : Book) (t : Instant) (u : Service) (found : List Mapping) (address : Pairs) → CoversEachNameOnce address (validation b t u found address)
+
+-- a list of services below q: ascending by text and so without repeats, each below q and one label longer
+pub record AreChildren (q : Option Service) (us : List Service) : Type 0 where
+  pub ascending : EachWithLater (λ u v. IsTrue (is_service_before u v)) us
+  pub one_longer : AllByRecursion (λ u. length u ≡ length (unwrap_or q []) + 1) us
+  pub below : AllByRecursion (λ u. IsTrue (is_at_or_below u (unwrap_or q []))) us
+
+-- the services at a place, and those anywhere, are in order and one label longer than what was asked
+abbrev pub ServicesAreChildren : Type 0
+ServicesAreChildren = (b : Book) (t : Instant) (l : Place) (q : Option Service) → AreChildren q (services b t l q)
+
+abbrev pub AllServicesAreChildren : Type 0
+AllServicesAreChildren = (b : Book) (t : Instant) (q : Option Service) → AreChildren q (all_services b t q)
