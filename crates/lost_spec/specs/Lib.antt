@@ -13,6 +13,7 @@ pub mod Request
 pub mod Answer
 pub mod Examples
 pub mod Rows
+pub mod OwnRows
 pub mod Laws
 pub mod FindLaws
 pub mod BookLaws

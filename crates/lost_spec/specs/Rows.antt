@@ -154,13 +154,16 @@ Refusals =
     × (after book_a (Publish mapping_a) ≡ book_a)
     × (book_a.edits ≡ 1)
 
--- a stamp that is not newer comes before a key that is held; a key that is held comes before one that is unchanged; a new key with old regions is accepted
-abbrev pub ReplaceOrder : Type 0
-ReplaceOrder =
+-- a stamp that is not newer comes before a key that is held; a key that another mapping has is refused; a new key with old regions is accepted
+abbrev pub ReplaceCodes : Type 0
+ReplaceCodes =
     (refusal book_ab (Replace (renewed mapping_a first_day (codes "B-1") ring_a)) ≡ Some NotNewer)
     × (refusal book_ab (Replace (renewed mapping_a second_day (codes "B-1") ring_a)) ≡ Some KeyHeld)
     × (refusal book_ab (Replace (renewed mapping_a second_day (codes "A-9") ring_a)) ≡ None)
-    × (refusal book_ab (Replace (record mapping_a { stamp = second_day; polygons = []; is_default = true; key = None })) ≡ None)
+
+-- a replacement by a default is accepted, since the key changes with the regions
+abbrev pub ReplaceByDefault : Type 0
+ReplaceByDefault = refusal book_a (Replace (record mapping_a { stamp = second_day; polygons = []; is_default = true; key = None })) ≡ None
 
 -- the limits of a book, and the limits that are allowed
 abbrev pub LimitsRow : Type 0
@@ -186,20 +189,28 @@ parts_a = parts_of (codes "A") (codes "urn:service:sos.police") (RingRegion ring
 abbrev pub english : DisplayName
 english = record { lang = codes "en"; text = codes "Police" }
 
--- the codes of parts that are refused
+-- a bad number, a default with a region, a missing region, too many names, a missing key
 abbrev pub DeskCodes : Type 0
 DeskCodes =
-    (build (record parts_a { uris = [] }) ≡ Err BadUri)
-    × (build (record parts_a { uris = codes "sip:a@map.example" ∷ codes "SIP:b@map.example" ∷ [] }) ≡ Err BadUri)
-    × (build (record parts_a { number = Some (codes "112a") }) ≡ Err BadNumber)
-    × (build (record parts_a { regions = RingRegion ((pos 0, pos 0) ∷ (pos 0, pos 1) ∷ (pos 0, pos 0) ∷ []) ∷ [] }) ≡ Err BadRegion)
-    × (build (record parts_a { regions = PatternRegion [] ∷ [] }) ≡ Err BadRegion)
-    × (build (record parts_a { regions = PatternRegion ((codes "X", codes "1") ∷ []) ∷ [] }) ≡ Err BadRegion)
+    (build (record parts_a { number = Some (codes "112a") }) ≡ Err BadNumber)
     × (build (record parts_a { is_default = true }) ≡ Err RegionMissing)
+    × (build (record parts_a { key = None }) ≡ Err BadKey)
     × (build (record parts_a { regions = [] }) ≡ Err RegionMissing)
     × (build (record parts_a { display_names = replicate 17 english }) ≡ Err TooLarge)
+
+-- no URI, two of one scheme, a ring of three positions
+abbrev pub BadLines : Type 0
+BadLines =
+    (build (record parts_a { uris = [] }) ≡ Err BadUri)
+    × (build (record parts_a { uris = codes "sip:a@map.example" ∷ codes "SIP:b@map.example" ∷ [] }) ≡ Err BadUri)
+    × (build (record parts_a { regions = RingRegion ((pos 0, pos 0) ∷ (pos 0, pos 1) ∷ (pos 0, pos 0) ∷ []) ∷ [] }) ≡ Err BadRegion)
+
+-- a pattern with no element, with an unknown one, and too many patterns
+abbrev pub BadPatterns : Type 0
+BadPatterns =
+    (build (record parts_a { regions = PatternRegion [] ∷ [] }) ≡ Err BadRegion)
+    × (build (record parts_a { regions = PatternRegion ((codes "X", codes "1") ∷ []) ∷ [] }) ≡ Err BadRegion)
     × (build (record parts_a { regions = replicate 257 (PatternRegion ((codes "A1", codes "NJ") ∷ [])) }) ≡ Err TooLarge)
-    × (build (record parts_a { key = None }) ≡ Err BadKey)
 
 -- ---- civic addresses
 
@@ -213,20 +224,30 @@ CivicRow =
     ≡ validated 1 g (codes "HNO" ∷ []) (codes "FLR" ∷ codes "PC" ∷ []) (codes "country" ∷ codes "A1" ∷ codes "A3" ∷ []))
     × (ask es (FindService police (at_address (address_with (codes "99999")) ∷ []) true false [])
     ≡ validated 1 g (codes "HNO" ∷ codes "PC" ∷ []) (codes "FLR" ∷ []) (codes "country" ∷ codes "A1" ∷ codes "A3" ∷ []))
-    × (ask es (find_at police (at_address (address_with (codes "07605")) ∷ [])) ≡ found_reply 1 g)
     × (ask es (find_at police (at_address ((codes "X", codes "1") ∷ []) ∷ [])) ≡ Errors 1 LocationInvalid)
+
+-- the same without validation
+abbrev pub UnaskedValidation : Type 0
+UnaskedValidation =
+    ask (published (mapping_g ∷ [])) (find_at police (at_address (address_with (codes "07605")) ∷ []))
+    ≡ found_reply 1 (by_reference (codes "G-1") mapping_g ∷ [])
+
+-- a point is not validated
+abbrev pub ValidateAPoint : Type 0
+ValidateAPoint =
+    ask (published (mapping_a ∷ [])) (FindService police (at_point (pos 5_000_000) (pos 5_000_000) ∷ []) true false [])
+    ≡ found_reply 1 (shown_a ∷ [])
 
 abbrev pub mapping_both : Mapping
 mapping_both = mapping_with (codes "A") police (points ring_a ∷ []) (wide_pattern ∷ [])
 
--- a mapping with regions of both profiles is found by either, and shown by those of the location used; a point is not validated
+-- a mapping with regions of both profiles is found by either, and shown by those of the location used
 abbrev pub TwoProfiles : Type 0
 TwoProfiles =
     let es = published (mapping_both ∷ []) in
     (ask es (FindService police (at_point (pos 5_000_000) (pos 5_000_000) ∷ []) false true []) ≡ found_reply 1 (by_polygons (points ring_a ∷ []) mapping_both ∷ []))
     × (ask es (FindService police (at_address (address_with (codes "07605")) ∷ []) false true [])
     ≡ found_reply 1 (record { mapping = mapping_both; boundary = ByPatterns (wide_pattern ∷ []) } ∷ []))
-    × (ask (published (mapping_a ∷ [])) (FindService police (at_point (pos 5_000_000) (pos 5_000_000) ∷ []) true false []) ≡ found_reply 1 (shown_a ∷ []))
 
 -- ---- time
 

@@ -1,6 +1,8 @@
 //! The worked rows that need no text of JSON. Each function's contract is a row, which the check proves by computing.
+//! The last ones are our own: they say what the others leave open, above all which of several refusals comes first.
 
-ghost use Rattle.lost_spec.specs.Rows.{Urn, Stamps, Empty, OneMapping, StagedOnly, SharedEdge, OuterEdge, Poles, Fallback, Defaults, Profiles, ReplaceWithdraw, Refusals, ReplaceOrder, LimitsRow, DeskCodes, CivicRow, TwoProfiles, Expiry, BoundaryAndPath, ServicesByLocation};
+ghost use Rattle.lost_spec.specs.Rows.{Urn, Stamps, Empty, OneMapping, StagedOnly, SharedEdge, OuterEdge, Poles, Fallback, Defaults, Profiles, ReplaceWithdraw, Refusals, ReplaceCodes, ReplaceByDefault, LimitsRow, DeskCodes, BadLines, BadPatterns, CivicRow, UnaskedValidation, ValidateAPoint, TwoProfiles, Expiry, BoundaryAndPath, ServicesByLocation};
+ghost use Rattle.lost_spec.specs.OwnRows.{FirstFaults, Comparison, EditOrder, DeskOrder, AnswerOrder, LongestFirst, ReferencePatterns, NameOrder};
 
 /// A text spells a service URN, or is refused by the first check that fails.
 pub fn urn()
@@ -67,9 +69,14 @@ pub fn refusals()
     ensures { Refusals }
 {}
 
-/// The refusals of a replacement come in their order.
-pub fn replace_order()
-    ensures { ReplaceOrder }
+/// The refusals of a replacement come in their order, and a new key is accepted.
+pub fn replace_codes()
+    ensures { ReplaceCodes }
+{}
+
+/// A replacement by a default is accepted.
+pub fn replace_by_default()
+    ensures { ReplaceByDefault }
 {}
 
 /// A book keeps to its limits.
@@ -77,14 +84,34 @@ pub fn limits()
     ensures { LimitsRow }
 {}
 
-/// Parts that are no mapping are refused by the first check that fails.
+/// A bad number, a region at a default, a missing region, too many names or a missing key is refused.
 pub fn desk_codes()
     ensures { DeskCodes }
+{}
+
+/// A missing URI, two URIs of one scheme or a ring of three positions is refused.
+pub fn bad_lines()
+    ensures { BadLines }
+{}
+
+/// An empty pattern, one with an unknown element or too many patterns are refused.
+pub fn bad_patterns()
+    ensures { BadPatterns }
 {}
 
 /// An address is found by a pattern, and validated.
 pub fn civic()
     ensures { CivicRow }
+{}
+
+/// An address is not validated unless that is asked for.
+pub fn unasked_validation()
+    ensures { UnaskedValidation }
+{}
+
+/// A point is not validated.
+pub fn validate_a_point()
+    ensures { ValidateAPoint }
 {}
 
 /// A mapping with regions of both profiles is found by either.
@@ -105,4 +132,44 @@ pub fn boundary_and_path()
 /// The services one label below what is asked are listed.
 pub fn services_by_location()
     ensures { ServicesByLocation }
+{}
+
+/// The first of several refusals of a point, a ring, an address and a pattern comes.
+pub fn first_faults()
+    ensures { FirstFaults }
+{}
+
+/// A comparison text has single spaces, trimmed ends and lower ASCII letters.
+pub fn comparison()
+    ensures { Comparison }
+{}
+
+/// The refusals of an edit come in their order.
+pub fn edit_order()
+    ensures { EditOrder }
+{}
+
+/// The refusals of parts come in their order.
+pub fn desk_order()
+    ensures { DeskOrder }
+{}
+
+/// The errors of an answer come in their order, and the first location known is used.
+pub fn answer_order()
+    ensures { AnswerOrder }
+{}
+
+/// The longest service with a holder is found, and a default only where there is no holder.
+pub fn longest_first()
+    ensures { LongestFirst }
+{}
+
+/// A pattern that disagrees with a valid element is no reference.
+pub fn reference_patterns()
+    ensures { ReferencePatterns }
+{}
+
+/// The names of a validation come in their order.
+pub fn name_order()
+    ensures { NameOrder }
 {}
