@@ -1,0 +1,3 @@
+pub mod FilterLemmas
+pub mod ChainLemmas
+pub mod FindLemmas
