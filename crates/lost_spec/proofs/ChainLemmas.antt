@@ -16,6 +16,7 @@ same_service-Decides = pointwise_decides bytes_eq-Decides
 
 -- ---- the services of a chain
 
+-- a service of no length has no label
 nil_has_no_label : (u : Service) → length u ≤ 0 → u ≡ []
 nil_has_no_label [] h = refl
 nil_has_no_label (x ∷ u) h = absurd (omega arith)
@@ -33,15 +34,14 @@ length-IsOfChain u s c = front_fits s u c.begins.0 c.begins.1
 pub take_of_chain : (u s : Service) (n : ℕ) → IsOfChain u s → length u ≡ n → take n s ≡ u
 take_of_chain u s n c e = ap (take n) c.begins.1 ∙ take_at u c.begins.0 n e
 
--- a service of the chain has a label
-pub length_of_chain : (u s : Service) → IsOfChain u s → 0 < length u
-length_of_chain [] s c = absurd (c.some_label refl)
-length_of_chain (x ∷ u) s c = omega arith
-
 -- each cut of a service is of its chain
 pub cuts_are_of_chain : (n : ℕ) (s : Service) → n ≤ length s → AllByRecursion (λ u. IsOfChain u s) (cuts n s)
 cuts_are_of_chain zero s h = tt
 cuts_are_of_chain (suc n) s h = (IsOfChain-take n s h, cuts_are_of_chain n s (omega arith))
+
+-- a number up to suc n is that, or is up to n
+either_long : (n k : ℕ) → k ≤ suc n → (k ≡ suc n) ⊎ (k ≤ n)
+either_long n k h = grind arith
 
 -- a service is among the cuts of s just where it is of the chain of s and no longer than they are
 pub IsOfChain-from_cuts : (x : Service) (n : ℕ) (s : Service) → n ≤ length s → list_any (λ u. same_service x u) (cuts n s) ≡ true → IsOfChain x s
@@ -54,11 +54,8 @@ IsOfChain-from_cuts x (suc n) s h e = by (or_cases (same_service x (take (suc n)
 
 pub cuts_have : (x : Service) (n : ℕ) (s : Service) → IsOfChain x s → length x ≤ n → list_any (λ u. same_service x u) (cuts n s) ≡ true
 cuts_have x zero s c h = absurd (c.some_label (nil_has_no_label x h))
-cuts_have x (suc n) s c h = by (at_most h) (cuts_have x n s c)
+cuts_have x (suc n) s c h = by (either_long n (length x) h) (cuts_have x n s c)
   where
-    at_most : length x ≤ suc n → (length x ≡ suc n) ⊎ (length x ≤ n)
-    at_most h = grind arith
-
     by : (length x ≡ suc n) ⊎ (length x ≤ n) → (length x ≤ n → list_any (λ u. same_service x u) (cuts n s) ≡ true) → (same_service x (take (suc n) s) || list_any (λ u. same_service x u) (cuts n s)) ≡ true
     by (inl long) rest = ap (λ b. b || list_any (λ u. same_service x u) (cuts n s)) ((same_service-Decides x (take (suc n) s)).1 (sym (take_of_chain x s (suc n) c long)))
     by (inr short) rest = or_right (same_service x (take (suc n) s)) (list_any (λ u. same_service x u) (cuts n s)) (rest short)
@@ -81,11 +78,7 @@ abbrev pub IsFirstOrNone : (Service → List Mapping) → Service → ℕ → Op
 IsFirstOrNone ask s n None = (v : Service) → IsOfChain v s → length v ≤ n → ask v ≡ []
 IsFirstOrNone ask s n (Some p) = IsFirst ask s n p.0 p.1
 
--- n and suc n
-either_long : (n k : ℕ) → k ≤ suc n → (k ≡ suc n) ⊎ (k ≤ n)
-either_long n k h = grind arith
-
--- nothing is asked at the cut to suc n labels
+-- where the cut to suc n labels has no mappings, and no shorter v has, no v up to it has
 passed_over : (ask : Service → List Mapping) (s : Service) (n : ℕ) → ask (take (suc n) s) ≡ [] → (v : Service) → IsOfChain v s → length v ≤ suc n → (length v ≤ n → ask v ≡ []) → ask v ≡ []
 passed_over ask s n none v c h rest = by (either_long n (length v) h)
   where
@@ -93,7 +86,7 @@ passed_over ask s n none v c h rest = by (either_long n (length v) h)
     by (inl long) = ap ask (sym (take_of_chain v s (suc n) c long)) ∙ none
     by (inr short) = rest short
 
--- one cut more
+-- a search of one cut more
 first_more : (ask : Service → List Mapping) (s : Service) (n : ℕ) → suc n ≤ length s → (ms : List Mapping) → ask (take (suc n) s) ≡ ms
     → (later : Option (Service × List Mapping)) → IsFirstOrNone ask s n later → IsFirstOrNone ask s (suc n) (unless_empty (take (suc n) s) ms later)
 first_more ask s n fits [] e None none = λ v c h. passed_over ask s n e v c h (none v c)

@@ -17,14 +17,11 @@ AllByRecursion-weaker weaker [] all = tt
 AllByRecursion-weaker weaker (x ∷ xs) all = (weaker x all.0, AllByRecursion-weaker weaker xs all.1)
 
 module _ {Thing : Type 0} (test : Thing → Bool) where
-  -- a filter at a thing that passes, and at one that does not
-  pub filter_keeps : (x : Thing) (xs : List Thing) → test x ≡ true → filter test (x ∷ xs) ≡ x ∷ filter test xs
-  filter_keeps x xs e = ap (λ b. cond b (x ∷ filter test xs) (filter test xs)) e
-
+  -- a filter drops a first thing that fails
   pub filter_drops : (x : Thing) (xs : List Thing) → test x ≡ false → filter test (x ∷ xs) ≡ filter test xs
   filter_drops x xs e = ap (λ b. cond b (x ∷ filter test xs) (filter test xs)) e
 
-  -- the things that a filter keeps have the same one that passes
+  -- some thing passes just where some thing that is kept passes
   pub list_any-filter : (xs : List Thing) → list_any test (filter test xs) ≡ list_any test xs
   list_any-filter [] = refl
   list_any-filter (x ∷ xs) = by (test x) refl (list_any-filter xs)

@@ -55,7 +55,7 @@ IsHere-Decides t s m = (to, from)
 
 -- ---- what is found
 
--- where nothing is asked for v, no mapping holds the place for v, and no default stands by for v
+-- where nothing is found for v alone, no mapping holds the place for v, and no default stands by for v
 NoHolder-from_at : (b : Book) (t : Instant) (l : Place) (v : Service) → at b t l v ≡ [] → NoHolder b t l v
 NoHolder-from_at b t l v = none_from_filter (λ m. serves m t v && (not m.is_default && holds m l)) (HoldsHere-Decides t l v) b.mappings
 

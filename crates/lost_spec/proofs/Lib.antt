@@ -1,3 +1,5 @@
 pub mod FilterLemmas
 pub mod ChainLemmas
 pub mod FindLemmas
+pub mod ElsewhereLemmas
+pub mod EditionLemmas
