@@ -1,3 +1,4 @@
-//! Laws above the definitions. Each function's contract is a law, and its body is empty.
+//! The laws above the definitions. Each function's contract is a law, and its body is empty.
 
 pub mod book;
+pub mod find;
