@@ -4,4 +4,5 @@
 
 pub mod answers;
 pub mod faults;
+pub mod laws;
 pub mod rows;
