@@ -1,2 +1,4 @@
 pub mod ChildLemmas
+pub mod CoverLemmas
+pub mod NameLemmas
 pub mod OrderLemmas
