@@ -4,3 +4,7 @@ pub mod ChainLemmas
 pub mod FindLemmas
 pub mod ElsewhereLemmas
 pub mod EditionLemmas
+pub mod OrderLemmas
+pub mod ChildLemmas
+pub mod NameLemmas
+pub mod CoverLemmas
