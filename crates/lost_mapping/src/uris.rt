@@ -1,0 +1,110 @@
+//! Which texts are URIs, and which lists of them a mapping may have.
+ghost use Rattle.std.specs.Prelude.{◌≡◌, ◌==◌, position};
+ghost use Rattle.std.specs.List.{list_all};
+ghost use Rattle.lost_spec.specs.Text.{same_text, lowered, is_between, is_among, has_repeat};
+ghost use Rattle.lost_spec.specs.Mapping.{is_uri as is_uri_text, are_uris as are_uri_texts, is_scheme as is_scheme_text, is_scheme_byte as is_scheme_byte_code, scheme_of as scheme_of_text};
+ghost use Rattle.lost_mapping.specs.Texts.{texts_of, schemes_of};
+
+/// The most bytes that a URI has (own rule).
+const MAX_LEN: usize = 2048;
+
+/// The most URIs that a mapping has (own rule).
+const MAX_COUNT: usize = 16;
+
+/// Whether there are 1 to 16 URIs, and no scheme stands twice, in any case (RFC 5222, section 5.8; the number is an
+/// own rule). Schemes are compared only where the number is right, so the work stays linear in the bytes given.
+#[tactic(auto, using(std::proofs::lemmas::Bool::Decides::nat_tests))]
+pub(crate) fn are_uris(uris: &[String]) -> bool
+    ensures { result ≡ are_uri_texts (texts_of uris.now) }
+{
+    !uris.is_empty() && uris.len() <= MAX_COUNT && each_is_uri(uris) && !repeats_scheme(uris)
+}
+
+fn each_is_uri(uris: &[String]) -> bool
+    ensures { result ≡ list_all is_uri_text (texts_of uris.now) }
+{
+    uris.iter().all(|uri| is_uri(uri.as_bytes()))
+}
+
+/// Whether a text is a URI: a scheme, a colon and at least one more byte, all of them visible ASCII, and at most
+/// 2,048 (RFC 3986, section 3.1; RFC 5222, section 5.8; the bounds are own rules).
+#[tactic(auto, using(std::proofs::lemmas::Bool::Decides::nat_tests), unfolding(lost_spec::specs::Mapping::is_uri))]
+pub(crate) fn is_uri(uri: &[u8]) -> bool
+    ensures { result ≡ is_uri_text uri.now }
+{
+    let scheme = scheme_of(uri);
+    if uri.len() > MAX_LEN || scheme.len() + 1 >= uri.len() {
+        return false;
+    }
+    is_scheme(scheme) && is_visible(uri)
+}
+
+/// What stands before the first colon, or all of a text that has none.
+fn scheme_of(uri: &[u8]) -> &[u8]
+    ensures { result.now ≡ scheme_of_text uri.now }
+{
+    match position_of_colon(uri) {
+        Some(end) => &uri[..end],
+        None => uri,
+    }
+}
+
+fn position_of_colon(uri: &[u8]) -> Option<usize>
+    ensures { result ≡ position (λ b. b == 58) uri.now }
+{
+    uri.iter().position(|byte| *byte == b':')
+}
+
+fn is_visible(uri: &[u8]) -> bool
+    ensures { result ≡ list_all (λ b. is_between 33 126 b) uri.now }
+{
+    uri.iter().all(|byte| byte.is_ascii_graphic())
+}
+
+fn is_scheme(scheme: &[u8]) -> bool
+    ensures { result ≡ is_scheme_text scheme.now }
+{
+    let Some(first) = scheme.first() else {
+        return false;
+    };
+    first.is_ascii_alphabetic() && has_only_scheme_bytes(scheme)
+}
+
+fn has_only_scheme_bytes(scheme: &[u8]) -> bool
+    ensures { result ≡ list_all is_scheme_byte_code scheme.now }
+{
+    scheme.iter().all(|byte| is_scheme_byte(*byte))
+}
+
+fn is_scheme_byte(byte: u8) -> bool
+    ensures { result ≡ is_scheme_byte_code byte }
+{
+    byte.is_ascii_alphanumeric() || matches!(byte, b'+' | b'-' | b'.')
+}
+
+/// Whether a scheme stands twice, in any case. It takes the square of the number of URIs.
+fn repeats_scheme(uris: &[String]) -> bool
+    ensures { result ≡ has_repeat (schemes_of (texts_of uris.now)) }
+{
+    let mut rest = uris;
+    while let Some((uri, others)) = rest.split_first() {
+        if has_scheme(others, scheme_of(uri.as_bytes())) {
+            return true;
+        }
+        rest = others;
+    }
+    false
+}
+
+fn has_scheme(uris: &[String], scheme: &[u8]) -> bool
+    ensures { result ≡ is_among (lowered scheme.now) (schemes_of (texts_of uris.now)) }
+{
+    uris.iter()
+        .any(|uri| is_same_scheme(scheme, scheme_of(uri.as_bytes())))
+}
+
+fn is_same_scheme(scheme: &[u8], other: &[u8]) -> bool
+    ensures { result ≡ same_text (lowered scheme.now) (lowered other.now) }
+{
+    scheme.eq_ignore_ascii_case(other)
+}
