@@ -7,3 +7,6 @@ pub mod ServiceLemmas
 pub mod PrefixLemmas
 pub mod ReadLemmas
 pub mod KeptLemmas
+pub mod BelowLemmas
+pub mod CutLemmas
+pub mod OrderLemmas

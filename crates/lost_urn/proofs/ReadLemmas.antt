@@ -28,7 +28,7 @@ pub read_labels : (text labels : Text) → lowered text ≡ urn_prefix ++ lowere
 unfolding read_service
 read_labels text labels begins = ap read_lowered begins ∙ read_prefixed (lowered labels)
 
-not_true : (b : Bool) → (b ≡ true → ⊥) → b ≡ false
+pub not_true : (b : Bool) → (b ≡ true → ⊥) → b ≡ false
 not_true true h = absurd (h refl)
 not_true false h = refl
 
@@ -53,7 +53,7 @@ service_or_ok : (fault : Option UrnError) (labels s : Service) → service_or fa
 service_or_ok None labels s h = (refl, cc)
 service_or_ok (Some e) labels s h = absurd (cc)
 
-well_formed_labels : (labels : List Text) → 0 < length labels → labels_fault labels ≡ None → is_service labels ≡ true
+pub well_formed_labels : (labels : List Text) → 0 < length labels → labels_fault labels ≡ None → is_service labels ≡ true
 well_formed_labels [] some none = absurd (omega arith)
 well_formed_labels (label ∷ rest) some none = ap is_none none
 
@@ -85,7 +85,7 @@ read_ok text s h = read_lowered_ok (lowered text) s h
 
 -- ---- the text of a service
 
-no_fault : (s : Service) → is_service s ≡ true → labels_fault s ≡ None
+pub no_fault : (s : Service) → is_service s ≡ true → labels_fault s ≡ None
 no_fault [] h = absurd (cc)
 no_fault (label ∷ rest) h = from_is_none (labels_fault (label ∷ rest)) h
   where

@@ -2,7 +2,9 @@
 #![tactic(auto)]
 
 mod label;
+pub mod laws;
 mod spelling;
+mod traits;
 mod urn;
 
 pub use lost_spec::faults::UrnError;
