@@ -9,3 +9,6 @@ mod urn;
 
 pub use lost_spec::faults::UrnError;
 pub use urn::ServiceUrn;
+
+#[cfg(test)]
+mod tests;
