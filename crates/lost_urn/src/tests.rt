@@ -81,7 +81,13 @@ fn reads_labels_of_63_letters_and_8_labels(rt: HostRuntime) -> Result<(), Fail> 
 #[test]
 fn refuses_what_is_too_long(rt: HostRuntime) -> Result<(), Fail> {
     let alloc = rt.alloc();
-    for (part, count, want) in [("a", 64, 5), ("a", 5000, 5), ("a.", 5000, 2), ("-", 5000, 4), ("_", 5000, 3)] {
+    for (part, count, want) in [
+        ("a", 64, 5),
+        ("a", 5000, 5),
+        ("a.", 5000, 2),
+        ("-", 5000, 4),
+        ("_", 5000, 3),
+    ] {
         let text = repeated(alloc, part, count)?;
         assert_eq!(rt; code(alloc, text.as_bytes()), want, "at {count} of {part}");
     }
@@ -109,7 +115,10 @@ fn gives_the_text_the_depth_and_the_first_labels(rt: HostRuntime) -> Result<(), 
 fn reads_any_case(rt: HostRuntime) -> Result<(), Fail> {
     let cases = [
         ("URN:SERVICE:SOS.FIRE", "urn:service:sos.fire"),
-        ("uRn:sErViCe:Counseling.Mental-Health", "urn:service:counseling.mental-health"),
+        (
+            "uRn:sErViCe:Counseling.Mental-Health",
+            "urn:service:counseling.mental-health",
+        ),
         ("urn:service:x-1.9.0-z", "urn:service:x-1.9.0-z"),
     ];
     for (text, want) in cases {
@@ -133,7 +142,11 @@ fn lies_at_or_below(rt: HostRuntime) -> Result<(), Fail> {
     for (below, above, want) in cases {
         let lower = read(rt.alloc(), below)?;
         let upper = read(rt.alloc(), above)?;
-        assert_eq!(rt; lower.is_at_or_below(&upper), want, "at {below} and {above}");
+        assert_eq!(rt;
+            lower.is_at_or_below(&upper),
+            want,
+            "at {below} and {above}"
+        );
     }
     Ok(())
 }
@@ -167,9 +180,20 @@ fn is_a_key(rt: HostRuntime) -> Result<(), Fail> {
     let mut numbers: HashMap<ServiceUrn, u8> = HashMap::new(alloc);
     let _ = numbers.insert(read(alloc, "urn:service:sos.police")?, 1)?;
     let _ = numbers.insert(read(alloc, "urn:service:sos")?, 2)?;
-    assert_eq!(rt; numbers.get(&read(alloc, "URN:service:SOS.Police")?).copied(), Some(1));
-    assert_eq!(rt; numbers.get(&read(alloc, "urn:service:sos")?).copied(), Some(2));
-    assert_eq!(rt; numbers.get(&read(alloc, "urn:service:sos.fire")?).copied(), None);
+    assert_eq!(rt;
+        numbers
+            .get(&read(alloc, "URN:service:SOS.Police")?)
+            .copied(),
+        Some(1)
+    );
+    assert_eq!(rt;
+        numbers.get(&read(alloc, "urn:service:sos")?).copied(),
+        Some(2)
+    );
+    assert_eq!(rt;
+        numbers.get(&read(alloc, "urn:service:sos.fire")?).copied(),
+        None
+    );
     Ok(())
 }
 
