@@ -1,0 +1,64 @@
+-- Names tell elements apart, and are those that the table knows.
+use Rattle.std.proofs.Common.{◌≡◌, ◌↔◌, ℕ, ◌+◌, ◌<◌, Bool, true, false, List, [], ◌∷◌, Option, Some, None, find, take, slice_index_or, refl, sym, ◌∙◌, ap, subst}
+use Rattle.std.proofs.lemmas.Bool.{false≢true}
+use Rattle.std.proofs.lemmas.Slice.Eq.{bytes_eq-Decides}
+use Rattle.std.proofs.lemmas.List.Folds.{list_any_more}
+use Rattle.std.specs.List.{list_any}
+use Rattle.lost_spec.specs.Text.{Text, same_text}
+use Rattle.lost_spec.specs.Civic.{is_known}
+use Rattle.lost_civic.specs.declared.elements.Element.{Element}
+use Rattle.lost_civic.specs.declared.elements.Element.TheVariants.{Country, A1, A2, A3, A4, A5, A6, Prm, Prd, Rd, Sts, Pod, Pom, RdSec, RdBr, RdSubBr, Hno, Hns, Lmk, Loc, Flr, Nam, Pc, Bld, UnitNumber, Room, Seat, Plc, Pcn, PoBox, AddCode}
+use Rattle.lost_civic.specs.Element.{element_name, all_elements}
+
+-- the element of a name
+abbrev pub element_named : Text → Option Element
+element_named name = find (λ element. same_text name (element_name element)) all_elements
+
+pub element_named-element_name : (element : Element) → element_named (element_name element) ≡ Some element
+element_named-element_name Country = refl
+element_named-element_name A1 = refl
+element_named-element_name A2 = refl
+element_named-element_name A3 = refl
+element_named-element_name A4 = refl
+element_named-element_name A5 = refl
+element_named-element_name A6 = refl
+element_named-element_name Prm = refl
+element_named-element_name Prd = refl
+element_named-element_name Rd = refl
+element_named-element_name Sts = refl
+element_named-element_name Pod = refl
+element_named-element_name Pom = refl
+element_named-element_name RdSec = refl
+element_named-element_name RdBr = refl
+element_named-element_name RdSubBr = refl
+element_named-element_name Hno = refl
+element_named-element_name Hns = refl
+element_named-element_name Lmk = refl
+element_named-element_name Loc = refl
+element_named-element_name Flr = refl
+element_named-element_name Nam = refl
+element_named-element_name Pc = refl
+element_named-element_name Bld = refl
+element_named-element_name UnitNumber = refl
+element_named-element_name Room = refl
+element_named-element_name Seat = refl
+element_named-element_name Plc = refl
+element_named-element_name Pcn = refl
+element_named-element_name PoBox = refl
+element_named-element_name AddCode = refl
+
+-- two elements with one name are the same
+pub same_element : (a b : Element) → element_name a ≡ element_name b → Some a ≡ Some b
+same_element a b e = sym (element_named-element_name a) ∙ (ap element_named e ∙ element_named-element_name b)
+
+-- the name that was asked for is the element's exactly where the element was found
+pub named_by : (name : Text) (found : Element) → same_text name (element_name found) ≡ true → (element : Element) → (Some found ≡ Some element) ↔ (name ≡ element_name element)
+named_by name found e element =
+    let is_name : name ≡ element_name found = (bytes_eq-Decides name (element_name found)).0 e in
+    (λ (same : Some found ≡ Some element). cc, λ (named : name ≡ element_name element). same_element found element (sym is_name ∙ named))
+
+-- no element before a place has the name, nor has the one at it
+pub none_named_more : (name : Text) (i : ℕ) → i < 31 → list_any (λ element. same_text name (element_name element)) (take i all_elements) ≡ false → same_text name (element_name (slice_index_or all_elements i Country)) ≡ false → list_any (λ element. same_text name (element_name element)) (take (i + 1) all_elements) ≡ false
+none_named_more name i within before here =
+    let is_named : Element → Bool = λ element. same_text name (element_name element) in
+    rw (list_any_more is_named all_elements i Country within) (rw before here)

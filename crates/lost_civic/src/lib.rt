@@ -1,0 +1,8 @@
+//! Civic locations (RFC 4119, section 2.2.1; RFC 5139, section 3.1): the elements that they are made of, and
+//! addresses and patterns as pairs of an element's name and a value.
+#![tactic(auto)]
+
+mod elements;
+
+pub use elements::Element;
+pub use lost_spec::faults::CivicError;
