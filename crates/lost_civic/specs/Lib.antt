@@ -1,1 +1,2 @@
 pub mod Element
+pub mod Squeezed

@@ -3,6 +3,7 @@
 #![tactic(auto)]
 
 mod elements;
+mod texts;
 
 pub use elements::Element;
 pub use lost_spec::faults::CivicError;
