@@ -1,2 +1,4 @@
 pub mod ElementLemmas
+pub mod PairLemmas
 pub mod SqueezedLemmas
+pub mod TextLemmas

@@ -2,8 +2,14 @@
 //! addresses and patterns as pairs of an element's name and a value.
 #![tactic(auto)]
 
+mod addresses;
 mod elements;
+mod patterns;
+mod refusals;
+mod squeezing;
 mod texts;
 
+pub use addresses::CivicAddress;
 pub use elements::Element;
 pub use lost_spec::faults::CivicError;
+pub use patterns::CivicPattern;

@@ -1,7 +1,7 @@
 use Rattle.std.proofs.Common.{string_bytes, string_len, ◌==◌, not, ◌∙◌}
 use Rattle.std.specs.Str.Iter.{chars_rest}
 use Rattle.lost_civic.proofs.SqueezedLemmas.{at_start, past_space, past_character}
-use Rattle.lost_civic.proofs.texts.make_comparison_text.Goals as goal
+use Rattle.lost_civic.proofs.squeezing.make_comparison_text.Goals as goal
 
 pub loop-character-init : goal.loop-character-init
 loop-character-init c =

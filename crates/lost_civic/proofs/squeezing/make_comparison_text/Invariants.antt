@@ -2,7 +2,7 @@ use Rattle.std.proofs.Common.{◌≡◌, ◌++◌, ◌==◌, not, string_bytes, 
 use Rattle.std.specs.Str.Iter.{chars_rest}
 use Rattle.lost_spec.specs.Civic.{comparison_text}
 use Rattle.lost_civic.proofs.SqueezedLemmas.{squeezed}
-use Rattle.lost_civic.proofs.texts.make_comparison_text.Given as goal
+use Rattle.lost_civic.proofs.squeezing.make_comparison_text.Given as goal
 
 abbrev pub invariant-loop-character : goal.invariant-loop-character
 invariant-loop-character l =
