@@ -1,5 +1,5 @@
 -- Names tell elements apart, and are those that the table knows.
-use Rattle.std.proofs.Common.{◌≡◌, ◌↔◌, ℕ, ◌+◌, ◌<◌, Bool, true, false, List, [], ◌∷◌, Option, Some, None, find, take, slice_index_or, refl, sym, ◌∙◌, ap, subst}
+use Rattle.std.proofs.Common.{◌≡◌, ◌↔◌, ℕ, ◌+◌, ◌<◌, Bool, true, false, List, [], ◌∷◌, Option, Some, None, find, take, get_or, slice_index_or, refl, sym, ◌∙◌, ap, subst}
 use Rattle.std.proofs.lemmas.Bool.{false≢true}
 use Rattle.std.proofs.lemmas.Slice.Eq.{bytes_eq-Decides}
 use Rattle.std.proofs.lemmas.List.Folds.{list_any_more}
@@ -8,7 +8,7 @@ use Rattle.lost_spec.specs.Text.{Text, same_text}
 use Rattle.lost_spec.specs.Civic.{is_known}
 use Rattle.lost_civic.specs.declared.elements.Element.{Element}
 use Rattle.lost_civic.specs.declared.elements.Element.TheVariants.{Country, A1, A2, A3, A4, A5, A6, Prm, Prd, Rd, Sts, Pod, Pom, RdSec, RdBr, RdSubBr, Hno, Hns, Lmk, Loc, Flr, Nam, Pc, Bld, UnitNumber, Room, Seat, Plc, Pcn, PoBox, AddCode}
-use Rattle.lost_civic.specs.Element.{element_name, all_elements}
+use Rattle.lost_civic.specs.Element.{element_index, element_name, all_elements}
 
 -- the element of a name
 abbrev pub element_named : Text → Option Element
@@ -46,6 +46,40 @@ element_named-element_name Plc = refl
 element_named-element_name Pcn = refl
 element_named-element_name PoBox = refl
 element_named-element_name AddCode = refl
+
+-- an element stands at its place
+pub all_elements-element_index : (element other : Element) → get_or all_elements (element_index element) other ≡ element
+all_elements-element_index Country other = refl
+all_elements-element_index A1 other = refl
+all_elements-element_index A2 other = refl
+all_elements-element_index A3 other = refl
+all_elements-element_index A4 other = refl
+all_elements-element_index A5 other = refl
+all_elements-element_index A6 other = refl
+all_elements-element_index Prm other = refl
+all_elements-element_index Prd other = refl
+all_elements-element_index Rd other = refl
+all_elements-element_index Sts other = refl
+all_elements-element_index Pod other = refl
+all_elements-element_index Pom other = refl
+all_elements-element_index RdSec other = refl
+all_elements-element_index RdBr other = refl
+all_elements-element_index RdSubBr other = refl
+all_elements-element_index Hno other = refl
+all_elements-element_index Hns other = refl
+all_elements-element_index Lmk other = refl
+all_elements-element_index Loc other = refl
+all_elements-element_index Flr other = refl
+all_elements-element_index Nam other = refl
+all_elements-element_index Pc other = refl
+all_elements-element_index Bld other = refl
+all_elements-element_index UnitNumber other = refl
+all_elements-element_index Room other = refl
+all_elements-element_index Seat other = refl
+all_elements-element_index Plc other = refl
+all_elements-element_index Pcn other = refl
+all_elements-element_index PoBox other = refl
+all_elements-element_index AddCode other = refl
 
 -- two elements with one name are the same
 pub same_element : (a b : Element) → element_name a ≡ element_name b → Some a ≡ Some b

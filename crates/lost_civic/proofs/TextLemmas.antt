@@ -1,15 +1,19 @@
 -- The texts that are kept beside the pairs, a step of a loop at a time.
-use Rattle.std.proofs.Common.{◌≡◌, ℕ, ◌+◌, ◌<◌, Bool, true, false, List, [], ◌∷◌, ◌++◌, map, length, get_or, take, Option, option_map, String, string_bytes, refl, sym, ◌∙◌, ap}
+use Rattle.std.proofs.Common.{◌≡◌, ℕ, ◌+◌, ◌<◌, Bool, true, false, List, [], ◌∷◌, ◌++◌, map, length, get_or, take, Option, Some, None, option_map, cond, find, String, string_bytes, refl, sym, ◌∙◌, ap, arith}
 use Rattle.std.specs.List.{list_all}
 use Rattle.std.proofs.lemmas.Bool.{false≢true}
-use Rattle.std.proofs.lemmas.List.{take_more, map-append}
-use Rattle.std.proofs.lemmas.List.Folds.{list_all_at}
-use Rattle.lost_spec.specs.Civic.{Pairs, names_of, is_known}
+use Rattle.std.proofs.lemmas.List.{take_more, map-append, length-map, get_or-map}
+use Rattle.std.proofs.lemmas.List.Folds.{list_all_at, list_all-map}
+use Rattle.lost_spec.specs.Civic.{Pairs, names_of, is_known, value_of, comparison_text, has_value, matches, pattern_fault}
+use Rattle.lost_spec.specs.Text.{Text, same_text, first_fault}
+use Rattle.lost_spec.specs.declared.faults.CivicError.{CivicError}
 use Rattle.lost_civic.specs.declared.elements.Element.{Element}
 use Rattle.lost_civic.specs.declared.elements.Element.TheVariants.{Country}
-use Rattle.lost_civic.specs.Element.{all_elements}
+use Rattle.lost_civic.specs.Element.{element_index, element_name, all_elements}
 use Rattle.lost_civic.specs.Pairs.{seen_pairs}
-use Rattle.lost_civic.specs.Texts.{text_of, seen_table}
+use Rattle.lost_civic.specs.Texts.{text_of, table_of, seen_table, compared_of, seen_compared}
+use Rattle.lost_civic.specs.declared.texts.Compared.{Compared}
+use Rattle.lost_civic.proofs.ElementLemmas.{all_elements-element_index}
 use Rattle.lost_civic.proofs.PairLemmas.{list_all-names}
 
 true-from_not_false : (b : Bool) → (b ≡ false → ⊥) → b ≡ true
@@ -27,3 +31,33 @@ pub table_more : {A : Type 0} (pairs : Pairs) (texts : List (Option (String A)))
 table_more pairs texts text i within before here =
     let text_at : Element → Option (List ℕ) = λ element. text_of element pairs in
     rw (map-append, take_more all_elements i Country within, map-append) (rw (before, here) refl)
+
+-- the table has a text for each element
+pub length-table : {A : Type 0} (texts : List (Option (String A))) (pairs : Pairs) → seen_table texts ≡ table_of pairs → length texts ≡ 31
+length-table texts pairs kept = sym (length-map texts (option_map string_bytes)) ∙ ap length kept
+
+-- the table has an element's text at its place
+pub text_of-at : {A : Type 0} (texts : List (Option (String A))) (pairs : Pairs) (element : Element) (text : Option (String A)) → element_index element < 31 → seen_table texts ≡ table_of pairs → text ≡ get_or texts (element_index element) text → option_map string_bytes text ≡ text_of element pairs
+text_of-at texts pairs element text within kept is =
+    let place = element_index element in
+    let seen = option_map string_bytes text in
+    let text_at : Element → Option Text = λ other. text_of other pairs in
+    let inside : place < length texts = omega (arith, length-table texts pairs kept) in
+    ap (option_map string_bytes) is ∙ (sym (get_or-map (option_map string_bytes) texts place text seen inside) ∙ (ap (λ table. get_or table place seen) kept ∙ (get_or-map text_at all_elements place Country seen within ∙ ap text_at (all_elements-element_index element Country))))
+
+compared_by : (test : Bool) (name value : Text) (found meant : Option (Text × Text)) → option_map (λ pair. pair.1) found ≡ option_map comparison_text (option_map (λ pair. pair.1) meant) → option_map (λ pair. pair.1) (cond test (Some (name, comparison_text value)) found) ≡ option_map comparison_text (option_map (λ pair. pair.1) (cond test (Some (name, value)) meant))
+compared_by true name value found meant h = refl
+compared_by false name value found meant h = h
+
+-- the text that stands beside a name is the comparison text of the value that does
+pub value_of-compared_of : (name : Text) (pairs : Pairs) → value_of name (compared_of pairs) ≡ option_map comparison_text (value_of name pairs)
+value_of-compared_of name [] = refl
+value_of-compared_of name (pair ∷ rest) =
+    let has_name : Text × Text → Bool = λ other. same_text name other.0 in
+    compared_by (has_name pair) pair.0 pair.1 (find has_name (compared_of rest)) (find has_name rest) (value_of-compared_of name rest)
+
+-- the kept texts are compared as the definition compares the values
+pub list_all-compared : (list : List Compared) (pattern address : Pairs) → seen_compared list ≡ compared_of pattern → list_all (λ compared. has_value address (element_name compared.element) (string_bytes compared.text)) list ≡ matches pattern address
+list_all-compared list pattern address kept =
+    let has : Text × Text → Bool = λ pair. has_value address pair.0 pair.1 in
+    sym (list_all-map has (λ (compared : Compared). (element_name compared.element, string_bytes compared.text)) list) ∙ (ap (list_all has) kept ∙ list_all-map has (λ (pair : Text × Text). (pair.0, comparison_text pair.1)) pattern)
