@@ -1,4 +1,5 @@
 pub mod ElementLemmas
+pub mod PairCopies
 pub mod PairLemmas
 pub mod SqueezedLemmas
 pub mod TextLemmas

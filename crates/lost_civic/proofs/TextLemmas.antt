@@ -11,7 +11,7 @@ use Rattle.lost_civic.specs.declared.elements.Element.{Element}
 use Rattle.lost_civic.specs.declared.elements.Element.TheVariants.{Country}
 use Rattle.lost_civic.specs.Element.{element_index, element_name, all_elements}
 use Rattle.lost_civic.specs.Pairs.{seen_pairs}
-use Rattle.lost_civic.specs.Texts.{text_of, table_of, seen_table, compared_of, seen_compared}
+use Rattle.lost_civic.specs.Texts.{text_of, table_of, seen_table, compared_of, seen_one, seen_compared}
 use Rattle.lost_civic.specs.declared.texts.Compared.{Compared}
 use Rattle.lost_civic.proofs.ElementLemmas.{all_elements-element_index}
 use Rattle.lost_civic.proofs.PairLemmas.{list_all-names}
@@ -60,4 +60,4 @@ value_of-compared_of name (pair ∷ rest) =
 pub list_all-compared : (list : List Compared) (pattern address : Pairs) → seen_compared list ≡ compared_of pattern → list_all (λ compared. has_value address (element_name compared.element) (string_bytes compared.text)) list ≡ matches pattern address
 list_all-compared list pattern address kept =
     let has : Text × Text → Bool = λ pair. has_value address pair.0 pair.1 in
-    sym (list_all-map has (λ (compared : Compared). (element_name compared.element, string_bytes compared.text)) list) ∙ (ap (list_all has) kept ∙ list_all-map has (λ (pair : Text × Text). (pair.0, comparison_text pair.1)) pattern)
+    sym (list_all-map has seen_one list) ∙ (ap (list_all has) kept ∙ list_all-map has (λ (pair : Text × Text). (pair.0, comparison_text pair.1)) pattern)

@@ -21,5 +21,8 @@ seen_table texts = map (option_map string_bytes) texts
 abbrev pub compared_of : Pairs → Pairs
 compared_of pairs = map (λ pair. (pair.0, comparison_text pair.1)) pairs
 
+abbrev pub seen_one : Compared → Text × Text
+seen_one compared = (element_name compared.element, string_bytes compared.text)
+
 abbrev pub seen_compared : List Compared → Pairs
-seen_compared list = map (λ compared. (element_name compared.element, string_bytes compared.text)) list
+seen_compared list = map seen_one list

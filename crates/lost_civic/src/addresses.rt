@@ -2,9 +2,10 @@
 
 ghost use Rattle.std.specs.Prelude.{◌≡◌, None, IfOk, IfNone, IfSome, MatchResult};
 ghost use Rattle.std.specs.Option.{option_copied};
+ghost use Rattle.std.specs.Cmp.{partial_equiv_from_equiv};
 ghost use Rattle.lost_spec.specs.Civic.{address_fault, has_value};
 ghost use Rattle.lost_civic.specs.Element.{element_name};
-ghost use Rattle.lost_civic.specs.Pairs.{seen_pairs};
+ghost use Rattle.lost_civic.specs.Pairs.{seen_pairs, same_pairs, hashed_pairs, same_pairs-equiv, hashed_pairs-alike};
 ghost use Rattle.lost_civic.specs.Texts.{text_of};
 
 use crate::Element;
@@ -12,6 +13,7 @@ use crate::refusals::first_address_fault;
 use crate::texts::make_table;
 use lost_spec::faults::CivicError;
 use std::alloc::{AllocError, Global};
+use std::hash::{Hash, Hasher};
 use std::marker::Model;
 
 /// A civic address (RFC 5222, section 12.3; RFC 4119, section 2.2.1): pairs of a name and a value, in the order in
@@ -84,5 +86,40 @@ impl CivicAddress {
             Some(own) => own == text,
             None => false,
         }
+    }
+
+    /// An address with the same pairs.
+    pub fn clone(&self) -> Result<CivicAddress, AllocError>
+        ensures { IfOk result (λ copy. copy ≡ self.now) }
+    {
+        Ok(CivicAddress {
+            pairs: self.pairs.clone()?,
+            texts: self.texts.clone()?,
+        })
+    }
+}
+
+/// Two addresses are equal where their pairs are, names and values byte for byte and in their order (own rule).
+impl PartialEq for CivicAddress {
+    ghost eq = { same_pairs };
+
+    ghost laws = { partial_equiv_from_equiv same_pairs-equiv };
+
+    fn eq(&self, other: &CivicAddress) -> bool {
+        self.pairs == other.pairs
+    }
+}
+
+impl Eq for CivicAddress {
+    ghost laws = { same_pairs-equiv };
+}
+
+impl Hash for CivicAddress {
+    ghost hash_input = { hashed_pairs };
+
+    ghost respects_eq = { hashed_pairs-alike.fed };
+
+    fn hash<H: Hasher>(&self, state: &mut H) {
+        self.pairs.hash(state);
     }
 }

@@ -2,8 +2,9 @@
 
 ghost use Rattle.std.specs.Prelude.{◌≡◌, None, IfOk, IfNone, IfSome, MatchResult};
 ghost use Rattle.std.specs.Option.{option_copied};
+ghost use Rattle.std.specs.Cmp.{partial_equiv_from_equiv};
 ghost use Rattle.lost_spec.specs.Civic.{pattern_fault, matches};
-ghost use Rattle.lost_civic.specs.Pairs.{seen_pairs};
+ghost use Rattle.lost_civic.specs.Pairs.{seen_pairs, same_pairs, same_pairs-equiv};
 ghost use Rattle.lost_civic.specs.Texts.{text_of};
 
 use crate::refusals::first_pattern_fault;
@@ -80,4 +81,29 @@ impl CivicPattern {
             .iter()
             .all(|compared| address.has_text(compared.element, compared.text.as_str()))
     }
+
+    /// A pattern with the same pairs.
+    pub fn clone(&self) -> Result<CivicPattern, AllocError>
+        ensures { IfOk result (λ copy. copy ≡ self.now) }
+    {
+        Ok(CivicPattern {
+            pairs: self.pairs.clone()?,
+            compared: self.compared.clone()?,
+        })
+    }
+}
+
+/// Two patterns are equal where their pairs are, names and values byte for byte and in their order (own rule).
+impl PartialEq for CivicPattern {
+    ghost eq = { same_pairs };
+
+    ghost laws = { partial_equiv_from_equiv same_pairs-equiv };
+
+    fn eq(&self, other: &CivicPattern) -> bool {
+        self.pairs == other.pairs
+    }
+}
+
+impl Eq for CivicPattern {
+    ghost laws = { same_pairs-equiv };
 }
