@@ -1,7 +1,8 @@
 -- Names tell elements apart, and are those that the table knows.
-use Rattle.std.proofs.Common.{◌≡◌, ◌↔◌, ℕ, ◌+◌, ◌<◌, Bool, true, false, List, [], ◌∷◌, Option, Some, None, find, take, get_or, slice_index_or, refl, sym, ◌∙◌, ap, subst}
+use Rattle.std.proofs.Common.{◌≡◌, ◌↔◌, ℕ, ◌+◌, ◌<◌, ◌≤◌, Bool, true, false, List, [], ◌∷◌, Option, Some, None, find, take, get_or, slice_index_or, refl, sym, ◌∙◌, ap}
 use Rattle.std.proofs.lemmas.Bool.{false≢true}
 use Rattle.std.proofs.lemmas.Slice.Eq.{bytes_eq-Decides}
+use Rattle.std.proofs.lemmas.List.{take_all}
 use Rattle.std.proofs.lemmas.List.Folds.{list_any_more}
 use Rattle.std.specs.List.{list_any}
 use Rattle.lost_spec.specs.Text.{Text, same_text}
@@ -15,6 +16,7 @@ abbrev pub element_named : Text → Option Element
 element_named name = find (λ element. same_text name (element_name element)) all_elements
 
 pub element_named-element_name : (element : Element) → element_named (element_name element) ≡ Some element
+unfolding element_name
 element_named-element_name Country = refl
 element_named-element_name A1 = refl
 element_named-element_name A2 = refl
@@ -81,9 +83,21 @@ all_elements-element_index Pcn other = refl
 all_elements-element_index PoBox other = refl
 all_elements-element_index AddCode other = refl
 
+false-from_not_true : (b : Bool) → (b ≡ true → ⊥) → b ≡ false
+false-from_not_true true h = absurd (h refl)
+false-from_not_true false h = refl
+
+some_same : {X : Type 0} {a b : X} → Some a ≡ Some b → a ≡ b
+some_same e = cc
+
 -- two elements with one name are the same
 pub same_element : (a b : Element) → element_name a ≡ element_name b → Some a ≡ Some b
 same_element a b e = sym (element_named-element_name a) ∙ (ap element_named e ∙ element_named-element_name b)
+
+-- two elements that differ have different names
+pub names_differ : (a b : Element) → (a ≡ b → ⊥) → same_text (element_name b) (element_name a) ≡ false
+names_differ a b differ =
+    false-from_not_true (same_text (element_name b) (element_name a)) (λ same. differ (some_same (sym (same_element b a ((bytes_eq-Decides (element_name b) (element_name a)).0 same)))))
 
 -- the name that was asked for is the element's exactly where the element was found
 pub named_by : (name : Text) (found : Element) → same_text name (element_name found) ≡ true → (element : Element) → (Some found ≡ Some element) ↔ (name ≡ element_name element)
@@ -96,3 +110,50 @@ pub none_named_more : (name : Text) (i : ℕ) → i < 31 → list_any (λ elemen
 none_named_more name i within before here =
     let is_named : Element → Bool = λ element. same_text name (element_name element) in
     rw (list_any_more is_named all_elements i Country within) (rw before here)
+
+-- a name is known where it is that of an element
+pub is_known-elements : (name : Text) → is_known name ≡ list_any (λ element. same_text name (element_name element)) all_elements
+unfolding element_name
+is_known-elements name = refl
+
+-- the name of an element is found among those of the table
+named_itself : (element : Element) → list_any (λ other. same_text (element_name element) (element_name other)) all_elements ≡ true
+unfolding element_name
+named_itself Country = refl
+named_itself A1 = refl
+named_itself A2 = refl
+named_itself A3 = refl
+named_itself A4 = refl
+named_itself A5 = refl
+named_itself A6 = refl
+named_itself Prm = refl
+named_itself Prd = refl
+named_itself Rd = refl
+named_itself Sts = refl
+named_itself Pod = refl
+named_itself Pom = refl
+named_itself RdSec = refl
+named_itself RdBr = refl
+named_itself RdSubBr = refl
+named_itself Hno = refl
+named_itself Hns = refl
+named_itself Lmk = refl
+named_itself Loc = refl
+named_itself Flr = refl
+named_itself Nam = refl
+named_itself Pc = refl
+named_itself Bld = refl
+named_itself UnitNumber = refl
+named_itself Room = refl
+named_itself Seat = refl
+named_itself Plc = refl
+named_itself Pcn = refl
+named_itself PoBox = refl
+named_itself AddCode = refl
+
+-- where no element of the table has the name, it is the name of none, and unknown
+pub none_named : (name : Text) (i : ℕ) → 31 ≤ i → list_any (λ element. same_text name (element_name element)) (take i all_elements) ≡ false → (is_known name ≡ false) × ((element : Element) → name ≡ element_name element → ⊥)
+none_named name i past none =
+    let is_named : Text → Element → Bool = λ own element. same_text own (element_name element) in
+    let none_of_all : list_any (is_named name) all_elements ≡ false = ap (list_any (is_named name)) (sym (take_all i all_elements past)) ∙ none in
+    (is_known-elements name ∙ none_of_all, λ element named. false≢true (sym none_of_all ∙ (ap (λ own. list_any (is_named own) all_elements) named ∙ named_itself element)))

@@ -1,8 +1,9 @@
 -- The texts that are kept beside the pairs, a step of a loop at a time.
-use Rattle.std.proofs.Common.{◌≡◌, ℕ, ◌+◌, ◌<◌, Bool, true, false, List, [], ◌∷◌, ◌++◌, map, length, get_or, take, Option, Some, None, option_map, cond, find, String, string_bytes, refl, sym, ◌∙◌, ap, arith}
+use Rattle.std.proofs.Common.{◌≡◌, ℕ, ◌+◌, ◌<◌, Bool, true, false, List, [], ◌∷◌, ◌++◌, map, length, get_or, take, drop, suc, add-one, drop-cons, Option, Some, None, option_map, cond, find, String, string_bytes, refl, sym, ◌∙◌, ap, arith}
 use Rattle.std.specs.List.{list_all}
 use Rattle.std.proofs.lemmas.Bool.{false≢true}
 use Rattle.std.proofs.lemmas.List.{take_more, map-append, length-map, get_or-map}
+use Rattle.std.proofs.lemmas.Slice.Eq.{bytes_eq-Decides}
 use Rattle.std.proofs.lemmas.List.Folds.{list_all_at, list_all-map}
 use Rattle.lost_spec.specs.Civic.{Pairs, names_of, is_known, value_of, comparison_text, has_value, matches, pattern_fault}
 use Rattle.lost_spec.specs.Text.{Text, same_text, first_fault}
@@ -13,7 +14,7 @@ use Rattle.lost_civic.specs.Element.{element_index, element_name, all_elements}
 use Rattle.lost_civic.specs.Pairs.{seen_pairs}
 use Rattle.lost_civic.specs.Texts.{text_of, table_of, seen_table, compared_of, seen_one, seen_compared}
 use Rattle.lost_civic.specs.declared.texts.Compared.{Compared}
-use Rattle.lost_civic.proofs.ElementLemmas.{all_elements-element_index}
+use Rattle.lost_civic.proofs.ElementLemmas.{all_elements-element_index, names_differ}
 use Rattle.lost_civic.proofs.PairLemmas.{list_all-names}
 
 true-from_not_false : (b : Bool) → (b ≡ false → ⊥) → b ≡ true
@@ -61,3 +62,20 @@ pub list_all-compared : (list : List Compared) (pattern address : Pairs) → see
 list_all-compared list pattern address kept =
     let has : Text × Text → Bool = λ pair. has_value address pair.0 pair.1 in
     sym (list_all-map has seen_one list) ∙ (ap (list_all has) kept ∙ list_all-map has (λ (pair : Text × Text). (pair.0, comparison_text pair.1)) pattern)
+
+drop-item : {X : Type 0} (xs : List X) (i : ℕ) (x : X) → i < length xs → x ≡ get_or xs i x → drop i xs ≡ x ∷ drop (i + 1) xs
+drop-item xs i x within is = rw add-one (drop-cons xs i x within ∙ ap (λ y. y ∷ drop (suc i) xs) (sym is))
+
+-- the text that is kept for the element at a place, and one of another element
+pub value_of-at : (list : List Compared) (i : ℕ) (compared : Compared) (element : Element) → i < length list → compared ≡ get_or list i compared → compared.element ≡ element → value_of (element_name element) (seen_compared (drop i list)) ≡ Some (string_bytes compared.text)
+value_of-at list i compared element within is same =
+    let name = element_name element in
+    let others = find (λ (pair : Text × Text). same_text name pair.0) (seen_compared (drop (i + 1) list)) in
+    let named : same_text name (element_name compared.element) ≡ true = (bytes_eq-Decides name (element_name compared.element)).1 (ap element_name (sym same)) in
+    ap (λ rest. value_of name (seen_compared rest)) (drop-item list i compared within is) ∙ ap (λ test. option_map (λ (pair : Text × Text). pair.1) (cond test (Some (seen_one compared)) others)) named
+
+pub value_of-past : (list : List Compared) (i : ℕ) (compared : Compared) (element : Element) → i < length list → compared ≡ get_or list i compared → (compared.element ≡ element → ⊥) → value_of (element_name element) (seen_compared (drop i list)) ≡ value_of (element_name element) (seen_compared (drop (i + 1) list))
+value_of-past list i compared element within is differ =
+    let name = element_name element in
+    let others = find (λ (pair : Text × Text). same_text name pair.0) (seen_compared (drop (i + 1) list)) in
+    ap (λ rest. value_of name (seen_compared rest)) (drop-item list i compared within is) ∙ ap (λ test. option_map (λ (pair : Text × Text). pair.1) (cond test (Some (seen_one compared)) others)) (names_differ compared.element element differ)

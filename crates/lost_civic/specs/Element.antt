@@ -40,7 +40,7 @@ element_index PoBox = 29
 element_index AddCode = 30
 
 -- the name of an element, which the table has at its place
-abbrev pub element_name : Element → Text
+unfoldable pub element_name : Element → Text
 element_name element = slice_index_or element_names (element_index element) []
 
 -- the elements in the order of the table

@@ -1,5 +1,5 @@
 -- The comparison texts that an address and a pattern keep, as the definitions see them.
-use Rattle.std.specs.Prelude.{List, map, Option, option_map, String, string_bytes}
+use Rattle.std.specs.Prelude.{List, map, Option, IsSome, option_map, String, string_bytes}
 use Rattle.lost_spec.specs.Text.{Text}
 use Rattle.lost_spec.specs.Civic.{Pairs, value_of, comparison_text}
 use Rattle.lost_civic.specs.declared.elements.Element.{Element}
@@ -9,6 +9,10 @@ use Rattle.lost_civic.specs.Element.{element_name, all_elements}
 -- the comparison text of an element in an address or a pattern, where the element stands there
 abbrev pub text_of : Element → Pairs → Option Text
 text_of element pairs = option_map comparison_text (value_of (element_name element) pairs)
+
+-- some element stands there
+abbrev pub HasElement : Pairs → Type 0
+HasElement pairs = (element : Element) × IsSome (text_of element pairs)
 
 -- the comparison text of each element of the table, where it stands there
 abbrev pub table_of : Pairs → List (Option Text)

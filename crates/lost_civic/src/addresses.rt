@@ -6,7 +6,7 @@ ghost use Rattle.std.specs.Cmp.{partial_equiv_from_equiv};
 ghost use Rattle.lost_spec.specs.Civic.{address_fault, has_value};
 ghost use Rattle.lost_civic.specs.Element.{element_name};
 ghost use Rattle.lost_civic.specs.Pairs.{seen_pairs, same_pairs, hashed_pairs, same_pairs-equiv, hashed_pairs-alike};
-ghost use Rattle.lost_civic.specs.Texts.{text_of};
+ghost use Rattle.lost_civic.specs.Texts.{text_of, HasElement};
 
 use crate::Element;
 use crate::refusals::first_address_fault;
@@ -63,6 +63,7 @@ impl CivicAddress {
     pub fn pairs(&self) -> &[(String, String)]
         ensures pairs { seen_pairs result.now ≡ self.now }
         ensures lawful { address_fault self.now ≡ None }
+        ensures some_element { HasElement self.now }
     {
         self.pairs.as_slice()
     }

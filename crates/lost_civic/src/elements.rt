@@ -117,6 +117,7 @@ impl Element {
     }
 
     /// The name of the element, in exact case, as `country` or `PC`.
+    #[tactic(auto, unfolding(crate::specs::Element::element_name))]
     pub fn name(self) -> &'static str
         ensures value { result.now ≡ element_name self }
         ensures listed { slice_get element_names (element_index self) ≡ Some result.now }

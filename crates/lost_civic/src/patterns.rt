@@ -1,11 +1,11 @@
 //! Civic patterns.
 
-ghost use Rattle.std.specs.Prelude.{◌≡◌, None, IfOk, IfNone, IfSome, MatchResult};
+ghost use Rattle.std.specs.Prelude.{◌≡◌, None, Some, IsTrue, IfOk, IfNone, IfSome, MatchResult};
 ghost use Rattle.std.specs.Option.{option_copied};
 ghost use Rattle.std.specs.Cmp.{partial_equiv_from_equiv};
 ghost use Rattle.lost_spec.specs.Civic.{pattern_fault, matches};
 ghost use Rattle.lost_civic.specs.Pairs.{seen_pairs, same_pairs, same_pairs-equiv};
-ghost use Rattle.lost_civic.specs.Texts.{text_of};
+ghost use Rattle.lost_civic.specs.Texts.{text_of, HasElement};
 
 use crate::refusals::first_pattern_fault;
 use crate::texts::{Compared, compare_pairs, find_text};
@@ -61,6 +61,7 @@ impl CivicPattern {
     pub fn pairs(&self) -> &[(String, String)]
         ensures pairs { seen_pairs result.now ≡ self.now }
         ensures lawful { pattern_fault self.now ≡ None }
+        ensures some_element { HasElement self.now }
     {
         self.pairs.as_slice()
     }
@@ -75,7 +76,11 @@ impl CivicPattern {
     /// Whether each element of the pattern stands in the address with an equal comparison text (RFC 5222, section
     /// 12.3; the comparison is an own rule).
     pub fn matches(&self, address: &CivicAddress) -> bool
-        ensures { result ≡ matches self.now address.now }
+        ensures value { result ≡ matches self.now address.now }
+
+        // What a match says element by element: each text of the pattern is that of the address.
+        ensures shared { IsTrue result
+            → (element : Element) → IfSome (text_of element self.now) (λ text. text_of element address.now ≡ Some text) }
     {
         self.compared
             .iter()
