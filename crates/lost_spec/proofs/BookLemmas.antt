@@ -8,6 +8,7 @@ use Rattle.std.proofs.lemmas.Bool.{leb-false, or_parts, and_parts, cond_both, tr
 use Rattle.std.proofs.lemmas.Bool.Decides.{Decides-like, Decides-and, not_from_Decides}
 use Rattle.std.proofs.lemmas.List.{length-append}
 use Rattle.std.proofs.lemmas.Option.{none-some, same_Some}
+use Rattle.lost_spec.proofs.ListLemmas.{AllByRecursion-weaker}
 use Rattle.lost_spec.specs.declared.faults.EditError.{EditError}
 use Rattle.lost_spec.specs.Text.{Text, same_text}
 use Rattle.lost_spec.specs.Moment.{Stamp}
@@ -23,11 +24,6 @@ module _ {Thing : Type 0} where
   pub AllByRecursion_push : (P : Thing → Type 0) (xs : List Thing) (x : Thing) → AllByRecursion P xs → P x → AllByRecursion P (xs ++ x ∷ [])
   AllByRecursion_push P [] x all here = (here, tt)
   AllByRecursion_push P (y ∷ ys) x all here = (all.0, AllByRecursion_push P ys x all.1 here)
-
-  -- what follows from P holds of each where P does
-  pub AllByRecursion_weaker : (P Q : Thing → Type 0) → ((x : Thing) → P x → Q x) → (xs : List Thing) → AllByRecursion P xs → AllByRecursion Q xs
-  AllByRecursion_weaker P Q weaker [] all = tt
-  AllByRecursion_weaker P Q weaker (x ∷ xs) all = (weaker x all.0, AllByRecursion_weaker P Q weaker xs all.1)
 
   -- where P holds of each, so does what each has only if P holds of it
   pub AllByRecursion_apply : (P Q : Thing → Type 0) (xs : List Thing) → AllByRecursion (λ x. P x → Q x) xs → AllByRecursion P xs → AllByRecursion Q xs
@@ -92,14 +88,14 @@ other_key m x key is fails other own here there =
 -- where no mapping has m's identity, each has another one
 other_identities : (b : Book) (m : Mapping) → is_held b (identity_of m) ≡ false → AllByRecursion (λ x. HasOtherIdentity x m) b.mappings
 other_identities b m free =
-    AllByRecursion_weaker (λ x. has_identity x (identity_of m) ≡ false) (λ x. HasOtherIdentity x m) (λ x. other_identity x (identity_of m)) b.mappings
+    AllByRecursion-weaker (λ x. has_identity x (identity_of m) ≡ false) (λ x. HasOtherIdentity x m) (λ x. other_identity x (identity_of m)) b.mappings
     (AllByRecursion_from_list_any (λ x. has_identity x (identity_of m)) b.mappings free)
 
 -- where no other mapping has m's key, each mapping of another identity has another key
 other_keys : (b : Book) (m : Mapping) (key : Option Text) → m.key ≡ key → is_key_held b (identity_of m) key ≡ false → AllByRecursion (IfOther HasOtherKey m) b.mappings
 other_keys b m None is free = AllByRecursion_always (IfOther HasOtherKey m) (λ x other own here there. none-some own (sym is ∙ there)) b.mappings
 other_keys b m (Some key) is free =
-    AllByRecursion_weaker (λ x. (not (has_identity x (identity_of m)) && has_key x key) ≡ false) (IfOther HasOtherKey m) (λ x. other_key m x key is) b.mappings
+    AllByRecursion-weaker (λ x. (not (has_identity x (identity_of m)) && has_key x key) ≡ false) (IfOther HasOtherKey m) (λ x. other_key m x key is) b.mappings
     (AllByRecursion_from_list_any (λ x. not (has_identity x (identity_of m)) && has_key x key) b.mappings free)
 
 -- ---- a mapping put in the place of another
@@ -125,7 +121,7 @@ module _ (R : Mapping → Mapping → Type 0) (symmetric : (x y : Mapping) → R
   later_than_replaced : (old : Mapping) (rest : List Mapping) → identity_of old ≡ identity_of m → AllByRecursion (HasOtherIdentity old) rest → AllByRecursion (IfOther R m) rest → AllByRecursion (R m) rest
   later_than_replaced old rest same once other =
       AllByRecursion_apply (HasOtherIdentity old) (R m) rest
-      (AllByRecursion_weaker (IfOther R m) (λ x. HasOtherIdentity old x → R m x) (λ x there differ. symmetric x m (there (λ e. differ (same ∙ sym e)))) rest other)
+      (AllByRecursion-weaker (IfOther R m) (λ x. HasOtherIdentity old x → R m x) (λ x there differ. symmetric x m (there (λ e. differ (same ∙ sym e)))) rest other)
       once
 
   -- a relation between each mapping and each later one goes on, if m has it to each mapping of another identity

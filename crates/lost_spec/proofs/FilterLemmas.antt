@@ -11,11 +11,6 @@ nil_from_Picks PicksNone none = refl
 nil_from_Picks (PicksIt p rest) none = absurd (none.0 p)
 nil_from_Picks (PassesIt fails rest) none = nil_from_Picks rest none.1
 
--- what holds of each thing, where it follows from another fact
-pub AllByRecursion-weaker : {Thing : Type 0} {P Q : Thing → Type 0} → ((x : Thing) → P x → Q x) → (xs : List Thing) → AllByRecursion P xs → AllByRecursion Q xs
-AllByRecursion-weaker weaker [] all = tt
-AllByRecursion-weaker weaker (x ∷ xs) all = (weaker x all.0, AllByRecursion-weaker weaker xs all.1)
-
 module _ {Thing : Type 0} (test : Thing → Bool) where
   -- a filter drops a first thing that fails
   pub filter_drops : (x : Thing) (xs : List Thing) → test x ≡ false → filter test (x ∷ xs) ≡ filter test xs

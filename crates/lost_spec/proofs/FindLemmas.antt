@@ -2,6 +2,7 @@
 use Rattle.std.proofs.Common.{◌≡◌, true, not, ◌&&◌, List, [], length, Option, Some, None, Decides, sym, refl, subst, arith}
 use Rattle.std.specs.List.{list_any}
 use Rattle.std.proofs.lemmas.Bool.{and_parts, and_from, not-true, not_from_false}
+use Rattle.lost_spec.proofs.ListLemmas.{AllByRecursion-weaker}
 use Rattle.lost_spec.specs.Service.{Service, same_service, chain}
 use Rattle.lost_spec.specs.Moment.{Instant}
 use Rattle.lost_spec.specs.Mapping.{Mapping, is_live}
@@ -9,7 +10,7 @@ use Rattle.lost_spec.specs.Book.{Book}
 use Rattle.lost_spec.specs.Find.{Place, holds, serves, at, defaults, first_with, finding, Finding, FoundHolders, FoundDefaults, FoundNothing, found, is_implemented}
 use Rattle.lost_spec.specs.Laws.{Picks}
 use Rattle.lost_spec.specs.FindLaws.{IsOfChain, HoldsHere, StandsBy, NoHolder, NoDefault, IsNowhere, IsWhatIsThere, FoundIsThere, NothingWhereNothingIs, NothingUnlessImplemented, IsHere, ImplementedMeansHere, HereMeansImplemented}
-use Rattle.lost_spec.proofs.FilterLemmas.{nil_from_Picks, AllByRecursion-weaker, Picks-filter, none_from_filter, none_from_list_any, list_any_from_none}
+use Rattle.lost_spec.proofs.FilterLemmas.{nil_from_Picks, Picks-filter, none_from_filter, none_from_list_any, list_any_from_none}
 use Rattle.lost_spec.proofs.ChainLemmas.{same_service-Decides, length-IsOfChain, chain-Decides, IsFirstOrNone, first_with_cuts}
 
 -- ---- tests that decide facts
@@ -124,6 +125,6 @@ IsHere-from_StandsBy t s v c m h = record { live = h.live; of_chain = subst (λ 
 -- the law `NothingUnlessImplemented`
 pub nothing_unless_implemented_lem : NothingUnlessImplemented
 nothing_unless_implemented_lem b t l s not_implemented = nothing_where_nothing_is_lem b t l s (record {
-  no_holder = λ v c. AllByRecursion-weaker (λ m none h. none (IsHere-from_HoldsHere t l s v c m h)) b.mappings (implemented_means_here_lem b t s not_implemented);
-  no_default = λ v c. AllByRecursion-weaker (λ m none h. none (IsHere-from_StandsBy t s v c m h)) b.mappings (implemented_means_here_lem b t s not_implemented);
+  no_holder = λ v c. AllByRecursion-weaker (λ m. ¬ IsHere t s m) (λ m. ¬ HoldsHere t l v m) (λ m none h. none (IsHere-from_HoldsHere t l s v c m h)) b.mappings (implemented_means_here_lem b t s not_implemented);
+  no_default = λ v c. AllByRecursion-weaker (λ m. ¬ IsHere t s m) (λ m. ¬ StandsBy t v m) (λ m none h. none (IsHere-from_StandsBy t s v c m h)) b.mappings (implemented_means_here_lem b t s not_implemented);
 })

@@ -1,3 +1,4 @@
+pub mod ListLemmas
 pub mod FilterLemmas
 pub mod BookLemmas
 pub mod ChainLemmas
@@ -8,3 +9,4 @@ pub mod OrderLemmas
 pub mod ChildLemmas
 pub mod NameLemmas
 pub mod CoverLemmas
+pub mod PositionLemmas

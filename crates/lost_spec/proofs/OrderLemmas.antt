@@ -6,6 +6,7 @@ use Rattle.std.specs.Cmp.Lexicographic.{slice_cmp, nat_list_cmp_total, texts_tie
 use Rattle.std.proofs.Common.{Ordering, Less, Equal, Greater, refl, sym, ap, ◌∙◌}
 use Rattle.std.proofs.lemmas.Bool.{cond_both, false≢true, true≢false, false_from_ne_true}
 use Rattle.std.proofs.lemmas.Cmp.{tied_itself}
+use Rattle.lost_spec.proofs.ListLemmas.{AllByRecursion-weaker}
 use Rattle.lost_spec.specs.Text.{Text, is_before, same_text, insert_by, ascending_by}
 use Rattle.lost_spec.specs.Laws.{EachWithLater}
 
@@ -51,12 +52,6 @@ same_text-before a b h =
     false_from_ne_true (same_text a b) (λ e. true≢false (sym h ∙ ap (λ c. is_before a c) (sym (same_text-same a b e)) ∙ is_before-itself a))
 
 -- ---- facts of all things
-
--- what follows from a fact of each thing holds of each thing
-pub AllByRecursion-weaker :
-    {Thing : Type 0} (P Q : Thing → Type 0) → ((x : Thing) → P x → Q x) → (xs : List Thing) → AllByRecursion P xs → AllByRecursion Q xs
-AllByRecursion-weaker P Q f [] h = tt
-AllByRecursion-weaker P Q f (x ∷ xs) h = (f x h.0, AllByRecursion-weaker P Q f xs h.1)
 
 -- ---- things in order
 

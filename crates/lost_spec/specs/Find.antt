@@ -24,13 +24,21 @@ holds m (AtAddress address) = list_any (λ pattern. matches pattern address) m.p
 abbrev pub serves : Mapping → Instant → Service → Bool
 serves m t u = is_live m t && same_service m.service u
 
+-- a mapping is live at t, is no default, has service u and holds the place
+abbrev pub is_holder : Instant → Place → Service → Mapping → Bool
+is_holder t l u m = serves m t u && (not m.is_default && holds m l)
+
+-- a mapping is live at t, is a default and has service u
+abbrev pub is_standby : Instant → Service → Mapping → Bool
+is_standby t u m = serves m t u && m.is_default
+
 -- the mappings, in list order, that are live at t, are not defaults, have service u and hold the place (RFC 5222, section 8)
 abbrev pub at : Book → Instant → Place → Service → List Mapping
-at b t l u = filter (λ m. serves m t u && (not m.is_default && holds m l)) b.mappings
+at b t l u = filter (is_holder t l u) b.mappings
 
 -- the live defaults of service u, in list order (own)
 abbrev pub defaults : Book → Instant → Service → List Mapping
-defaults b t u = filter (λ m. serves m t u && m.is_default) b.mappings
+defaults b t u = filter (is_standby t u) b.mappings
 
 -- what a search finds: mappings of a service that hold the place, defaults of a service, or nothing
 pub data Finding : Type 0 where
@@ -58,9 +66,13 @@ finding None None = FoundNothing
 unfoldable pub found : Book → Instant → Place → Service → Finding
 found b t l s = finding (first_with (at b t l) (chain s)) (first_with (defaults b t) (chain s))
 
+-- a mapping is live at t and has a service of the chain of s
+abbrev pub is_of_chain : Instant → Service → Mapping → Bool
+is_of_chain t s m = is_live m t && list_any (λ u. same_service m.service u) (chain s)
+
 -- some live mapping has a service of the chain of s (RFC 5222, section 13.1; reading own)
 unfoldable pub is_implemented : Book → Instant → Service → Bool
-is_implemented b t s = list_any (λ m. is_live m t && list_any (λ u. same_service m.service u) (chain s)) b.mappings
+is_implemented b t s = list_any (is_of_chain t s) b.mappings
 
 -- ---- warnings (RFC 5222, section 13.2)
 

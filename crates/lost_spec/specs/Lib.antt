@@ -1,5 +1,6 @@
 pub mod Codes
 pub mod Text
+pub mod Positions
 pub mod Service
 pub mod Ring
 pub mod Civic

@@ -1,7 +1,8 @@
--- Laws of the lists of an answer: the names of a validation, and the services below a service.
-use Rattle.std.specs.Prelude.{◌≡◌, ◌+◌, IsTrue, IsFalse, List, [], ◌++◌, Option, length, unwrap_or}
+-- Laws of the lists of an answer: the names of a validation, the services below a service, and positions.
+use Rattle.std.specs.Prelude.{◌≡◌, ℕ, ◌+◌, ◌<◌, Bool, IsTrue, IsFalse, List, [], ◌++◌, map, filter, Option, Some, slice_get, length, unwrap_or}
 use Rattle.std.specs.List.{AllByRecursion}
 use Rattle.lost_spec.specs.Text.{Text, is_among, has_repeat}
+use Rattle.lost_spec.specs.Positions.{positions}
 use Rattle.lost_spec.specs.Service.{Service, is_at_or_below, is_service_before}
 use Rattle.lost_spec.specs.Civic.{Pairs, names_of}
 use Rattle.lost_spec.specs.Moment.{Instant}
@@ -38,3 +39,12 @@ ServicesAreChildren = (b : Book) (t : Instant) (l : Place) (q : Option Service) 
 
 abbrev pub AllServicesAreChildren : Type 0
 AllServicesAreChildren = (b : Book) (t : Instant) (q : Option Service) → AreChildren q (all_services b t q)
+
+-- positions of a list of mappings: rising, and what stands there is what passes the test, in order
+pub record AreThePositions (test : Mapping → Bool) (ms : List Mapping) (places : List ℕ) : Type 0 where
+  pub rising : EachWithLater (λ i j. i < j) places
+  pub mappings : map (slice_get ms) places ≡ map Some (filter test ms)
+
+-- the positions of what passes a test are where it stands
+abbrev pub PositionsAreWhereItPasses : Type 0
+PositionsAreWhereItPasses = (test : Mapping → Bool) (ms : List Mapping) → AreThePositions test ms (positions test ms)

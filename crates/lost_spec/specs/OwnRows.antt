@@ -1,5 +1,6 @@
 -- More rows, of our own: what the worked rows leave open, above all which of several refusals comes first.
-use Rattle.std.specs.Prelude.{◌≡◌, true, false, [], ◌∷◌, Some, None, Ok, Err, pos, negsuc, replicate, codes}
+use Rattle.std.specs.Prelude.{◌≡◌, true, false, [], ◌∷◌, ◌++◌, Some, None, Ok, Err, pos, negsuc, replicate, codes}
+use Rattle.lost_spec.specs.declared.faults.UrnError.TheVariants.{EmptyLabel, BadCharacter, HyphenAtEnd}
 use Rattle.lost_spec.specs.declared.faults.GeoError.TheVariants.{Latitude, Longitude}
 use Rattle.lost_spec.specs.declared.faults.RingError.TheVariants.{TooShort, NotClosed, TooLong}
 use Rattle.lost_spec.specs.declared.faults.CivicError.TheVariants.{NoKnownElement, Repeated, TooLong as CivicTooLong, UnknownElement}
@@ -8,6 +9,7 @@ use Rattle.lost_spec.specs.declared.faults.EditError.TheVariants.{IdentityHeld, 
 use Rattle.lost_spec.specs.declared.answers.AnswerError.TheVariants.{Loop, LocationProfileUnrecognized, SrsInvalid, NotFound, ServiceNotImplemented}
 use Rattle.lost_spec.specs.declared.answers.Warning.TheVariants.{DefaultMappingReturned}
 use Rattle.lost_spec.specs.Text.{Text}
+use Rattle.lost_spec.specs.Service.{read_service}
 use Rattle.lost_spec.specs.Ring.{Point, point_fault, ring_fault}
 use Rattle.lost_spec.specs.Civic.{Pairs, address_fault, pattern_fault, comparison_text}
 use Rattle.lost_spec.specs.Mapping.{RingRegion, UnreadableRegion, Parts, Mapping, build}
@@ -42,6 +44,16 @@ FirstFaults =
     × (pattern_fault (pair (codes "X") ∷ []) ≡ Some UnknownElement)
     × (pattern_fault (pair (codes "X") ∷ pair (codes "A1") ∷ []) ≡ Some UnknownElement)
     × (pattern_fault [] ≡ Some NoKnownElement)
+
+-- a label's checks come before those of the next, and the number of labels last
+abbrev pub LabelOrder : Type 0
+LabelOrder =
+    (read_service (codes "urn:service:-_") ≡ Err BadCharacter)
+    × (read_service (codes "urn:service:-" ++ replicate 63 97) ≡ Err HyphenAtEnd)
+    × (read_service (codes "urn:service:_.") ≡ Err BadCharacter)
+    × (read_service (codes "urn:service:._") ≡ Err EmptyLabel)
+    × (read_service (codes "urn:service:a.a.a.a.a.a.a.a._") ≡ Err BadCharacter)
+    × (read_service (codes "urn:service:" ++ replicate 63 97) ≡ Ok (replicate 63 97 ∷ []))
 
 -- runs of white space are one space, both ends are trimmed, and only ASCII letters are lowered
 abbrev pub Comparison : Type 0

@@ -2,7 +2,7 @@
 //! The last ones are our own: they say what the others leave open, above all which of several refusals comes first.
 
 ghost use Rattle.lost_spec.specs.Rows.{Urn, Stamps, Empty, OneMapping, StagedOnly, SharedEdge, OuterEdge, Poles, Fallback, Defaults, Profiles, ReplaceWithdraw, Refusals, ReplaceCodes, ReplaceByDefault, LimitsRow, DeskCodes, BadLines, BadPatterns, CivicRow, UnaskedValidation, ValidateAPoint, TwoProfiles, Expiry, BoundaryAndPath, ServicesByLocation};
-ghost use Rattle.lost_spec.specs.OwnRows.{FirstFaults, Comparison, EditOrder, DeskOrder, AnswerOrder, LongestFirst, ReferencePatterns, NameOrder};
+ghost use Rattle.lost_spec.specs.OwnRows.{FirstFaults, LabelOrder, Comparison, EditOrder, DeskOrder, AnswerOrder, LongestFirst, ReferencePatterns, NameOrder};
 
 /// A text spells a service URN, or is refused by the first check that fails.
 pub fn urn()
@@ -137,6 +137,11 @@ pub fn services_by_location()
 /// The first of several refusals of a point, a ring, an address and a pattern comes.
 pub fn first_faults()
     ensures { FirstFaults }
+{}
+
+/// The checks of a label come before those of the next, and the number of labels last.
+pub fn label_order()
+    ensures { LabelOrder }
 {}
 
 /// A comparison text has single spaces, trimmed ends and lower ASCII letters.

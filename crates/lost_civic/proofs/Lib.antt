@@ -1,0 +1,6 @@
+pub mod ElementLemmas
+pub mod PairCopies
+pub mod PairLemmas
+pub mod Present
+pub mod SqueezedLemmas
+pub mod TextLemmas

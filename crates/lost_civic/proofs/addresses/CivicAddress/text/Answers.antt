@@ -1,0 +1,26 @@
+use Rattle.std.proofs.Common.{◌≡◌, ◌<◌, ◌∙◌, ap, sym, subst, get_or, Some, option_map, string_bytes, arith}
+use Rattle.lost_civic.specs.Pairs.{seen_pairs}
+use Rattle.lost_civic.specs.Element.{element_index}
+use Rattle.lost_civic.specs.Texts.{text_of}
+use Rattle.lost_civic.proofs.TextLemmas.{length-table, text_of-at}
+use Rattle.lost_civic.proofs.addresses.CivicAddress.text.Goals as goal
+
+pub index-requires-2 : goal.index-requires-2
+index-requires-2 c =
+    omega (arith, length-table c.self.inside.texts.items (seen_pairs c.self.inside.pairs.items) c.self.invariant.1, c.self.inside.texts.ok.0)
+
+pub returns-in-Some : goal.returns-in-Some
+returns-in-Some c =
+    let texts = c.self.inside.texts.items in
+    let found = c.index-2.result.now in
+    let within : element_index c.args.element < 31 = omega arith in
+    let kept = text_of-at texts (seen_pairs c.self.inside.pairs.items) c.args.element found within c.self.invariant.1 (c.index-2.ensures ∙ ap (λ place. get_or texts place found) c.index.ensures.place) in
+    ap Some c.as_str.ensures.value ∙ (ap (option_map string_bytes) (sym c.in-Some.is) ∙ (kept ∙ ap (text_of c.args.element) c.self.view_is))
+
+pub returns-in-None : goal.returns-in-None
+returns-in-None c =
+    let texts = c.self.inside.texts.items in
+    let found = c.index-2.result.now in
+    let within : element_index c.args.element < 31 = omega arith in
+    let kept = text_of-at texts (seen_pairs c.self.inside.pairs.items) c.args.element found within c.self.invariant.1 (c.index-2.ensures ∙ ap (λ place. get_or texts place found) c.index.ensures.place) in
+    ap (option_map string_bytes) (sym c.in-None.is) ∙ (kept ∙ ap (text_of c.args.element) c.self.view_is)

@@ -1,0 +1,9 @@
+use Rattle.std.proofs.Common.{subst}
+use Rattle.lost_civic.specs.Pairs.{seen_pairs}
+use Rattle.lost_civic.specs.Texts.{HasElement}
+use Rattle.lost_civic.proofs.Present.{HasElement-pattern}
+use Rattle.lost_civic.proofs.patterns.CivicPattern.pairs.Goals as goal
+
+pub returns-clause-some_element : goal.returns-clause-some_element
+returns-clause-some_element c =
+    subst HasElement c.self.view_is (HasElement-pattern (seen_pairs c.self.inside.pairs.items) c.self.invariant.0)

@@ -1,0 +1,12 @@
+use Rattle.std.proofs.Common.{◌≡◌, ◌∙◌, ◌||◌, ap, nat_lt, length, string_bytes, rules, tests}
+use Rattle.std.specs.List.{list_any}
+use Rattle.std.proofs.lemmas.Iterator.{YieldsList-from_slice}
+use Rattle.std.proofs.lemmas.Iterator.Search.{any_from_yields_List}
+use Rattle.lost_spec.specs.Text.{same_text}
+use Rattle.lost_civic.proofs.PairLemmas.{list_any-names}
+use Rattle.lost_civic.proofs.refusals.has_name.Goals as goal
+
+pub returns : goal.returns
+returns c =
+    let direct : c.any.result ≡ list_any (λ pair. same_text c.args.name.now (string_bytes pair.0)) c.args.pairs.now = any_from_yields_List (λ pair. same_text c.args.name.now (string_bytes pair.0)) _ _ c.any.result c.any.ensures.ran (YieldsList-from_slice c.args.pairs.now (cc)) (λ x b q k. search (rules, tests)) in
+    direct ∙ list_any-names (same_text c.args.name.now) c.args.pairs.now

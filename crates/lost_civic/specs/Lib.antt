@@ -1,0 +1,4 @@
+pub mod Element
+pub mod Pairs
+pub mod Squeezed
+pub mod Texts

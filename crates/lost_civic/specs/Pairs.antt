@@ -1,0 +1,37 @@
+-- Pairs of a name and a value as the definitions see them: by the bytes of both.
+use Rattle.std.specs.Prelude.{Bool, List, map, ◌++◌, ◌&&◌, String, string_bytes}
+use Rattle.std.specs.Cmp.{IsEquivalence, and_equiv, on_equiv}
+use Rattle.std.specs.Cmp.Lexicographic.{lists_equiv, nat_list_eq_equiv}
+use Rattle.std.specs.Hash as fed
+use Rattle.std.proofs.lemmas.Slice.Eq.{bytes_eq-Decides}
+use lib.Pointwise.{pointwise}
+use Rattle.lost_spec.specs.Text.{Text, same_text}
+use Rattle.lost_spec.specs.Civic.{Pairs}
+
+abbrev pub seen_pair : {A : Type 0} → String A × String A → Text × Text
+seen_pair pair = (string_bytes pair.0, string_bytes pair.1)
+
+abbrev pub seen_pairs : {A : Type 0} → List (String A × String A) → Pairs
+seen_pairs pairs = map seen_pair pairs
+
+-- two pairs are the same, name and value, byte for byte
+abbrev pub same_pair : Text × Text → Text × Text → Bool
+same_pair a b = same_text a.0 b.0 && same_text a.1 b.1
+
+-- two lists of pairs are the same, in their order
+abbrev pub same_pairs : Pairs → Pairs → Bool
+same_pairs a b = pointwise same_pair a b
+
+-- what a hasher is fed of pairs
+abbrev pub hashed_pairs : Pairs → fed.HashWrites
+hashed_pairs pairs = fed.slice (λ pair. fed.str pair.0 ++ fed.str pair.1) pairs
+
+-- sameness is an equivalence
+pub same_pairs-equiv : IsEquivalence same_pairs
+same_pairs-equiv =
+    lists_equiv (and_equiv (on_equiv (λ (pair : Text × Text). pair.0) nat_list_eq_equiv) (on_equiv (λ (pair : Text × Text). pair.1) nat_list_eq_equiv))
+
+-- a hasher is fed the same of the same pairs
+pub hashed_pairs-alike : fed.Alike same_pairs hashed_pairs
+hashed_pairs-alike =
+    fed.items_Alike (fed.and-Alike (fed.on_Alike (λ (pair : Text × Text). pair.0) (fed.same_Alike fed.str bytes_eq-Decides)) (fed.on_Alike (λ (pair : Text × Text). pair.1) (fed.same_Alike fed.str bytes_eq-Decides)))

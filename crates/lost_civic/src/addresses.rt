@@ -1,0 +1,126 @@
+//! Civic addresses.
+
+ghost use Rattle.std.specs.Prelude.{◌≡◌, None, IfOk, IfNone, IfSome, MatchResult};
+ghost use Rattle.std.specs.Option.{option_copied};
+ghost use Rattle.std.specs.Cmp.{partial_equiv_from_equiv};
+ghost use Rattle.lost_spec.specs.Civic.{address_fault, has_value};
+ghost use Rattle.lost_civic.specs.Element.{element_name};
+ghost use Rattle.lost_civic.specs.Pairs.{seen_pairs, same_pairs, hashed_pairs, same_pairs-equiv, hashed_pairs-alike};
+ghost use Rattle.lost_civic.specs.Texts.{text_of, HasElement};
+
+use crate::Element;
+use crate::refusals::first_address_fault;
+use crate::texts::make_table;
+use lost_spec::faults::CivicError;
+use std::alloc::{AllocError, Global};
+use std::hash::{Hash, Hasher};
+use std::marker::Model;
+
+/// A civic address (RFC 5222, section 12.3; RFC 4119, section 2.2.1): pairs of a name and a value, in the order in
+/// which they were given. Contracts see an address as its pairs. A name that is that of no element may stand beside
+/// one that is (own rule).
+#[derive(Drop)]
+pub struct CivicAddress {
+    pairs: Vec<(String, String)>,
+    texts: Vec<Option<String>>,
+}
+
+impl Model for CivicAddress {
+    ghost use Rattle.std.specs.Prelude.{◌≡◌, None};
+    ghost use Rattle.lost_spec.specs.Civic.{Pairs, address_fault};
+    ghost use Rattle.lost_civic.specs.Pairs.{seen_pairs};
+    ghost use Rattle.lost_civic.specs.Texts.{table_of, seen_table};
+
+    ghost Value = { Pairs };
+
+    ghost view = { λ a. seen_pairs a.pairs.items };
+
+    ghost invariant = { λ a. (address_fault (seen_pairs a.pairs.items) ≡ None)
+        × (seen_table a.texts.items ≡ table_of (seen_pairs a.pairs.items)) };
+}
+
+impl CivicAddress {
+    /// The address of these pairs. The refusals, in the order of the checks (own rule): `TooLong` for more than 128
+    /// pairs, or a name or a value of more than 512 bytes; `Repeated` for a name that stands twice; `NoKnownElement`
+    /// where no name is that of an element; `Memory`.
+    pub fn from_pairs(alloc: Global, pairs: Vec<(String, String)>) -> Result<CivicAddress, CivicError>
+        ensures refused { let given = seen_pairs pairs.items in
+            IfSome (address_fault given) (λ fault. result ≡ Err fault) }
+        ensures accepted { let given = seen_pairs pairs.items in
+            IfNone (address_fault given)
+                (MatchResult result (λ address. address ≡ given) (λ fault. fault ≡ CivicError.Memory)) }
+    {
+        if let Some(fault) = first_address_fault(pairs.as_slice()) {
+            return Err(fault);
+        }
+        let Ok(texts) = make_table(alloc, pairs.as_slice()) else {
+            return Err(CivicError::Memory);
+        };
+        Ok(CivicAddress { pairs, texts })
+    }
+
+    /// The pairs as they were given.
+    pub fn pairs(&self) -> &[(String, String)]
+        ensures pairs { seen_pairs result.now ≡ self.now }
+        ensures lawful { address_fault self.now ≡ None }
+        ensures some_element { HasElement self.now }
+    {
+        self.pairs.as_slice()
+    }
+
+    /// The comparison text of an element, where it stands in the address: its value with each run of white space
+    /// (bytes 9 to 13, and 32) as one space, both ends trimmed, and ASCII letters in lower case (own rule).
+    pub fn text(&self, element: Element) -> Option<&str>
+        ensures { option_copied result ≡ text_of element self.now }
+    {
+        match &self.texts[element.index()] {
+            Some(text) => Some(text.as_str()),
+            None => None,
+        }
+    }
+
+    /// Whether the element stands in the address with this comparison text.
+    pub(crate) fn has_text(&self, element: Element, text: &str) -> bool
+        ensures { result ≡ has_value self.now (element_name element) text.now }
+    {
+        match self.text(element) {
+            Some(own) => own == text,
+            None => false,
+        }
+    }
+
+    /// An address with the same pairs.
+    pub fn clone(&self) -> Result<CivicAddress, AllocError>
+        ensures { IfOk result (λ copy. copy ≡ self.now) }
+    {
+        Ok(CivicAddress {
+            pairs: self.pairs.clone()?,
+            texts: self.texts.clone()?,
+        })
+    }
+}
+
+/// Two addresses are equal where their pairs are, names and values byte for byte and in their order (own rule).
+impl PartialEq for CivicAddress {
+    ghost eq = { same_pairs };
+
+    ghost laws = { partial_equiv_from_equiv same_pairs-equiv };
+
+    fn eq(&self, other: &CivicAddress) -> bool {
+        self.pairs == other.pairs
+    }
+}
+
+impl Eq for CivicAddress {
+    ghost laws = { same_pairs-equiv };
+}
+
+impl Hash for CivicAddress {
+    ghost hash_input = { hashed_pairs };
+
+    ghost respects_eq = { hashed_pairs-alike.fed };
+
+    fn hash<H: Hasher>(&self, state: &mut H) {
+        self.pairs.hash(state);
+    }
+}

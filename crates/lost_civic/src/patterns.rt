@@ -1,0 +1,114 @@
+//! Civic patterns.
+
+ghost use Rattle.std.specs.Prelude.{◌≡◌, None, Some, IsTrue, IfOk, IfNone, IfSome, MatchResult};
+ghost use Rattle.std.specs.Option.{option_copied};
+ghost use Rattle.std.specs.Cmp.{partial_equiv_from_equiv};
+ghost use Rattle.lost_spec.specs.Civic.{pattern_fault, matches};
+ghost use Rattle.lost_civic.specs.Pairs.{seen_pairs, same_pairs, same_pairs-equiv};
+ghost use Rattle.lost_civic.specs.Texts.{text_of, HasElement};
+
+use crate::refusals::first_pattern_fault;
+use crate::texts::{Compared, compare_pairs, find_text};
+use crate::{CivicAddress, Element};
+use lost_spec::faults::CivicError;
+use std::alloc::{AllocError, Global};
+use std::marker::Model;
+
+/// A civic pattern, which stands for the addresses that it matches (RFC 5222, section 12.3; patterns are an own
+/// form of a civic boundary): pairs of an element's name and a value, in the order in which they were given.
+/// Contracts see a pattern as its pairs.
+#[derive(Drop)]
+pub struct CivicPattern {
+    pairs: Vec<(String, String)>,
+    compared: Vec<Compared>,
+}
+
+impl Model for CivicPattern {
+    ghost use Rattle.std.specs.Prelude.{◌≡◌, None};
+    ghost use Rattle.lost_spec.specs.Civic.{Pairs, pattern_fault};
+    ghost use Rattle.lost_civic.specs.Pairs.{seen_pairs};
+    ghost use Rattle.lost_civic.specs.Texts.{compared_of, seen_compared};
+
+    ghost Value = { Pairs };
+
+    ghost view = { λ p. seen_pairs p.pairs.items };
+
+    ghost invariant = { λ p. (pattern_fault (seen_pairs p.pairs.items) ≡ None)
+        × (seen_compared p.compared.items ≡ compared_of (seen_pairs p.pairs.items)) };
+}
+
+impl CivicPattern {
+    /// The pattern of these pairs. The refusals, in the order of the checks (own rule): `TooLong` for more than 128
+    /// pairs, or a name or a value of more than 512 bytes; `Repeated` for a name that stands twice; `UnknownElement`
+    /// where a name is that of no element; `NoKnownElement` where there is no pair; `Memory`.
+    pub fn from_pairs(alloc: Global, pairs: Vec<(String, String)>) -> Result<CivicPattern, CivicError>
+        ensures refused { let given = seen_pairs pairs.items in
+            IfSome (pattern_fault given) (λ fault. result ≡ Err fault) }
+        ensures accepted { let given = seen_pairs pairs.items in
+            IfNone (pattern_fault given)
+                (MatchResult result (λ pattern. pattern ≡ given) (λ fault. fault ≡ CivicError.Memory)) }
+    {
+        if let Some(fault) = first_pattern_fault(pairs.as_slice()) {
+            return Err(fault);
+        }
+        let Ok(compared) = compare_pairs(alloc, pairs.as_slice()) else {
+            return Err(CivicError::Memory);
+        };
+        Ok(CivicPattern { pairs, compared })
+    }
+
+    /// The pairs as they were given.
+    pub fn pairs(&self) -> &[(String, String)]
+        ensures pairs { seen_pairs result.now ≡ self.now }
+        ensures lawful { pattern_fault self.now ≡ None }
+        ensures some_element { HasElement self.now }
+    {
+        self.pairs.as_slice()
+    }
+
+    /// The comparison text of an element, where it stands in the pattern, as `CivicAddress::text` has it.
+    pub fn text(&self, element: Element) -> Option<&str>
+        ensures { option_copied result ≡ text_of element self.now }
+    {
+        find_text(self.compared.as_slice(), element)
+    }
+
+    /// Whether each element of the pattern stands in the address with an equal comparison text (RFC 5222, section
+    /// 12.3; the comparison is an own rule).
+    pub fn matches(&self, address: &CivicAddress) -> bool
+        ensures value { result ≡ matches self.now address.now }
+
+        // What a match says element by element: each text of the pattern is that of the address.
+        ensures shared { IsTrue result
+            → (element : Element) → IfSome (text_of element self.now) (λ text. text_of element address.now ≡ Some text) }
+    {
+        self.compared
+            .iter()
+            .all(|compared| address.has_text(compared.element, compared.text.as_str()))
+    }
+
+    /// A pattern with the same pairs.
+    pub fn clone(&self) -> Result<CivicPattern, AllocError>
+        ensures { IfOk result (λ copy. copy ≡ self.now) }
+    {
+        Ok(CivicPattern {
+            pairs: self.pairs.clone()?,
+            compared: self.compared.clone()?,
+        })
+    }
+}
+
+/// Two patterns are equal where their pairs are, names and values byte for byte and in their order (own rule).
+impl PartialEq for CivicPattern {
+    ghost eq = { same_pairs };
+
+    ghost laws = { partial_equiv_from_equiv same_pairs-equiv };
+
+    fn eq(&self, other: &CivicPattern) -> bool {
+        self.pairs == other.pairs
+    }
+}
+
+impl Eq for CivicPattern {
+    ghost laws = { same_pairs-equiv };
+}

@@ -1,0 +1,95 @@
+//! Which lists of pairs are no address, and which are no pattern (own rule).
+
+ghost use Rattle.std.specs.Prelude.{◌≡◌, ◌<◌, map, length};
+ghost use Rattle.std.specs.List.{list_any, list_all};
+ghost use Rattle.lost_spec.specs.Text.{is_among, has_repeat};
+ghost use Rattle.lost_spec.specs.Civic.{names_of, is_known, is_too_long, address_fault, pattern_fault};
+ghost use Rattle.lost_civic.specs.Pairs.{seen_pairs};
+
+use crate::Element;
+use lost_spec::faults::CivicError;
+
+/// The most pairs that an address or a pattern has.
+const MOST_PAIRS: usize = 128;
+
+/// The most bytes that a name or a value has.
+const MOST_BYTES: usize = 512;
+
+/// The first refusal of an address, other than memory: too long, a name twice, no known name.
+pub(crate) fn first_address_fault(pairs: &[(String, String)]) -> Option<CivicError>
+    ensures { result ≡ address_fault (seen_pairs pairs.now) }
+{
+    if exceeds_limits(pairs) {
+        Some(CivicError::TooLong)
+    } else if repeats_name(pairs) {
+        Some(CivicError::Repeated)
+    } else if !knows_some_name(pairs) {
+        Some(CivicError::NoKnownElement)
+    } else {
+        None
+    }
+}
+
+/// The first refusal of a pattern, other than memory: too long, a name twice, an unknown name, no name at all.
+pub(crate) fn first_pattern_fault(pairs: &[(String, String)]) -> Option<CivicError>
+    ensures { result ≡ pattern_fault (seen_pairs pairs.now) }
+{
+    if exceeds_limits(pairs) {
+        Some(CivicError::TooLong)
+    } else if repeats_name(pairs) {
+        Some(CivicError::Repeated)
+    } else if !knows_each_name(pairs) {
+        Some(CivicError::UnknownElement)
+    } else if !knows_some_name(pairs) {
+        Some(CivicError::NoKnownElement)
+    } else {
+        None
+    }
+}
+
+fn exceeds_limits(pairs: &[(String, String)]) -> bool
+    ensures { result ≡ is_too_long (seen_pairs pairs.now) }
+{
+    pairs.len() > MOST_PAIRS
+        || pairs
+            .iter()
+            .any(|pair| pair.0.len() > MOST_BYTES || pair.1.len() > MOST_BYTES)
+}
+
+/// Whether a name stands twice. It takes the square of their number, which is at most 128 where this is asked.
+fn repeats_name(pairs: &[(String, String)]) -> bool
+    ensures { result ≡ has_repeat (names_of (seen_pairs pairs.now)) }
+{
+    let mut rest = pairs;
+    while let Some((pair, others)) = rest.split_first() {
+        if has_name(others, pair.0.as_str()) {
+            return true;
+        }
+        rest = others;
+    }
+    false
+}
+
+fn has_name(pairs: &[(String, String)], name: &str) -> bool
+    ensures { result ≡ is_among name.now (names_of (seen_pairs pairs.now)) }
+{
+    pairs.iter().any(|pair| name == pair.0.as_str())
+}
+
+fn knows_some_name(pairs: &[(String, String)]) -> bool
+    ensures { result ≡ list_any is_known (names_of (seen_pairs pairs.now)) }
+{
+    pairs.iter().any(|pair| knows(pair.0.as_str()))
+}
+
+fn knows_each_name(pairs: &[(String, String)]) -> bool
+    ensures { result ≡ list_all is_known (names_of (seen_pairs pairs.now)) }
+{
+    pairs.iter().all(|pair| knows(pair.0.as_str()))
+}
+
+fn knows(name: &str) -> bool
+    ensures { result ≡ is_known name.now }
+{
+    Element::by_name(name).is_some()
+}

@@ -1,0 +1,10 @@
+mod Differences
+mod Parity
+mod Walk
+mod Closed
+mod Exact
+mod Cuts
+mod Spans
+mod Crossing
+mod Products
+mod Within

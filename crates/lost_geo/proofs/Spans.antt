@@ -1,0 +1,53 @@
+-- Edges that span a latitude: a closed ring has an even number of them.
+use Rattle.std.proofs.Common.{◌≡◌, refl, sym, ◌∙◌, ap, Bool, true, false, ◌&&◌, cond, List, [], ◌∷◌, ℤ, int_le, int_lt, arith, IsTrue}
+use Rattle.std.proofs.lemmas.Int.{ints}
+use Rattle.lost_spec.specs.Ring.{Point, edges, spans, last_after, is_closed}
+use Rattle.lost_geo.specs.Laws.{is_just_one, SpannedEvenly}
+use Rattle.lost_geo.proofs.Closed.{lat-last_after}
+use Rattle.lost_geo.proofs.Parity.{odd_count, odd_count-cons}
+
+-- from low up to before high: at or above just one of the two
+between : (low high z : ℤ) → int_le low high ≡ true → (int_le low z && int_lt z high) ≡ is_just_one (int_le low z) (int_le high z)
+between low high z order = grind (arith, ints)
+
+between_down : (low high z : ℤ) → int_le high low ≡ false → (int_le low z && int_lt z high) ≡ is_just_one (int_le high z) (int_le low z)
+between_down low high z order = grind (arith, ints)
+
+spans_by : (up : Bool) (a b p : Point) → int_le a.lat b.lat ≡ up →
+    (int_le (cond up a b).lat p.lat && int_lt p.lat (cond up b a).lat) ≡ is_just_one (int_le a.lat p.lat) (int_le b.lat p.lat)
+spans_by true a b p order = between a.lat b.lat p.lat order
+spans_by false a b p order = between_down b.lat a.lat p.lat order
+
+pub spans-is : (a b p : Point) → spans (a, b) p ≡ is_just_one (int_le a.lat p.lat) (int_le b.lat p.lat)
+spans-is a b p = spans_by (int_le a.lat b.lat) a b p refl
+
+just_one_joined : (a b c : Bool) → is_just_one (is_just_one a b) (is_just_one b c) ≡ is_just_one a c
+just_one_joined true true true = refl
+just_one_joined true true false = refl
+just_one_joined true false true = refl
+just_one_joined true false false = refl
+just_one_joined false true true = refl
+just_one_joined false true false = refl
+just_one_joined false false true = refl
+just_one_joined false false false = refl
+
+just_one_same : (a : Bool) → false ≡ is_just_one a a
+just_one_same true = refl
+just_one_same false = refl
+
+-- the number is odd just where the latitude is between those of the two ends of the list
+spanned : (a : Point) (rest : List Point) (p : Point) →
+    odd_count (λ e. spans e p) (edges (a ∷ rest)) ≡ is_just_one (int_le a.lat p.lat) (int_le (last_after a rest).lat p.lat)
+spanned a [] p = just_one_same (int_le a.lat p.lat)
+spanned a (b ∷ rest) p =
+    odd_count-cons (λ e. spans e p) (a, b) (edges (b ∷ rest))
+    ∙ ap (λ (odd : Bool). is_just_one odd (odd_count (λ e. spans e p) (edges (b ∷ rest)))) (spans-is a b p)
+    ∙ ap (is_just_one (is_just_one (int_le a.lat p.lat) (int_le b.lat p.lat))) (spanned b rest p)
+    ∙ just_one_joined (int_le a.lat p.lat) (int_le b.lat p.lat) (int_le (last_after b rest).lat p.lat)
+
+pub spanned_evenly : SpannedEvenly
+spanned_evenly [] p closed = refl
+spanned_evenly (a ∷ rest) p closed =
+    spanned a rest p
+    ∙ ap (λ (z : ℤ). is_just_one (int_le a.lat p.lat) (int_le z p.lat)) (lat-last_after a rest closed)
+    ∙ sym (just_one_same (int_le a.lat p.lat))

@@ -1,0 +1,7 @@
+use Rattle.lost_geo.proofs.Exact.{AreExact-ring}
+use Rattle.lost_geo.proofs.polygon.Polygon.bounds.Goals as goal
+
+pub returns-clause-exact : goal.returns-clause-exact
+returns-clause-exact c =
+    rw (← c.self.view_is)
+    (AreExact-ring c.self.inside.bounds c.self.inside.ring.items c.self.invariant.is_ring c.self.invariant.exact)

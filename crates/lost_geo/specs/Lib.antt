@@ -1,0 +1,4 @@
+pub mod Ranges
+pub mod Sides
+pub mod Bounds
+pub mod Laws

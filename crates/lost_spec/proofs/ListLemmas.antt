@@ -1,0 +1,8 @@
+-- What holds of each thing of a list.
+use Rattle.std.specs.Prelude.{List, [], ◌∷◌}
+use Rattle.std.specs.List.{AllByRecursion}
+
+-- what follows from P holds of each thing where P does
+pub AllByRecursion-weaker : {Thing : Type 0} (P Q : Thing → Type 0) → ((x : Thing) → P x → Q x) → (xs : List Thing) → AllByRecursion P xs → AllByRecursion Q xs
+AllByRecursion-weaker P Q weaker [] all = tt
+AllByRecursion-weaker P Q weaker (x ∷ xs) all = (weaker x all.0, AllByRecursion-weaker P Q weaker xs all.1)

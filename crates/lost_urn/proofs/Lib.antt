@@ -1,0 +1,12 @@
+pub mod LabelLemmas
+pub mod DotLemmas
+pub mod FaultLemmas
+pub mod SpellingLemmas
+pub mod RunLemmas
+pub mod ServiceLemmas
+pub mod PrefixLemmas
+pub mod ReadLemmas
+pub mod KeptLemmas
+pub mod BelowLemmas
+pub mod CutLemmas
+pub mod OrderLemmas

@@ -1,0 +1,14 @@
+//! Service URNs (RFC 5031): reading them, their text, and how they lie above and below one another.
+#![tactic(auto)]
+
+mod label;
+pub mod laws;
+mod spelling;
+mod traits;
+mod urn;
+
+pub use lost_spec::faults::UrnError;
+pub use urn::ServiceUrn;
+
+#[cfg(test)]
+mod tests;

@@ -1,0 +1,119 @@
+//! A service, kept as its text.
+ghost use Rattle.std.specs.Prelude.{◌≡◌, ◌≢◌, ◌≤◌, IfOk, IfErr, IsErr, IsTrue, length, take, string_bytes};
+ghost use Rattle.std.specs.List.{join_with_byte};
+ghost use Rattle.std.specs.Str.{IsAscii};
+ghost use Rattle.lost_spec.specs.Text.{lowered};
+ghost use Rattle.lost_spec.specs.Service.{read_service, service_text, is_service, is_at_or_below, split_at_dots};
+
+use crate::spelling::count_labels;
+use lost_spec::faults::UrnError;
+use std::alloc::{AllocError, Global};
+use std::marker::Model;
+
+/// A service URN (RFC 5031), as the list of its labels, the topmost first. There are 1 to 8 labels, each of 1 to
+/// 63 lower-case letters, digits and hyphens, with no hyphen at either end (the bounds are an own rule).
+#[derive(Drop, Debug)]
+pub struct ServiceUrn {
+    text: String,
+    depth: usize,
+}
+
+impl Model for ServiceUrn {
+    ghost use Rattle.std.specs.Prelude.{string_bytes};
+    ghost use Rattle.lost_spec.specs.Service.{Service};
+    ghost use Rattle.lost_urn.specs.Kept.{service_of, IsKept};
+
+    ghost Value = { Service };
+
+    ghost view = { λ u. service_of (string_bytes u.text) };
+
+    ghost invariant = { λ u. IsKept (string_bytes u.text) u.depth };
+}
+
+impl ServiceUrn {
+    /// Reads a service URN in any case.
+    pub fn parse(alloc: Global, text: &[u8]) -> Result<ServiceUrn, UrnError>
+        ensures ok { IfOk result (λ s. read_service text.now ≡ Ok s) }
+        ensures err { IfErr result (λ e. e ≢ UrnError.Memory → read_service text.now ≡ Err e) }
+        ensures refused { IsErr (read_service text.now) → result ≡ read_service text.now }
+    {
+        let depth = count_labels(text)?;
+        let text = to_lowercase(alloc, text).map_err(|_| UrnError::Memory)?;
+        Ok(ServiceUrn { text, depth })
+    }
+
+    /// The text.
+    pub fn text(&self) -> &str
+        ensures text { result.now ≡ service_text self.now }
+        ensures well_formed { IsTrue (is_service self.now) }
+    {
+        self.text.as_str()
+    }
+
+    /// The number of labels.
+    pub fn depth(&self) -> usize
+        ensures { result ≡ length self.now }
+    {
+        self.depth
+    }
+
+    /// Whether the labels of `other` are a prefix of those of `self`.
+    pub fn is_at_or_below(&self, other: &ServiceUrn) -> bool
+        ensures { result ≡ is_at_or_below self.now other.now }
+    {
+        match self.text().as_bytes().strip_prefix(other.text().as_bytes()) {
+            Some(rest) => rest.is_empty() || rest.starts_with(b"."),
+            None => false,
+        }
+    }
+
+    /// The first `n` labels.
+    pub fn cut(&self, n: usize) -> Result<ServiceUrn, AllocError>
+        requires some { 1 ≤ n }
+        requires within { n ≤ length self.now }
+        ensures { IfOk result (λ s. s ≡ take n self.now) }
+    {
+        let text = self.text();
+        let end = end_of_labels(text.as_bytes(), n);
+        let text = String::from_str(*self.text.allocator(), &text[..end])?;
+        Ok(ServiceUrn { text, depth: n })
+    }
+
+    /// A copy.
+    pub fn clone(&self) -> Result<ServiceUrn, AllocError>
+        ensures { IfOk result (λ s. s ≡ self.now) }
+    {
+        let text = self.text.clone()?;
+        Ok(ServiceUrn {
+            text,
+            depth: self.depth,
+        })
+    }
+}
+
+/// Where the first `n` labels end: at the `n`th dot, or at the end of the text.
+fn end_of_labels(text: &[u8], n: usize) -> usize
+    requires { 1 ≤ n }
+    ensures within { result ≤ length text.now }
+    ensures front { take result text.now ≡ join_with_byte 46 (take n (split_at_dots text.now)) }
+{
+    let mut left = n;
+    for (at, byte) in text.iter().enumerate() {
+        if *byte == b'.' {
+            left -= 1;
+            if left == 0 {
+                return at;
+            }
+        }
+    }
+    text.len()
+}
+
+fn to_lowercase(alloc: Global, text: &[u8]) -> Result<String, AllocError>
+    requires { IsAscii text.now }
+    ensures { IfOk result (λ s. string_bytes s ≡ lowered text.now) }
+{
+    let mut lower = String::from_str(alloc, str::from_utf8(text).unwrap())?;
+    lower.make_ascii_lowercase();
+    Ok(lower)
+}
