@@ -1,2 +1,3 @@
 pub mod LabelLemmas
 pub mod SourceLemmas
+pub mod CalendarLemmas

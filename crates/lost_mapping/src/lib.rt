@@ -1,6 +1,7 @@
 //! What names a mapping and says how long it holds (RFC 5222, section 5): sources, stamps, moments and identities.
 #![tactic(auto)]
 
+mod calendar;
 mod labels;
 mod moment;
 mod source;
