@@ -1,5 +1,5 @@
 -- The calendar of `jiff`, which counts its years from -10000, and the one of the definitions, which counts from year 1.
-use Rattle.std.proofs.Common.{◌≡◌, ℕ, ◌+◌, ◌-◌, ◌≤◌, zero, suc, Bool, true, false, ◌&&◌, refl, sym, ap, arith, ℤ, pos, ◌-ℤ◌, ◌+ℤ◌, unsigned_abs}
+use Rattle.std.proofs.Common.{◌≡◌, ℕ, ◌+◌, ◌-◌, ◌≤◌, zero, suc, true, false, ◌&&◌, refl, sym, ap, arith, ℤ, pos, ◌-ℤ◌, ◌+ℤ◌, unsigned_abs}
 use Rattle.std.proofs.lemmas.Bool.Decides.{nat_tests}
 use Rattle.jiff_core.specs.Calendar as jiff
 use Rattle.jiff_core.proofs.CalendarLemmas.{days_from_civil-day_count}
@@ -7,6 +7,7 @@ use Rattle.jiff_core.proofs.MarchLemmas.{days_of_years-march_days}
 use Rattle.jiff_core.proofs.SignedLemmas.{signed_arith}
 use Rattle.lost_spec.specs.Text.{is_between}
 use Rattle.lost_spec.specs.Moment.{days_in_month, days_of_years, days_of_months, day_number, is_date}
+use Rattle.lost_mapping.proofs.BoolLemmas.{not_true}
 
 -- ---- the days of years and of months
 
@@ -63,10 +64,6 @@ jiff_has y m d h =
 pub date_found : (y m d : ℕ) (year month day : ℤ) → year ≡ pos y → month ≡ pos m → day ≡ pos d → 1 ≤ y → jiff.IsDate year month day → true ≡ is_date y m d
 date_found y m d year month day year_is month_is day_is low h =
     sym (date_exists y m d low (rw year_is at (rw month_is at (rw day_is at h))))
-
-not_true : (b : Bool) → (b ≡ true → ⊥) → false ≡ b
-not_true true h = absurd (h refl)
-not_true false h = refl
 
 pub no_date : (y m d : ℕ) (year month day : ℤ) → year ≡ pos y → month ≡ pos m → day ≡ pos d → ¬ (jiff.IsDate year month day) → false ≡ is_date y m d
 no_date y m d year month day year_is month_is day_is h =

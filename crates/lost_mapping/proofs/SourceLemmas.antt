@@ -15,6 +15,7 @@ use Rattle.lost_spec.specs.Text.{Text, lowered, is_between}
 use Rattle.lost_spec.specs.Service.{is_label_byte, label_fault, split_at_dots}
 use Rattle.lost_spec.specs.Mapping.{is_source}
 use Rattle.lost_mapping.specs.Source.{IsLowerSource}
+use Rattle.lost_mapping.proofs.BoolLemmas.{both_true}
 use Rattle.lost_mapping.proofs.LabelLemmas.{length-lowered}
 
 -- ---- lowering moves no dot
@@ -62,10 +63,6 @@ kept_lowered text lower is h = record {
 }
 
 -- ---- a source is ASCII
-
-both_true : (a b : Bool) → (a && b) ≡ true → (a ≡ true) × (b ≡ true)
-both_true true b h = (refl, h)
-both_true false b h = absurd (cc)
 
 second_passes : (a b : Bool) (x y : UrnError) (rest : Option UrnError) → is_none (cond a (Some x) (cond (not b) (Some y) rest)) ≡ true → b ≡ true
 second_passes true b x y rest h = absurd (cc)

@@ -1,1 +1,3 @@
 pub mod Source
+pub mod Stamp
+pub mod StampText

@@ -1,11 +1,16 @@
 //! What names a mapping and says how long it holds (RFC 5222, section 5): sources, stamps, moments and identities.
 #![tactic(auto)]
 
+mod ascii;
 mod calendar;
+mod digits;
 mod labels;
 mod moment;
 mod source;
+mod stamp;
+mod stamp_text;
 
 pub use lost_spec::faults::{MappingError, SourceError, StampError};
 pub use moment::Moment;
 pub use source::Source;
+pub use stamp::Stamp;

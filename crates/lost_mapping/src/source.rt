@@ -1,6 +1,5 @@
 //! Sources, and names of servers: labels joined by dots.
-ghost use Rattle.std.specs.Prelude.{◌≡◌, ◌↔◌, false, IsTrue, IfOk, OnOk, bytes_eq, string_bytes};
-ghost use Rattle.std.specs.Str.{IsAscii};
+ghost use Rattle.std.specs.Prelude.{◌≡◌, ◌↔◌, false, IsTrue, IfOk, OnOk, bytes_eq};
 ghost use Rattle.std.specs.Hash as fed;
 ghost use Rattle.std.proofs.Common.{rules};
 ghost use Rattle.std.specs.Cmp.{partial_equiv_from_equiv};
@@ -9,6 +8,7 @@ ghost use Rattle.std.specs.Cmp.Rules.{hashing};
 ghost use Rattle.lost_spec.specs.Text.{lowered};
 ghost use Rattle.lost_spec.specs.Mapping.{is_source};
 
+use crate::ascii::to_lowercase;
 use crate::labels::is_source;
 use lost_spec::faults::SourceError;
 use std::alloc::{AllocError, Global};
@@ -75,15 +75,6 @@ impl Source {
             text: self.text.clone()?,
         })
     }
-}
-
-fn to_lowercase(alloc: Global, text: &[u8]) -> Result<String, AllocError>
-    requires { IsAscii text.now }
-    ensures { IfOk result (λ s. string_bytes s ≡ lowered text.now) }
-{
-    let mut lower = String::from_str(alloc, str::from_utf8(text).unwrap())?;
-    lower.make_ascii_lowercase();
-    Ok(lower)
 }
 
 impl PartialEq for Source {
