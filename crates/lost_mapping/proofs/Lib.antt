@@ -6,3 +6,4 @@ pub mod DigitLemmas
 pub mod ShapeLemmas
 pub mod StampLemmas
 pub mod AsciiLemmas
+pub mod IdLemmas

@@ -1,3 +1,5 @@
+pub mod Expires
+pub mod Identity
 pub mod Source
 pub mod Stamp
 pub mod StampText
