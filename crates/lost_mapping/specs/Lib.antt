@@ -1,1 +1,6 @@
+pub mod Expires
+pub mod Identity
+pub mod Source
+pub mod Stamp
+pub mod StampText
 pub mod Texts
