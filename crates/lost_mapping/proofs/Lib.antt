@@ -2,8 +2,12 @@ pub mod AsciiLemmas
 pub mod BoolLemmas
 pub mod CalendarLemmas
 pub mod DigitLemmas
+mod DisplayNameLemmas
+mod HeadLemmas
 pub mod IdLemmas
 pub mod LabelLemmas
+mod PartsLemmas
+mod RegionLemmas
 pub mod ShapeLemmas
 pub mod SourceLemmas
 pub mod StampLemmas

@@ -1,5 +1,9 @@
 pub mod Expires
+pub mod Faults
+pub mod Fields
 pub mod Identity
+pub mod Parts
+pub mod Shape
 pub mod Source
 pub mod Stamp
 pub mod StampText

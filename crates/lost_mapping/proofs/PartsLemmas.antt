@@ -1,0 +1,114 @@
+-- The refusal of parts, group by group in the order of the checks, and the mapping of parts that are not refused.
+use Rattle.std.proofs.Common.{◌≡◌, ◌≢◌, ℕ, Bool, true, false, not, List, [], ◌∷◌, length, Option, Some, None, Result, Ok, Err, OnOk, arith, eqb-true, is_err, refl, sym, ap, ◌∙◌}
+use Rattle.std.specs.List.{list_all}
+use Rattle.std.specs.Option.{option_or}
+use Rattle.lost_spec.specs.declared.faults.MappingError.{MappingError}
+use Rattle.lost_spec.specs.declared.faults.MappingError.TheVariants.{BadSource, BadSourceId, BadStamp, BadExpires, BadService, BadUri, BadNumber, BadRegion, RegionMissing, TooLarge, BadKey, Memory}
+use Rattle.lost_spec.specs.Text.{Text, lowered, first_fault}
+use Rattle.lost_spec.specs.Service.{Service, read_service}
+use Rattle.lost_spec.specs.Ring.{Point}
+use Rattle.lost_spec.specs.Civic.{Pairs}
+use Rattle.lost_spec.specs.Moment.{Stamp, is_stamp, stamp_of}
+use Rattle.lost_spec.specs.Mapping.{Parts, Region, Mapping, Expires, expires_of, is_source, is_id, is_expires, are_uris, is_number, is_region, polygons_of, patterns_of, has_right_regions, has_right_key, is_too_large, parts_fault, mapping_of}
+use Rattle.lost_mapping.specs.Faults.{head_fault, contact_fault, regions_fault, has_right_count, is_oversized, shape_fault}
+use Rattle.lost_mapping.specs.Shape.{IsShaped}
+
+-- ---- groups
+
+-- what the regions and all that comes after them refuse
+abbrev rest_fault : Parts → Option MappingError
+rest_fault p = option_or (regions_fault p.regions) (shape_fault p.is_default (length p.regions) (polygons_of p.regions) (patterns_of p.regions) p.display_names p.key)
+
+groups : (a b c d e f g h i j k : Bool)
+    → first_fault ((a, BadSource) ∷ (b, BadSourceId) ∷ (c, BadStamp) ∷ (d, BadExpires) ∷ (e, BadService) ∷ (f, BadUri) ∷ (g, BadNumber) ∷ (h, BadRegion) ∷ (i, RegionMissing) ∷ (j, TooLarge) ∷ (k, BadKey) ∷ [])
+    ≡ option_or
+    (option_or (first_fault ((a, BadSource) ∷ (b, BadSourceId) ∷ []))
+    (option_or (first_fault ((c, BadStamp) ∷ [])) (option_or (first_fault ((d, BadExpires) ∷ [])) (first_fault ((e, BadService) ∷ [])))))
+    (option_or (first_fault ((f, BadUri) ∷ (g, BadNumber) ∷ []))
+    (option_or (first_fault ((h, BadRegion) ∷ [])) (first_fault ((i, RegionMissing) ∷ (j, TooLarge) ∷ (k, BadKey) ∷ []))))
+groups true b c d e f g h i j k = refl
+groups false true c d e f g h i j k = refl
+groups false false true d e f g h i j k = refl
+groups false false false true e f g h i j k = refl
+groups false false false false true f g h i j k = refl
+groups false false false false false true g h i j k = refl
+groups false false false false false false true h i j k = refl
+groups false false false false false false false true i j k = refl
+groups false false false false false false false false true j k = refl
+groups false false false false false false false false false true k = refl
+groups false false false false false false false false false false true = refl
+groups false false false false false false false false false false false = refl
+
+-- by the number of regions, a default has none, and another mapping has one
+right_count : (is_default : Bool) (regions : List Region) → has_right_regions is_default regions ≡ has_right_count is_default (length regions)
+right_count true regions = refl
+right_count false regions = refl
+
+parts_fault-groups : (p : Parts) → parts_fault p ≡ option_or (head_fault p) (option_or (contact_fault p.uris p.number) (rest_fault p))
+unfolding parts_fault
+parts_fault-groups p =
+    groups (not (is_source p.source)) (not (is_id p.source_id)) (not (is_stamp p.last_updated)) (not (is_expires p.expires)) (is_err (read_service p.service)) (not (are_uris p.uris)) (not (is_number p.number)) (not (list_all is_region p.regions)) (not (has_right_regions p.is_default p.regions)) (is_too_large p) (not (has_right_key p.is_default p.key))
+    ∙ ap (λ right. option_or (head_fault p) (option_or (contact_fault p.uris p.number) (option_or (regions_fault p.regions) (first_fault ((not right, RegionMissing) ∷ (is_too_large p, TooLarge) ∷ (not (has_right_key p.is_default p.key), BadKey) ∷ []))))) (right_count p.is_default p.regions)
+
+-- ---- the first group that refuses
+
+pub refused_by_head : (p : Parts) (e : MappingError) → (e ≢ Memory → head_fault p ≡ Some e) → e ≢ Memory → parts_fault p ≡ Some e
+refused_by_head p e head other =
+    parts_fault-groups p ∙ ap (λ first. option_or first (option_or (contact_fault p.uris p.number) (rest_fault p))) (head other)
+
+after_head : (p : Parts) → head_fault p ≡ None → parts_fault p ≡ option_or (contact_fault p.uris p.number) (rest_fault p)
+after_head p head = parts_fault-groups p ∙ ap (λ first. option_or first (option_or (contact_fault p.uris p.number) (rest_fault p))) head
+
+pub refused_by_contact : (p : Parts) (e : MappingError) → head_fault p ≡ None → (e ≢ Memory → contact_fault p.uris p.number ≡ Some e) → e ≢ Memory → parts_fault p ≡ Some e
+refused_by_contact p e head contact other = after_head p head ∙ ap (λ first. option_or first (rest_fault p)) (contact other)
+
+after_contact : (p : Parts) → head_fault p ≡ None → contact_fault p.uris p.number ≡ None → parts_fault p ≡ rest_fault p
+after_contact p head contact = after_head p head ∙ ap (λ first. option_or first (rest_fault p)) contact
+
+pub refused_by_regions : (p : Parts) (e : MappingError) → head_fault p ≡ None → contact_fault p.uris p.number ≡ None → (e ≢ Memory → regions_fault p.regions ≡ Some e) → e ≢ Memory → parts_fault p ≡ Some e
+refused_by_regions p e head contact regions other =
+    after_contact p head contact ∙ ap (λ first. option_or first (shape_fault p.is_default (length p.regions) (polygons_of p.regions) (patterns_of p.regions) p.display_names p.key)) (regions other)
+
+-- what the shape refuses is what the parts refuse, once nothing before it does
+pub after_regions : (p : Parts) (count : ℕ) (polygons : List (List Point)) (patterns : List Pairs) → head_fault p ≡ None → contact_fault p.uris p.number ≡ None → regions_fault p.regions ≡ None → count ≡ length p.regions → polygons ≡ polygons_of p.regions → patterns ≡ patterns_of p.regions → parts_fault p ≡ shape_fault p.is_default count polygons patterns p.display_names p.key
+after_regions p count polygons patterns head contact regions counted polygons_are patterns_are =
+    after_contact p head contact
+    ∙ ap (λ first. option_or first (shape_fault p.is_default (length p.regions) (polygons_of p.regions) (patterns_of p.regions) p.display_names p.key)) regions
+    ∙ sym (rw (counted, polygons_are, patterns_are) refl)
+
+-- ---- a mapping that is not refused
+
+pub mapping_of-is : (p : Parts) (source source_id : Text) (stamp : Stamp) (expires : Expires) (service : Service) (polygons : List (List Point)) (patterns : List Pairs) → source ≡ lowered p.source → source_id ≡ p.source_id → stamp ≡ stamp_of p.last_updated → expires ≡ expires_of p.expires → read_service p.service ≡ Ok service → polygons ≡ polygons_of p.regions → patterns ≡ patterns_of p.regions
+    → record { source = source; source_id = source_id; stamp = stamp; expires = expires; service = service; uris = p.uris; number = p.number; polygons = polygons; patterns = patterns; is_default = p.is_default; display_names = p.display_names; key = p.key } ≡ mapping_of p
+unfolding mapping_of
+mapping_of-is p source source_id stamp expires service polygons patterns source_is source_id_is stamp_is expires_is service_is polygons_are patterns_are =
+    rw (source_is, source_id_is, stamp_is, expires_is, service_is, polygons_are, patterns_are) refl
+
+none_of_three : (a b c : Bool) → first_fault ((not a, RegionMissing) ∷ (b, TooLarge) ∷ (not c, BadKey) ∷ []) ≡ None → (a ≡ true) × (c ≡ true)
+none_of_three true false true e = (refl, refl)
+none_of_three false b c e = (cc, cc)
+none_of_three true true c e = (refl, cc)
+none_of_three true false false e = (refl, cc)
+
+no_regions : (regions : List Region) → has_right_count true (length regions) ≡ true → (polygons_of regions ≡ []) × (patterns_of regions ≡ [])
+no_regions [] e = (refl, refl)
+no_regions (region ∷ rest) e = let zero : length (region ∷ rest) ≡ 0 = eqb-true (length (region ∷ rest)) 0 e in absurd (omega arith)
+
+bare_default : (is_default : Bool) (regions : List Region) → has_right_count is_default (length regions) ≡ true → is_default ≡ true → (polygons_of regions ≡ []) × (patterns_of regions ≡ [])
+bare_default true regions right default = no_regions regions right
+bare_default false regions right default = (cc, cc)
+
+pub shaped_where_accepted : (m : Mapping) (p : Parts) (count : ℕ) → m.is_default ≡ p.is_default → m.key ≡ p.key → m.polygons ≡ polygons_of p.regions → m.patterns ≡ patterns_of p.regions → count ≡ length p.regions → shape_fault p.is_default count m.polygons m.patterns p.display_names p.key ≡ None → IsShaped m
+shaped_where_accepted m p count default_is key_is polygons_are patterns_are counted accepted =
+    let right = none_of_three (has_right_count p.is_default count) (is_oversized m.polygons m.patterns p.display_names) (has_right_key p.is_default p.key) accepted in
+    let right_regions : has_right_count p.is_default (length p.regions) ≡ true = rw (← counted) right.0 in
+    record {
+      key = rw (default_is, key_is) right.1;
+      polygons = λ default. polygons_are ∙ (bare_default p.is_default p.regions right_regions (sym default_is ∙ default)).0;
+      patterns = λ default. patterns_are ∙ (bare_default p.is_default p.regions right_regions (sym default_is ∙ default)).1;
+    }
+
+-- what holds at any rate holds of an `Ok`
+pub on_ok_always : {Made Fault P : Type 0} (r : Result Made Fault) → P → OnOk r P
+on_ok_always (Ok made) holds = holds
+on_ok_always (Err fault) holds = tt

@@ -1,0 +1,66 @@
+-- The refusals of parts, in groups that one function each checks, in the order of their codes.
+use Rattle.std.specs.Prelude.{◌≡◌, ◌≢◌, ℕ, Bool, true, false, not, ◌||◌, List, [], ◌∷◌, length, Option, None, Some, is_none, Result, Ok, Err, is_err, ℤ, nat_lt, ◌==◌}
+use Rattle.std.specs.List.{list_all, list_any}
+use Rattle.std.specs.Option.{option_or}
+use Rattle.lost_spec.specs.declared.faults.MappingError.{MappingError}
+use Rattle.lost_spec.specs.declared.faults.MappingError.TheVariants.{BadStamp, BadExpires, BadService, BadUri, BadNumber, BadRegion, RegionMissing, TooLarge, BadKey, Memory}
+use Rattle.lost_spec.specs.Text.{Text, first_fault}
+use Rattle.lost_spec.specs.Service.{read_service}
+use Rattle.lost_spec.specs.Ring.{Point, point_fault}
+use Rattle.lost_spec.specs.Civic.{Pairs}
+use Rattle.lost_spec.specs.Moment.{is_stamp}
+use Rattle.lost_mapping.specs.Identity.{identity_fault}
+use Rattle.lost_spec.specs.Mapping.{Parts, Region, DisplayName, is_expires, are_uris, is_number, is_region, has_right_key}
+
+-- the answer is this refusal, or none where this is none, but for want of memory
+abbrev pub Refuses : {Made : Type 0} → Result Made MappingError → Option MappingError → Type 0
+Refuses (Ok made) fault = fault ≡ None
+Refuses (Err refusal) fault = refusal ≢ Memory → fault ≡ Some refusal
+
+-- the refusal of one check
+abbrev pub fault_if : Bool → MappingError → Option MappingError
+fault_if fails fault = first_fault ((fails, fault) ∷ [])
+
+-- ---- what stands at the head
+
+abbrev pub terms_fault : Parts → Option MappingError
+terms_fault parts =
+    option_or (fault_if (not (is_stamp parts.last_updated)) BadStamp) (
+    option_or (fault_if (not (is_expires parts.expires)) BadExpires) (fault_if (is_err (read_service parts.service)) BadService))
+
+abbrev pub head_fault : Parts → Option MappingError
+head_fault parts = option_or (identity_fault parts.source parts.source_id) (terms_fault parts)
+
+-- ---- how the service is reached
+
+abbrev pub contact_fault : List Text → Option Text → Option MappingError
+contact_fault uris number = first_fault ((not (are_uris uris), BadUri) ∷ (not (is_number number), BadNumber) ∷ [])
+
+-- ---- where the mapping holds
+
+-- a latitude and a longitude within their ranges
+abbrev pub is_position : ℤ × ℤ → Bool
+is_position position = is_none (point_fault position.0 position.1)
+
+abbrev pub regions_fault : List Region → Option MappingError
+regions_fault regions = fault_if (not (list_all is_region regions)) BadRegion
+
+-- ---- what does not go together, and what is too much
+
+-- a default has no region, and any other mapping has one: by their number
+abbrev pub has_right_count : Bool → ℕ → Bool
+has_right_count true count = count == 0
+has_right_count false count = nat_lt 0 count
+
+-- too many polygons, patterns or display names, or a display name that is too long
+abbrev pub is_oversized : List (List Point) → List Pairs → List DisplayName → Bool
+is_oversized polygons patterns names =
+    nat_lt 64 (length polygons) || nat_lt 256 (length patterns) || nat_lt 16 (length names)
+    || list_any (λ name. nat_lt 1024 (length name.lang) || nat_lt 1024 (length name.text)) names
+
+abbrev pub shape_fault : Bool → ℕ → List (List Point) → List Pairs → List DisplayName → Option Text → Option MappingError
+shape_fault is_default count polygons patterns names key =
+    first_fault (
+    (not (has_right_count is_default count), RegionMissing)
+    ∷ (is_oversized polygons patterns names, TooLarge)
+    ∷ (not (has_right_key is_default key), BadKey) ∷ [])

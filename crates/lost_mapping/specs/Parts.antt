@@ -1,0 +1,38 @@
+-- The parts of a mapping as the definitions see them: texts by their bytes.
+use Rattle.std.specs.Prelude.{List, map, option_map, string_bytes}
+use Rattle.lost_spec.specs.Mapping as spec
+use Rattle.lost_civic.specs.Pairs.{seen_pairs}
+use Rattle.lost_mapping.specs.declared.parts.DisplayName.{DisplayName}
+use Rattle.lost_mapping.specs.declared.parts.Parts.{Parts}
+use Rattle.lost_mapping.specs.declared.parts.Region.{Region}
+use Rattle.lost_mapping.specs.declared.parts.Region.TheVariants.{Ring, Pattern, Unreadable}
+use Rattle.lost_mapping.specs.Texts.{texts_of}
+
+abbrev pub region_of : Region → spec.Region
+region_of (Ring positions) = spec.RingRegion positions.items
+region_of (Pattern pairs) = spec.PatternRegion (seen_pairs pairs.items)
+region_of Unreadable = spec.UnreadableRegion
+
+abbrev pub regions_of : List Region → List spec.Region
+regions_of regions = map region_of regions
+
+abbrev pub display_name_of : DisplayName → spec.DisplayName
+display_name_of name = record { lang = string_bytes name.lang; text = string_bytes name.text }
+
+abbrev pub display_names_of : List DisplayName → List spec.DisplayName
+display_names_of names = map display_name_of names
+
+abbrev pub parts_of : Parts → spec.Parts
+parts_of parts = record {
+  source = string_bytes parts.source;
+  source_id = string_bytes parts.source_id;
+  last_updated = string_bytes parts.last_updated;
+  expires = string_bytes parts.expires;
+  service = string_bytes parts.service;
+  uris = texts_of parts.uris.items;
+  number = option_map string_bytes parts.number;
+  regions = regions_of parts.regions.items;
+  is_default = parts.is_default;
+  display_names = display_names_of parts.display_names.items;
+  key = option_map string_bytes parts.key;
+}

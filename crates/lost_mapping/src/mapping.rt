@@ -1,0 +1,237 @@
+//! A mapping, built from its parts.
+ghost use Rattle.std.specs.Prelude.{◌≡◌, ◌≢◌, None, IfOk, IfErr, OnOk};
+ghost use Rattle.std.specs.Option.{option_copied};
+ghost use Rattle.lost_spec.specs.Mapping.{parts_fault, mapping_of, is_live};
+ghost use Rattle.lost_spec.specs.Book.{identity_of};
+ghost use Rattle.lost_mapping.specs.Expires.{expires_seen};
+ghost use Rattle.lost_mapping.specs.Faults.{Refuses, contact_fault};
+ghost use Rattle.lost_mapping.specs.Parts.{parts_of, display_names_of};
+ghost use Rattle.lost_mapping.specs.Shape.{IsShaped};
+ghost use Rattle.lost_mapping.specs.Texts.{texts_of};
+
+use crate::expires::Expires;
+use crate::head::Head;
+use crate::identity::Identity;
+use crate::moment::Moment;
+use crate::number::is_number;
+use crate::parts::{DisplayName, Parts};
+use crate::regions::Areas;
+use crate::shape::check_shape;
+use crate::stamp::Stamp;
+use crate::uris::are_uris;
+use lost_civic::CivicPattern;
+use lost_geo::Polygon;
+use lost_spec::faults::MappingError;
+use lost_urn::ServiceUrn;
+use std::alloc::{AllocError, Global};
+use std::marker::Model;
+use std::sync::Arc;
+
+/// A mapping (RFC 5222, section 5). It never changes and is shared, so a copy costs a pointer. Contracts see it as
+/// the record `Mapping`.
+#[derive(Drop)]
+pub struct Mapping {
+    inner: Arc<Fields>,
+}
+
+#[derive(Drop)]
+struct Fields {
+    identity: Identity,
+    stamp: Stamp,
+    expires: Expires,
+    service: ServiceUrn,
+    uris: Vec<String>,
+    number: Option<String>,
+    polygons: Vec<Polygon>,
+    patterns: Vec<CivicPattern>,
+    is_default: bool,
+    display_names: Vec<DisplayName>,
+    key: Option<String>,
+}
+
+impl Model for Mapping {
+    ghost use Rattle.std.specs.Arc.{arc_value};
+    ghost use Rattle.lost_spec.specs.Mapping as spec;
+    ghost use Rattle.lost_mapping.specs.Fields.{mapping_with};
+    ghost use Rattle.lost_mapping.specs.Shape.{IsShaped};
+
+    ghost Value = { spec.Mapping };
+
+    ghost view = { λ m. mapping_with (arc_value m.inner) };
+
+    ghost invariant = { λ m. IsShaped (mapping_with (arc_value m.inner)) };
+}
+
+impl Mapping {
+    ghost use Rattle.lost_mapping.specs.Fields.{mapping_with};
+
+    /// The mapping of these parts.
+    ///
+    /// # Errors
+    ///
+    /// The first that applies, in the order of the codes: [`MappingError::BadSource`] to [`MappingError::BadService`]
+    /// for the text of that name, [`MappingError::BadUri`] unless there are 1 to 16 URIs and no scheme twice in any
+    /// case, [`MappingError::BadNumber`], [`MappingError::BadRegion`] where a region is no polygon and no civic
+    /// pattern, [`MappingError::RegionMissing`] for a default with a region or another mapping without one,
+    /// [`MappingError::TooLarge`] for more than 64 polygons, 256 patterns or 16 display names, or a language or text
+    /// of more than 1,024 bytes in one, [`MappingError::BadKey`] where a default has a key, or another mapping has
+    /// none or a bad one. [`MappingError::Memory`], for want of memory, may come in place of any other answer.
+    pub fn build(alloc: Global, parts: Parts) -> Result<Mapping, MappingError>
+        ensures accepted { OnOk result (parts_fault (parts_of parts) ≡ None) }
+        ensures mapping { IfOk result (λ mapping. mapping ≡ mapping_of (parts_of parts)) }
+        ensures refused { IfErr result (λ e. e ≢ MappingError.Memory → parts_fault (parts_of parts) ≡ Some e) }
+    {
+        let head = Head::read(alloc, &parts)?;
+        check_contact(parts.uris.as_slice(), parts.number.as_deref())?;
+        let regions = parts.regions.len();
+        let areas = Areas::read(alloc, parts.regions)?;
+        check_shape(
+            parts.is_default,
+            regions,
+            &areas,
+            parts.display_names.as_slice(),
+            parts.key.as_deref(),
+        )?;
+        Mapping::share(
+            alloc,
+            Fields {
+                identity: head.identity,
+                stamp: head.stamp,
+                expires: head.expires,
+                service: head.service,
+                uris: parts.uris,
+                number: parts.number,
+                polygons: areas.polygons,
+                patterns: areas.patterns,
+                is_default: parts.is_default,
+                display_names: parts.display_names,
+                key: parts.key,
+            },
+        )
+    }
+
+    /// The mapping with these fields.
+    fn share(alloc: Global, fields: Fields) -> Result<Mapping, MappingError>
+        requires { IsShaped (mapping_with fields) }
+        ensures mapping { IfOk result (λ mapping. mapping ≡ mapping_with fields) }
+        ensures refuses { Refuses result None }
+    {
+        match Arc::new(alloc, fields) {
+            Ok(inner) => Ok(Mapping { inner }),
+            Err(_) => Err(MappingError::Memory),
+        }
+    }
+
+    /// What names the mapping over the whole server (RFC 5222, section 5.1; own scope).
+    pub fn identity(&self) -> &Identity
+        ensures { result.now ≡ identity_of self.now }
+    {
+        &self.inner.identity
+    }
+
+    /// When the mapping was last changed (RFC 5222, section 5.1).
+    pub fn stamp(&self) -> &Stamp
+        ensures { result.now ≡ self.now.stamp }
+    {
+        &self.inner.stamp
+    }
+
+    /// Until when the mapping holds (RFC 5222, section 5.2).
+    pub fn expires(&self) -> &Expires
+        ensures { expires_seen result.now ≡ self.now.expires }
+    {
+        &self.inner.expires
+    }
+
+    /// The service (RFC 5222, section 5.4).
+    pub fn service(&self) -> &ServiceUrn
+        ensures { result.now ≡ self.now.service }
+    {
+        &self.inner.service
+    }
+
+    /// Where the service is reached, as given (RFC 5222, section 5.8).
+    pub fn uris(&self) -> &[String]
+        ensures { texts_of result.now ≡ self.now.uris }
+    {
+        &self.inner.uris
+    }
+
+    /// The number to dial for the service, where there is one (RFC 5222, section 5.7).
+    pub fn number(&self) -> Option<&str>
+        ensures { option_copied result ≡ self.now.number }
+    {
+        self.inner.number.as_deref()
+    }
+
+    /// Names to show for the service, as given (RFC 5222, section 5.3).
+    pub fn display_names(&self) -> &[DisplayName]
+        ensures { display_names_of result.now ≡ self.now.display_names }
+    {
+        &self.inner.display_names
+    }
+
+    /// The polygons where the mapping holds, in the order given (RFC 5222, section 5.5).
+    pub fn polygons(&self) -> &[Polygon]
+        ensures polygons { result.now ≡ self.now.polygons }
+        ensures is_shaped { IsShaped self.now }
+    {
+        &self.inner.polygons
+    }
+
+    /// The civic patterns where the mapping holds, in the order given (RFC 5222, section 5.5).
+    pub fn patterns(&self) -> &[CivicPattern]
+        ensures patterns { result.now ≡ self.now.patterns }
+        ensures is_shaped { IsShaped self.now }
+    {
+        &self.inner.patterns
+    }
+
+    /// What names the regions; a default has none, and any other mapping has one (RFC 5222, section 5.6; own rule).
+    pub fn key(&self) -> Option<&str>
+        ensures key { option_copied result ≡ self.now.key }
+        ensures is_shaped { IsShaped self.now }
+    {
+        self.inner.key.as_deref()
+    }
+
+    /// Whether the mapping is given where no other holds (own rule).
+    pub fn is_default(&self) -> bool
+        ensures is_default { result ≡ self.now.is_default }
+        ensures is_shaped { IsShaped self.now }
+    {
+        self.inner.is_default
+    }
+
+    /// Whether the mapping is live at an instant: it never ends, or it ends later (RFC 5222, section 5.2; own rule).
+    pub fn is_live(&self, moment: &Moment) -> bool
+        ensures { result ≡ is_live self.now moment.now }
+    {
+        self.inner.expires.is_live_at(moment)
+    }
+
+    /// The same mapping, or want of memory. It costs a pointer.
+    pub fn clone(&self) -> Result<Mapping, AllocError>
+        ensures { IfOk result (λ copy. copy ≡ self.now) }
+    {
+        Ok(Mapping {
+            inner: Arc::try_clone(&self.inner)?,
+        })
+    }
+}
+
+/// Refuses bad URIs, and then a bad number.
+fn check_contact(uris: &[String], number: Option<&str>) -> Result<(), MappingError>
+    ensures { Refuses result (contact_fault (texts_of uris.now) (option_copied number.entry)) }
+{
+    if !are_uris(uris) {
+        return Err(MappingError::BadUri);
+    }
+    if !is_number(number) {
+        return Err(MappingError::BadNumber);
+    }
+    Ok(())
+}
+
+#[cfg(test)]
+mod tests;
