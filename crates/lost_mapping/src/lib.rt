@@ -19,3 +19,6 @@ pub use lost_spec::faults::{MappingError, SourceError, StampError};
 pub use moment::Moment;
 pub use source::Source;
 pub use stamp::Stamp;
+
+#[cfg(test)]
+mod tests;
