@@ -28,3 +28,6 @@ pub use moment::Moment;
 pub use parts::{DisplayName, Parts, Region};
 pub use source::Source;
 pub use stamp::Stamp;
+
+#[cfg(test)]
+mod tests;
