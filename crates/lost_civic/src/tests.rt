@@ -6,7 +6,10 @@ use std::test::Fail;
 fn copied(alloc: Global, given: &[(&str, &str)]) -> Result<Vec<(String, String)>, AllocError> {
     let mut pairs = Vec::with_capacity(alloc, given.len())?;
     for (name, value) in given {
-        pairs.push((String::from_str(alloc, name)?, String::from_str(alloc, value)?))?;
+        pairs.push((
+            String::from_str(alloc, name)?,
+            String::from_str(alloc, value)?,
+        ))?;
     }
     Ok(pairs)
 }
@@ -36,7 +39,10 @@ fn largest(alloc: Global, count: usize) -> Result<Vec<(String, String)>, AllocEr
     for i in 1..count {
         pairs.push((format!(in alloc; "{i:0>512}")?, repeated(alloc, 'V', 512)?))?;
     }
-    pairs.push((String::from_str(alloc, "country")?, repeated(alloc, 'V', 512)?))?;
+    pairs.push((
+        String::from_str(alloc, "country")?,
+        repeated(alloc, 'V', 512)?,
+    ))?;
     Ok(pairs)
 }
 
@@ -52,9 +58,9 @@ const LEONIA: [(&str, &str); 6] = [
 #[test]
 fn the_table_of_names(rt: HostRuntime) {
     let names = [
-        "country", "A1", "A2", "A3", "A4", "A5", "A6", "PRM", "PRD", "RD", "STS", "POD", "POM", "RDSEC", "RDBR",
-        "RDSUBBR", "HNO", "HNS", "LMK", "LOC", "FLR", "NAM", "PC", "BLD", "UNIT", "ROOM", "SEAT", "PLC", "PCN",
-        "POBOX", "ADDCODE",
+        "country", "A1", "A2", "A3", "A4", "A5", "A6", "PRM", "PRD", "RD", "STS", "POD", "POM",
+        "RDSEC", "RDBR", "RDSUBBR", "HNO", "HNS", "LMK", "LOC", "FLR", "NAM", "PC", "BLD", "UNIT",
+        "ROOM", "SEAT", "PLC", "PCN", "POBOX", "ADDCODE",
     ];
     for (place, element) in Element::ALL.iter().enumerate() {
         assert_eq!(rt; element.index(), place);
@@ -62,7 +68,9 @@ fn the_table_of_names(rt: HostRuntime) {
         assert_eq!(rt; element.name(), names[place]);
         assert_eq!(rt; Element::by_name(names[place]), Some(*element));
     }
-    for name in ["", "a1", "Country", "COUNTRY", "A", "A7", "A1 ", "X", "POBOXEN", "é"] {
+    for name in [
+        "", "a1", "Country", "COUNTRY", "A", "A7", "A1 ", "X", "POBOXEN", "é",
+    ] {
         assert_eq!(rt; Element::by_name(name), None, "{name}");
     }
     assert!(rt; Element::Country < Element::A1);
@@ -76,7 +84,13 @@ fn patterns_and_an_address(rt: HostRuntime) -> Result<(), Fail> {
     let town = pattern(alloc, &[("A1", "NJ"), ("A3", "Leonia"), ("country", "US")])?;
     let house = pattern(
         alloc,
-        &[("A1", "NJ"), ("A3", "Leonia"), ("HNO", "5"), ("PC", "07605"), ("country", "US")],
+        &[
+            ("A1", "NJ"),
+            ("A3", "Leonia"),
+            ("HNO", "5"),
+            ("PC", "07605"),
+            ("country", "US"),
+        ],
     )?;
     assert!(rt; town.matches(&place));
     assert!(rt; !house.matches(&place));
@@ -120,10 +134,16 @@ fn refusals(alloc: Global, given: &[(&str, &str)]) -> (Option<CivicError>, Optio
 #[test]
 fn unknown_names(rt: HostRuntime) {
     let alloc = rt.alloc();
-    let unknown = (Some(CivicError::NoKnownElement), Some(CivicError::UnknownElement));
+    let unknown = (
+        Some(CivicError::NoKnownElement),
+        Some(CivicError::UnknownElement),
+    );
     assert_eq!(rt; refusals(alloc, &[("X", "1")]), unknown);
     assert_eq!(rt; refusals(alloc, &[("a1", "NJ"), ("", "")]), unknown);
-    let none = (Some(CivicError::NoKnownElement), Some(CivicError::NoKnownElement));
+    let none = (
+        Some(CivicError::NoKnownElement),
+        Some(CivicError::NoKnownElement),
+    );
     assert_eq!(rt; refusals(alloc, &[]), none);
     let beside = (None, Some(CivicError::UnknownElement));
     assert_eq!(rt; refusals(alloc, &[("X", "1"), ("A1", "")]), beside);
@@ -135,10 +155,16 @@ fn refusals_in_order(rt: HostRuntime) -> Result<(), Fail> {
     let alloc = rt.alloc();
     let twice = (Some(CivicError::Repeated), Some(CivicError::Repeated));
     assert_eq!(rt; refusals(alloc, &[("X", "1"), ("X", "1")]), twice);
-    assert_eq!(rt; refusals(alloc, &[("A1", "1"), ("PC", "2"), ("A1", "3")]), twice);
+    assert_eq!(rt;
+        refusals(alloc, &[("A1", "1"), ("PC", "2"), ("A1", "3")]),
+        twice
+    );
     let text = repeated(alloc, 'n', 513)?;
     let long = (Some(CivicError::TooLong), Some(CivicError::TooLong));
-    assert_eq!(rt; refusals(alloc, &[("A1", "1"), ("A1", text.as_str())]), long);
+    assert_eq!(rt;
+        refusals(alloc, &[("A1", "1"), ("A1", text.as_str())]),
+        long
+    );
     assert_eq!(rt; refusals(alloc, &[("X", ""), (text.as_str(), "")]), long);
     Ok(())
 }
@@ -223,8 +249,14 @@ fn keys_of_maps(rt: HostRuntime) -> Result<(), Fail> {
     places.insert(address(alloc, &LEONIA)?, 1)?;
     places.insert(address(alloc, &[("A1", "NJ")])?, 2)?;
     assert_eq!(rt; places.get(&address(alloc, &LEONIA)?).copied(), Some(1));
-    assert_eq!(rt; places.get(&address(alloc, &[("A1", "NJ")])?).copied(), Some(2));
-    assert_eq!(rt; places.get(&address(alloc, &[("A1", "nj")])?).copied(), None);
+    assert_eq!(rt;
+        places.get(&address(alloc, &[("A1", "NJ")])?).copied(),
+        Some(2)
+    );
+    assert_eq!(rt;
+        places.get(&address(alloc, &[("A1", "nj")])?).copied(),
+        None
+    );
     let mut elements = BTreeMap::new(alloc);
     let mut hashed = HashMap::new(alloc);
     for element in [Element::Pc, Element::Country, Element::A1] {
