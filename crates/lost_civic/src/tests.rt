@@ -126,46 +126,54 @@ fn pairs_as_given(rt: HostRuntime) -> Result<(), Fail> {
     Ok(())
 }
 
-/// What `from_pairs` of an address and of a pattern refuse.
-fn refusals(alloc: Global, given: &[(&str, &str)]) -> (Option<CivicError>, Option<CivicError>) {
-    (address(alloc, given).err(), pattern(alloc, given).err())
+type Refusals = (Option<CivicError>, Option<CivicError>);
+
+/// What `from_pairs` of an address and of a pattern refuse, other than for want of memory.
+fn refusals(alloc: Global, given: &[(&str, &str)]) -> Result<Refusals, AllocError> {
+    let of_address = CivicAddress::from_pairs(alloc, copied(alloc, given)?).err();
+    let of_pattern = CivicPattern::from_pairs(alloc, copied(alloc, given)?).err();
+    if of_address == Some(CivicError::Memory) || of_pattern == Some(CivicError::Memory) {
+        return Err(AllocError);
+    }
+    Ok((of_address, of_pattern))
 }
 
 #[test]
-fn unknown_names(rt: HostRuntime) {
+fn unknown_names(rt: HostRuntime) -> Result<(), Fail> {
     let alloc = rt.alloc();
     let unknown = (
         Some(CivicError::NoKnownElement),
         Some(CivicError::UnknownElement),
     );
-    assert_eq!(rt; refusals(alloc, &[("X", "1")]), unknown);
-    assert_eq!(rt; refusals(alloc, &[("a1", "NJ"), ("", "")]), unknown);
+    assert_eq!(rt; refusals(alloc, &[("X", "1")])?, unknown);
+    assert_eq!(rt; refusals(alloc, &[("a1", "NJ"), ("", "")])?, unknown);
     let none = (
         Some(CivicError::NoKnownElement),
         Some(CivicError::NoKnownElement),
     );
-    assert_eq!(rt; refusals(alloc, &[]), none);
+    assert_eq!(rt; refusals(alloc, &[])?, none);
     let beside = (None, Some(CivicError::UnknownElement));
-    assert_eq!(rt; refusals(alloc, &[("X", "1"), ("A1", "")]), beside);
-    assert_eq!(rt; refusals(alloc, &[("A1", ""), ("A2", "")]), (None, None));
+    assert_eq!(rt; refusals(alloc, &[("X", "1"), ("A1", "")])?, beside);
+    assert_eq!(rt; refusals(alloc, &[("A1", ""), ("A2", "")])?, (None, None));
+    Ok(())
 }
 
 #[test]
 fn refusals_in_order(rt: HostRuntime) -> Result<(), Fail> {
     let alloc = rt.alloc();
     let twice = (Some(CivicError::Repeated), Some(CivicError::Repeated));
-    assert_eq!(rt; refusals(alloc, &[("X", "1"), ("X", "1")]), twice);
+    assert_eq!(rt; refusals(alloc, &[("X", "1"), ("X", "1")])?, twice);
     assert_eq!(rt;
-        refusals(alloc, &[("A1", "1"), ("PC", "2"), ("A1", "3")]),
+        refusals(alloc, &[("A1", "1"), ("PC", "2"), ("A1", "3")])?,
         twice
     );
     let text = repeated(alloc, 'n', 513)?;
     let long = (Some(CivicError::TooLong), Some(CivicError::TooLong));
     assert_eq!(rt;
-        refusals(alloc, &[("A1", "1"), ("A1", text.as_str())]),
+        refusals(alloc, &[("A1", "1"), ("A1", text.as_str())])?,
         long
     );
-    assert_eq!(rt; refusals(alloc, &[("X", ""), (text.as_str(), "")]), long);
+    assert_eq!(rt; refusals(alloc, &[("X", ""), (text.as_str(), "")])?, long);
     Ok(())
 }
 
