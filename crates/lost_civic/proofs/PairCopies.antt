@@ -1,11 +1,11 @@
 -- Copies, sameness and hashes of pairs are those of the pairs that definitions see.
-use Rattle.std.proofs.Common.{◌≡◌, ◌&&◌, ◌++◌, Bool, List, [], ◌∷◌, map, length, String, string_bytes, refl, sym, ◌∙◌, ap}
+use Rattle.std.proofs.Common.{◌≡◌, ◌&&◌, ◌++◌, List, [], ◌∷◌, map, length, String, string_bytes, refl, sym, ◌∙◌, ap}
 use Rattle.std.specs.Hash as fed
 use Rattle.std.specs.List.{AllZip, flat_map}
 use Rattle.std.proofs.lemmas.List.{length-map}
 use Rattle.std.proofs.lemmas.List.Folds.{flat_map-map}
 use lib.Pointwise.{pointwise}
-use Rattle.lost_spec.specs.Text.{Text, same_text}
+use Rattle.lost_spec.specs.Text.{Text}
 use Rattle.lost_civic.specs.declared.texts.Compared.{Compared}
 use Rattle.lost_civic.specs.Element.{element_name}
 use Rattle.lost_civic.specs.Pairs.{seen_pair, seen_pairs, same_pair, same_pairs, hashed_pairs}

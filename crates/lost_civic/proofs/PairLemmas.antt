@@ -1,5 +1,5 @@
 -- A test of each pair's name or value is a test of the pairs that definitions see.
-use Rattle.std.proofs.Common.{◌≡◌, Bool, List, [], ◌∷◌, map, String, string_bytes, refl, sym, ◌∙◌, ap, ◌||◌, ◌&&◌, ℕ, ◌≤◌, false, length, nat_lt, arith}
+use Rattle.std.proofs.Common.{◌≡◌, Bool, List, [], ◌∷◌, String, string_bytes, refl, sym, ◌∙◌, ap, ◌||◌, ◌&&◌, ℕ, ◌≤◌, false, length, nat_lt, arith}
 use Rattle.std.proofs.lemmas.Bool.Decides.{nat_tests}
 use Rattle.std.proofs.lemmas.List.{length-map}
 use Rattle.std.specs.List.{list_any, list_all}

@@ -1,5 +1,5 @@
 -- Which elements stand in an address or a pattern, and what a match says of them.
-use Rattle.std.proofs.Common.{◌≡◌, ℕ, ◌<◌, ◌&&◌, ◌||◌, not, Bool, true, false, cond, List, [], ◌∷◌, map, length, get_or, find, Option, Some, None, option_map, is_some, IfSome, refl, sym, ◌∙◌, ap, subst, rules, tests}
+use Rattle.std.proofs.Common.{◌≡◌, ◌&&◌, ◌||◌, not, Bool, true, false, cond, [], ◌∷◌, get_or, find, Option, Some, None, option_map, is_some, IfSome, refl, sym, ◌∙◌, ap}
 use Rattle.std.specs.List.{list_any, list_all, Any}
 use Rattle.std.proofs.lemmas.Bool.{false≢true}
 use Rattle.std.proofs.lemmas.List.Folds.{Any-from_list_any, list_any_at}

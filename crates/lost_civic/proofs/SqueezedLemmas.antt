@@ -1,5 +1,5 @@
 -- The comparison text of a value as one pass over it writes it: what is left to write, from what was read before.
-use Rattle.std.proofs.Common.{◌≡◌, ℕ, ◌+◌, ◌<◌, ◌≤◌, ◌&&◌, Bool, true, false, cond, List, [], ◌∷◌, ◌++◌, length, filter, nat_lt, refl, sym, ◌∙◌, ap, arith, append_assoc, append-nil, get_or, encode_utf8, ⊎_elim, suc, not, nat_eq, ◌==◌, Result, Ok, Err, OnOk, is_ok}
+use Rattle.std.proofs.Common.{◌≡◌, ℕ, ◌+◌, ◌<◌, ◌≤◌, Bool, true, false, cond, List, [], ◌∷◌, ◌++◌, length, filter, nat_lt, refl, sym, ◌∙◌, ap, arith, append_assoc, append-nil, get_or, encode_utf8, ⊎_elim, suc, not, ◌==◌, Result, Ok, Err, OnOk, is_ok}
 use Rattle.std.specs.List.{slice_split, onto_first, join_with_byte}
 use Rattle.std.specs.Char.{to_ascii_lowercase}
 use Rattle.std.proofs.lemmas.Bool.Decides.{nat_tests}

@@ -1,13 +1,12 @@
 -- The texts that are kept beside the pairs, a step of a loop at a time.
-use Rattle.std.proofs.Common.{◌≡◌, ℕ, ◌+◌, ◌<◌, Bool, true, false, List, [], ◌∷◌, ◌++◌, map, length, get_or, take, drop, suc, add-one, drop-cons, Option, Some, None, option_map, cond, find, String, string_bytes, refl, sym, ◌∙◌, ap, arith}
+use Rattle.std.proofs.Common.{◌≡◌, ℕ, ◌+◌, ◌<◌, Bool, true, false, List, [], ◌∷◌, ◌++◌, map, length, get_or, take, drop, suc, add-one, drop-cons, Option, Some, option_map, cond, find, String, string_bytes, refl, sym, ◌∙◌, ap, arith}
 use Rattle.std.specs.List.{list_all}
 use Rattle.std.proofs.lemmas.Bool.{false≢true}
 use Rattle.std.proofs.lemmas.List.{take_more, map-append, length-map, get_or-map}
 use Rattle.std.proofs.lemmas.Slice.Eq.{bytes_eq-Decides}
 use Rattle.std.proofs.lemmas.List.Folds.{list_all_at, list_all-map}
-use Rattle.lost_spec.specs.Civic.{Pairs, names_of, is_known, value_of, comparison_text, has_value, matches, pattern_fault}
-use Rattle.lost_spec.specs.Text.{Text, same_text, first_fault}
-use Rattle.lost_spec.specs.declared.faults.CivicError.{CivicError}
+use Rattle.lost_spec.specs.Civic.{Pairs, names_of, is_known, value_of, comparison_text, has_value, matches}
+use Rattle.lost_spec.specs.Text.{Text, same_text}
 use Rattle.lost_civic.specs.declared.elements.Element.{Element}
 use Rattle.lost_civic.specs.declared.elements.Element.TheVariants.{Country}
 use Rattle.lost_civic.specs.Element.{element_index, element_name, all_elements}

@@ -1,6 +1,6 @@
 //! Civic addresses.
 
-ghost use Rattle.std.specs.Prelude.{◌≡◌, None, IfOk, IfNone, IfSome, MatchResult};
+ghost use Rattle.std.specs.Prelude.{◌≡◌, ◌≢◌, None, Some, IfOk, IfErr, OnOk, IfSome};
 ghost use Rattle.std.specs.Option.{option_copied};
 ghost use Rattle.std.specs.Cmp.{partial_equiv_from_equiv};
 ghost use Rattle.lost_spec.specs.Civic.{address_fault, has_value};
@@ -43,12 +43,17 @@ impl CivicAddress {
     /// The address of these pairs. The refusals, in the order of the checks (own rule): `TooLong` for more than 128
     /// pairs, or a name or a value of more than 512 bytes; `Repeated` for a name that stands twice; `NoKnownElement`
     /// where no name is that of an element; `Memory`.
-    pub fn from_pairs(alloc: Global, pairs: Vec<(String, String)>) -> Result<CivicAddress, CivicError>
-        ensures refused { let given = seen_pairs pairs.items in
-            IfSome (address_fault given) (λ fault. result ≡ Err fault) }
-        ensures accepted { let given = seen_pairs pairs.items in
-            IfNone (address_fault given)
-                (MatchResult result (λ address. address ≡ given) (λ fault. fault ≡ CivicError.Memory)) }
+    pub fn from_pairs(
+        alloc: Global,
+        pairs: Vec<(String, String)>,
+    ) -> Result<CivicAddress, CivicError>
+        ensures pairs { IfOk result (λ address. address ≡ seen_pairs pairs.items) }
+        ensures lawful { OnOk result (address_fault (seen_pairs pairs.items) ≡ None) }
+        ensures refused { IfErr result
+            (λ fault. fault ≢ CivicError.Memory → address_fault (seen_pairs pairs.items) ≡ Some fault) }
+
+        // Memory comes only after the checks.
+        ensures checked_first { IfSome (address_fault (seen_pairs pairs.items)) (λ fault. result ≡ Err fault) }
     {
         if let Some(fault) = first_address_fault(pairs.as_slice()) {
             return Err(fault);

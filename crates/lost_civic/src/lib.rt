@@ -13,3 +13,6 @@ pub use addresses::CivicAddress;
 pub use elements::Element;
 pub use lost_spec::faults::CivicError;
 pub use patterns::CivicPattern;
+
+#[cfg(test)]
+mod tests;

@@ -1,6 +1,6 @@
 //! Civic patterns.
 
-ghost use Rattle.std.specs.Prelude.{◌≡◌, None, Some, IsTrue, IfOk, IfNone, IfSome, MatchResult};
+ghost use Rattle.std.specs.Prelude.{◌≡◌, ◌≢◌, None, Some, IsTrue, IfOk, IfErr, OnOk, IfSome};
 ghost use Rattle.std.specs.Option.{option_copied};
 ghost use Rattle.std.specs.Cmp.{partial_equiv_from_equiv};
 ghost use Rattle.lost_spec.specs.Civic.{pattern_fault, matches};
@@ -41,12 +41,17 @@ impl CivicPattern {
     /// The pattern of these pairs. The refusals, in the order of the checks (own rule): `TooLong` for more than 128
     /// pairs, or a name or a value of more than 512 bytes; `Repeated` for a name that stands twice; `UnknownElement`
     /// where a name is that of no element; `NoKnownElement` where there is no pair; `Memory`.
-    pub fn from_pairs(alloc: Global, pairs: Vec<(String, String)>) -> Result<CivicPattern, CivicError>
-        ensures refused { let given = seen_pairs pairs.items in
-            IfSome (pattern_fault given) (λ fault. result ≡ Err fault) }
-        ensures accepted { let given = seen_pairs pairs.items in
-            IfNone (pattern_fault given)
-                (MatchResult result (λ pattern. pattern ≡ given) (λ fault. fault ≡ CivicError.Memory)) }
+    pub fn from_pairs(
+        alloc: Global,
+        pairs: Vec<(String, String)>,
+    ) -> Result<CivicPattern, CivicError>
+        ensures pairs { IfOk result (λ pattern. pattern ≡ seen_pairs pairs.items) }
+        ensures lawful { OnOk result (pattern_fault (seen_pairs pairs.items) ≡ None) }
+        ensures refused { IfErr result
+            (λ fault. fault ≢ CivicError.Memory → pattern_fault (seen_pairs pairs.items) ≡ Some fault) }
+
+        // Memory comes only after the checks.
+        ensures checked_first { IfSome (pattern_fault (seen_pairs pairs.items)) (λ fault. result ≡ Err fault) }
     {
         if let Some(fault) = first_pattern_fault(pairs.as_slice()) {
             return Err(fault);
@@ -82,9 +87,10 @@ impl CivicPattern {
         ensures shared { IsTrue result
             → (element : Element) → IfSome (text_of element self.now) (λ text. text_of element address.now ≡ Some text) }
     {
-        self.compared
-            .iter()
-            .all(|compared| address.has_text(compared.element, compared.text.as_str()))
+        self.compared.iter().all(|compared| address.has_text(
+            compared.element,
+            compared.text.as_str(),
+        ))
     }
 
     /// A pattern with the same pairs.

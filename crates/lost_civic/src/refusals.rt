@@ -51,9 +51,7 @@ fn exceeds_limits(pairs: &[(String, String)]) -> bool
     ensures { result ≡ is_too_long (seen_pairs pairs.now) }
 {
     pairs.len() > MOST_PAIRS
-        || pairs
-            .iter()
-            .any(|pair| pair.0.len() > MOST_BYTES || pair.1.len() > MOST_BYTES)
+        || pairs.iter().any(|pair| pair.0.len() > MOST_BYTES || pair.1.len() > MOST_BYTES)
 }
 
 /// Whether a name stands twice. It takes the square of their number, which is at most 128 where this is asked.

@@ -18,8 +18,8 @@ fn is_white_space(character: char) -> bool
 fn push_character(text: &mut String, after_white: bool, character: char) -> Result<(), AllocError>
     ensures written { OnOk result
         (string_bytes text.new
-            ≡ string_bytes text.old
-            ++ (gap (not (string_len text.old == 0)) after_white ++ encode_utf8 (to_ascii_lowercase character))) }
+        ≡ string_bytes text.old
+        ++ (gap (not (string_len text.old == 0)) after_white ++ encode_utf8 (to_ascii_lowercase character))) }
     ensures started { OnOk result (0 < string_len text.new) }
 {
     if after_white && !text.is_empty() {

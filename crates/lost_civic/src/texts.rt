@@ -43,7 +43,11 @@ fn find_value<'a>(pairs: &'a [(String, String)], name: &str) -> Option<&'a str>
     None
 }
 
-fn make_text(alloc: Global, pairs: &[(String, String)], element: Element) -> Result<Option<String>, AllocError>
+fn make_text(
+    alloc: Global,
+    pairs: &[(String, String)],
+    element: Element,
+) -> Result<Option<String>, AllocError>
     ensures { IfOk result (λ text. option_map string_bytes text ≡ text_of element (seen_pairs pairs.now)) }
 {
     match find_value(pairs, element.name()) {
@@ -53,7 +57,10 @@ fn make_text(alloc: Global, pairs: &[(String, String)], element: Element) -> Res
 }
 
 /// The comparison text of each element, in the order of the table, where the element stands among the pairs.
-pub(crate) fn make_table(alloc: Global, pairs: &[(String, String)]) -> Result<Vec<Option<String>>, AllocError>
+pub(crate) fn make_table(
+    alloc: Global,
+    pairs: &[(String, String)],
+) -> Result<Vec<Option<String>>, AllocError>
     ensures { IfOk result (λ texts. seen_table texts.items ≡ table_of (seen_pairs pairs.now)) }
 {
     let mut texts = Vec::with_capacity(alloc, Element::ALL.len())?;
@@ -78,7 +85,10 @@ fn compare_pair(alloc: Global, pair: &(String, String)) -> Result<Compared, Allo
 }
 
 /// Each pair's element with the comparison text of its value, in the order of the pairs.
-pub(crate) fn compare_pairs(alloc: Global, pairs: &[(String, String)]) -> Result<Vec<Compared>, AllocError>
+pub(crate) fn compare_pairs(
+    alloc: Global,
+    pairs: &[(String, String)],
+) -> Result<Vec<Compared>, AllocError>
     requires { list_all is_known (names_of (seen_pairs pairs.now)) ≡ true }
     ensures { IfOk result (λ list. seen_compared list.items ≡ compared_of (seen_pairs pairs.now)) }
 {

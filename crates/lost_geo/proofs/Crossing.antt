@@ -1,5 +1,5 @@
 -- When one edge crosses at a place.
-use Rattle.std.proofs.Common.{◌≡◌, refl, arith}
+use Rattle.std.proofs.Common.{arith}
 use Rattle.std.proofs.lemmas.Int.{ints}
 use Rattle.lost_geo.specs.Laws.{ReverseCrossesAlike}
 

@@ -1,10 +1,10 @@
 -- A ring's crossings from piece to piece, and what a cut makes of them.
 use Rattle.std.proofs.Common.{◌≡◌, refl, sym, ◌∙◌, ap, Bool, true, false, List, [], ◌∷◌, ◌++◌, reverse, append_assoc}
 use Rattle.std.proofs.lemmas.List.{reverse-append}
-use Rattle.lost_spec.specs.Ring.{Point, Edge, edges, crosses, same_point, last_after, is_closed, inside, normal}
-use Rattle.lost_geo.specs.Laws.{ReverseCrossesAlike, Cut, whole, outer_part, inner_part, is_just_one, PartsAreClosed, CutsAreRings, CutsShareTheInside}
+use Rattle.lost_spec.specs.Ring.{Point, Edge, edges, crosses, same_point, is_closed, normal}
+use Rattle.lost_geo.specs.Laws.{ReverseCrossesAlike, Cut, whole, outer_part, inner_part, is_just_one, CutsAreRings, CutsShareTheInside}
 use Rattle.lost_geo.proofs.Closed.{last_after-append, same_point-refl}
-use Rattle.lost_geo.proofs.Parity.{odd_count, odd_count-append, odd_count-cons, just_one_assoc, just_one_with_false}
+use Rattle.lost_geo.proofs.Parity.{odd_count, odd_count-append, odd_count-cons, just_one_with_false}
 
 -- whether an odd number of the edges of a list of positions crosses at p
 abbrev pub odd_along : List Point → Point → Bool

@@ -1,5 +1,5 @@
 -- The folds by which bounds are defined give the least and the greatest.
-use Rattle.std.proofs.Common.{◌≡◌, refl, sym, ◌∙◌, ap, ℕ, suc, ◌<◌, ◌⊎◌, inl, inr, List, [], ◌∷◌, None, length, map, All, Contains, get_or, fold, arith, ℤ, ◌≤ℤ◌}
+use Rattle.std.proofs.Common.{◌≡◌, refl, sym, suc, ◌⊎◌, inl, inr, List, [], ◌∷◌, None, Contains, fold, arith, ℤ, ◌≤ℤ◌}
 use Rattle.std.specs.Int.{int_min, int_max}
 use Rattle.std.proofs.lemmas.Int.{fold-int_min_bounds, fold-int_min_reached, fold-int_max_bounds, fold-int_max_reached}
 use Rattle.std.proofs.lemmas.List.Elements.{All-cons}

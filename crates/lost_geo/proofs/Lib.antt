@@ -2,9 +2,9 @@ mod Differences
 mod Parity
 mod Walk
 mod Closed
-mod Exact
-mod Cuts
-mod Spans
-mod Crossing
+pub mod Exact
+pub mod Cuts
+pub mod Spans
+pub mod Crossing
 mod Products
-mod Within
+pub mod Within

@@ -1,8 +1,8 @@
 -- Whether a number of edges is odd: of one edge more, of two lists together, and of a list reversed.
-use Rattle.std.proofs.Common.{◌≡◌, refl, sym, ◌∙◌, ap, ℕ, ◌+◌, zero, suc, Bool, true, false, not, cond, List, [], ◌∷◌, ◌++◌, length, reverse, filter, length-append, zero-add}
+use Rattle.std.proofs.Common.{◌≡◌, refl, sym, ◌∙◌, ap, ℕ, ◌+◌, zero, suc, Bool, true, false, not, cond, List, ◌∷◌, ◌++◌, length, filter, length-append, zero-add}
 use Rattle.std.proofs.Math.Nat.{suc-add}
 use Rattle.std.proofs.lemmas.List.Elements.{filter-append}
-use Rattle.lost_spec.specs.Ring.{Point, Edge, edges, is_odd}
+use Rattle.lost_spec.specs.Ring.{Edge, is_odd}
 use Rattle.lost_geo.specs.Laws.{is_just_one}
 
 -- whether an odd number of edges passes the test

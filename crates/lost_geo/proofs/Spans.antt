@@ -1,7 +1,7 @@
 -- Edges that span a latitude: a closed ring has an even number of them.
-use Rattle.std.proofs.Common.{◌≡◌, refl, sym, ◌∙◌, ap, Bool, true, false, ◌&&◌, cond, List, [], ◌∷◌, ℤ, int_le, int_lt, arith, IsTrue}
+use Rattle.std.proofs.Common.{◌≡◌, refl, sym, ◌∙◌, ap, Bool, true, false, ◌&&◌, cond, List, [], ◌∷◌, ℤ, int_le, int_lt, arith}
 use Rattle.std.proofs.lemmas.Int.{ints}
-use Rattle.lost_spec.specs.Ring.{Point, edges, spans, last_after, is_closed}
+use Rattle.lost_spec.specs.Ring.{Point, edges, spans, last_after}
 use Rattle.lost_geo.specs.Laws.{is_just_one, SpannedEvenly}
 use Rattle.lost_geo.proofs.Closed.{lat-last_after}
 use Rattle.lost_geo.proofs.Parity.{odd_count, odd_count-cons}

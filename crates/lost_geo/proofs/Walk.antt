@@ -1,12 +1,12 @@
 -- A walk over a ring's edges that keeps whether it has met an odd number of crossings.
-use Rattle.std.proofs.Common.{◌≡◌, refl, sym, ◌∙◌, ap, ℕ, ◌+◌, suc, ◌<◌, ◌≤◌, Bool, true, false, not, List, [], ◌∷◌, length, drop, get_or}
+use Rattle.std.proofs.Common.{◌≡◌, refl, sym, ◌∙◌, ap, ℕ, ◌+◌, suc, ◌<◌, ◌≤◌, Bool, true, false, not, List, ◌∷◌, length, drop, get_or}
 use Rattle.std.proofs.Math.Bool.{beq}
 use Rattle.std.proofs.Math.Numerals.{add-one}
 use Rattle.std.proofs.Math.Seq.{drop-cons}
 use Rattle.std.proofs.lemmas.List.{drop_all}
-use Rattle.lost_spec.specs.Ring.{Point, Edge, edges, crosses, crossings, is_odd}
+use Rattle.lost_spec.specs.Ring.{Point, edges, crosses, crossings, is_odd}
 use Rattle.lost_geo.specs.Laws.{is_just_one}
-use Rattle.lost_geo.proofs.Parity.{odd_count, odd_count-cons, just_one_assoc, just_one_with_false}
+use Rattle.lost_geo.proofs.Parity.{odd_count-cons, just_one_assoc, just_one_with_false}
 
 -- whether an odd number of the edges of a list of positions crosses at p
 abbrev pub odd_from : Point → List Point → Point → Bool

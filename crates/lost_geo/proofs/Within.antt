@@ -1,5 +1,5 @@
 -- Where an odd number of a closed ring's edges cross, there the bounds of the ring hold the place.
-use Rattle.std.proofs.Common.{◌≡◌, refl, sym, ◌∙◌, ap, subst, ℕ, ◌<◌, suc, Bool, true, false, not, ◌&&◌, cond, List, [], ◌∷◌, length, map, filter, All, get_or, ℤ, pos, ◌-ℤ◌, ◌≤ℤ◌, ◌<ℤ◌, int_le, int_lt, arith, IsTrue, None, nat_lt}
+use Rattle.std.proofs.Common.{◌≡◌, refl, sym, ◌∙◌, ap, subst, suc, Bool, true, false, not, ◌&&◌, List, [], ◌∷◌, length, map, All, get_or, ℤ, ◌-ℤ◌, ◌≤ℤ◌, ◌<ℤ◌, int_le, int_lt, arith, IsTrue, None, nat_lt}
 use Rattle.std.proofs.lemmas.Bool.{and_from, and_parts, true_from_ne_false, false_from_ne_true, false≢true, cond_both}
 use Rattle.std.proofs.lemmas.Int.{ints}
 use Rattle.std.proofs.lemmas.List.{get_or-map, length-map}
@@ -8,8 +8,8 @@ use Rattle.lost_spec.specs.Text.{first_fault}
 use Rattle.lost_spec.specs.Ring.{Point, Edge, edges, low_end, high_end, spans, crosses, crossings, is_odd, is_closed, inside, normal}
 use Rattle.lost_geo.specs.Sides.{is_left_of}
 use Rattle.lost_geo.specs.declared.bounds.Bounds.{Bounds}
-use Rattle.lost_geo.specs.Bounds.{lats, lons, bounds_of, is_within_bounds, AreExact, IsRingWith}
-use Rattle.lost_geo.specs.Laws.{is_just_one, SpannedEvenly, InsideIsWithinBounds}
+use Rattle.lost_geo.specs.Bounds.{bounds_of, is_within_bounds, AreExact, IsRingWith}
+use Rattle.lost_geo.specs.Laws.{is_just_one, InsideIsWithinBounds}
 use Rattle.lost_geo.proofs.Exact.{AreExact-bounds_of}
 use Rattle.lost_geo.proofs.Parity.{odd_count, odd_count-cons}
 use Rattle.lost_geo.proofs.Products.{not_below-mul, below-mul}

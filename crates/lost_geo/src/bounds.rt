@@ -9,9 +9,13 @@ use crate::point::GeoPoint;
 /// The least and the greatest latitude and longitude of a ring's positions, in whole 1e-7 degrees (own rule).
 #[derive(Clone, Copy, PartialEq, Eq, Hash, Debug)]
 pub struct Bounds {
+    /// The least latitude.
     pub lat_min: i64,
+    /// The greatest latitude.
     pub lat_max: i64,
+    /// The least longitude.
     pub lon_min: i64,
+    /// The greatest longitude.
     pub lon_max: i64,
 }
 

@@ -2,7 +2,8 @@
 use Rattle.std.proofs.Common.{◌≡◌, ◌≢◌, ℕ, ◌<◌, Bool, true, false, cond, nat_eq, nat_lt, Option, None, Some, Result, Ok, Err, List, [], ◌∷◌, ◌++◌, drop, length, refl, sym, ap, ◌∙◌, arith}
 use Rattle.std.specs.List.{list_all, slice_index, starts_with, join_with_byte}
 use Rattle.std.specs.Char.{to_ascii_lowercase}
-use Rattle.std.specs.Result.{MatchResult, IsOkAnd}
+use Rattle.lost_urn.specs.Spelling.{labels_in, AnswersFault}
+use Rattle.std.specs.Result.{IfOk, IfErr, IsOkAnd}
 use Rattle.std.specs.Option.{is_none}
 use Rattle.std.specs.Str.{IsAscii}
 use Rattle.std.proofs.lemmas.Bool.Decides.{Decides-eqb, nat_tests}
@@ -41,11 +42,14 @@ read_no_prefix text none =
     ap (λ b. cond b (service_or (labels_fault labels) labels) (Err Prefix)) (not_true (starts_with nat_eq (lowered text) urn_prefix) (λ yes. none (drop 12 (lowered text)) (starts.0 yes)))
 
 -- what a check of the labels says of the whole text
-pub read_checked : (text labels : Text) (r : Result ℕ UrnError) → lowered text ≡ urn_prefix ++ lowered labels
-    → MatchResult r (λ n. (labels_fault (split_at_dots (lowered labels)) ≡ None) × (n ≡ length (split_at_dots (lowered labels)))) (λ e. labels_fault (split_at_dots (lowered labels)) ≡ Some e)
-    → MatchResult r (λ n. IsOkAnd (read_service text) (λ s. n ≡ length s)) (λ e. read_service text ≡ Err e)
-read_checked text labels (Ok n) begins h = rw (read_labels text labels begins, h.0) h.1
-read_checked text labels (Err e) begins h = rw (read_labels text labels begins, h)
+pub read_counted : (text labels : Text) (r : Result ℕ UrnError) → lowered text ≡ urn_prefix ++ lowered labels → AnswersFault r (labels_fault (labels_in labels)) → IfOk r (λ n. n ≡ length (labels_in labels))
+    → IfOk r (λ n. IsOkAnd (read_service text) (λ s. n ≡ length s))
+read_counted text labels (Ok n) begins none counted = rw (read_labels text labels begins, none) counted
+read_counted text labels (Err e) begins fault counted = tt
+
+pub read_refused : (text labels : Text) (r : Result ℕ UrnError) → lowered text ≡ urn_prefix ++ lowered labels → AnswersFault r (labels_fault (labels_in labels)) → IfErr r (λ e. read_service text ≡ Err e)
+read_refused text labels (Ok n) begins none = tt
+read_refused text labels (Err e) begins fault = rw (read_labels text labels begins, fault)
 
 -- ---- what is known of a service that was read
 

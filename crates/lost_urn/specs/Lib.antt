@@ -1,2 +1,3 @@
 pub mod Kept
 pub mod Order
+pub mod Spelling

@@ -1,20 +1,21 @@
 //! One label of a service URN, in any case.
-ghost use Rattle.std.specs.Prelude.{◌≡◌, ◌||◌, None, Some, MatchResult};
+ghost use Rattle.std.specs.Prelude.{◌≡◌, ◌||◌};
 ghost use Rattle.std.specs.List.{list_all};
 ghost use Rattle.std.specs.Char.{to_ascii_lowercase};
 ghost use Rattle.lost_spec.specs.Text.{lowered, first_is, last_is, is_hyphen};
 ghost use Rattle.lost_spec.specs.Service.{is_label_byte, label_fault};
+ghost use Rattle.lost_urn.specs.Spelling.{AnswersFault};
 
 use lost_spec::faults::UrnError;
 
 /// The most bytes that a label has (own rule).
 const MAX_LEN: usize = 63;
 
-#[tactic(auto, using(crate::proofs::LabelLemmas::lowering))]
 /// Refuses a label that is empty, has a byte other than ASCII letters, digits and hyphens, begins or ends with a
 /// hyphen, or is too long, in this order (RFC 5031, section 3; the length and the order are own rules).
+#[tactic(auto, using(crate::proofs::LabelLemmas::lowering))]
 pub(crate) fn check_label(label: &[u8]) -> Result<(), UrnError>
-    ensures { MatchResult result (λ _. label_fault (lowered label.now) ≡ None) (λ e. label_fault (lowered label.now) ≡ Some e) }
+    ensures { AnswersFault result (label_fault (lowered label.now)) }
 {
     if label.is_empty() {
         return Err(UrnError::EmptyLabel);

@@ -31,10 +31,15 @@ impl Model for ServiceUrn {
 }
 
 impl ServiceUrn {
-    /// Reads a service URN in any case.
+    /// Reads a service URN in any case (RFC 5031, section 3): `urn:service:` and then the labels with a dot between
+    /// each two. The first check that fails gives the refusal (own order): `Prefix`; then for each label from the
+    /// left `EmptyLabel`, `BadCharacter`, `HyphenAtEnd`, `LabelTooLong`; then `TooManyLabels`. `Memory` comes where
+    /// the text is one of a service and there is no memory to keep it: a refusal takes none.
     pub fn parse(alloc: Global, text: &[u8]) -> Result<ServiceUrn, UrnError>
         ensures ok { IfOk result (λ s. read_service text.now ≡ Ok s) }
         ensures err { IfErr result (λ e. e ≢ UrnError.Memory → read_service text.now ≡ Err e) }
+
+        // Want of memory comes in place of no refusal.
         ensures refused { IsErr (read_service text.now) → result ≡ read_service text.now }
     {
         let depth = count_labels(text)?;
@@ -42,7 +47,7 @@ impl ServiceUrn {
         Ok(ServiceUrn { text, depth })
     }
 
-    /// The text.
+    /// The text, in lower case: `urn:service:` and the labels with a dot between each two (RFC 5031, section 3).
     pub fn text(&self) -> &str
         ensures text { result.now ≡ service_text self.now }
         ensures well_formed { IsTrue (is_service self.now) }
@@ -50,14 +55,15 @@ impl ServiceUrn {
         self.text.as_str()
     }
 
-    /// The number of labels.
+    /// The number of labels, from 1 to 8.
     pub fn depth(&self) -> usize
         ensures { result ≡ length self.now }
     {
         self.depth
     }
 
-    /// Whether the labels of `other` are a prefix of those of `self`.
+    /// Whether the labels of `other` are a prefix of those of `self`: whether `self` is `other` or one of its
+    /// sub-services (RFC 5031, section 3).
     pub fn is_at_or_below(&self, other: &ServiceUrn) -> bool
         ensures { result ≡ is_at_or_below self.now other.now }
     {
@@ -67,7 +73,7 @@ impl ServiceUrn {
         }
     }
 
-    /// The first `n` labels.
+    /// The service of the first `n` labels, where `n` is from 1 to the depth. Fails where there is no memory for it.
     pub fn cut(&self, n: usize) -> Result<ServiceUrn, AllocError>
         requires some { 1 ≤ n }
         requires within { n ≤ length self.now }
@@ -79,7 +85,7 @@ impl ServiceUrn {
         Ok(ServiceUrn { text, depth: n })
     }
 
-    /// A copy.
+    /// The same service once more. Fails where there is no memory for it.
     pub fn clone(&self) -> Result<ServiceUrn, AllocError>
         ensures { IfOk result (λ s. s ≡ self.now) }
     {
@@ -109,6 +115,7 @@ fn end_of_labels(text: &[u8], n: usize) -> usize
     text.len()
 }
 
+/// An ASCII text in lower case.
 fn to_lowercase(alloc: Global, text: &[u8]) -> Result<String, AllocError>
     requires { IsAscii text.now }
     ensures { IfOk result (λ s. string_bytes s ≡ lowered text.now) }

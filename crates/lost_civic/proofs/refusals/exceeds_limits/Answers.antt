@@ -1,8 +1,7 @@
-use Rattle.std.proofs.Common.{◌≡◌, ◌∙◌, ◌||◌, ap, nat_lt, length, string_bytes, rules, tests}
+use Rattle.std.proofs.Common.{◌≡◌, ◌∙◌, ◌||◌, nat_lt, length, string_bytes, rules, tests}
 use Rattle.std.specs.List.{list_any}
 use Rattle.std.proofs.lemmas.Iterator.{YieldsList-from_slice}
 use Rattle.std.proofs.lemmas.Iterator.Search.{any_from_yields_List}
-
 use Rattle.lost_civic.proofs.PairLemmas.{is_too_long-few}
 use Rattle.lost_civic.proofs.refusals.exceeds_limits.Goals as goal
 

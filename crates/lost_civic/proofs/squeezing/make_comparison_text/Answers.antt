@@ -1,4 +1,4 @@
-use Rattle.std.proofs.Common.{string_bytes, string_len, ◌==◌, not, ◌∙◌}
+use Rattle.std.proofs.Common.{string_bytes, string_len, ◌==◌, not}
 use Rattle.std.specs.Str.Iter.{chars_rest}
 use Rattle.lost_civic.proofs.SqueezedLemmas.{at_start, past_space, past_character}
 use Rattle.lost_civic.proofs.squeezing.make_comparison_text.Goals as goal

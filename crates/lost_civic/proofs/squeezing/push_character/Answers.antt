@@ -1,5 +1,4 @@
 use Rattle.std.proofs.Common.{string_len, length, encode_utf8}
-use Rattle.std.specs.Char.{to_ascii_lowercase}
 use Rattle.lost_civic.proofs.SqueezedLemmas.{OnOk-longer, length-character}
 use Rattle.lost_civic.proofs.squeezing.push_character.Goals as goal
 

@@ -1,4 +1,4 @@
-use Rattle.std.proofs.Common.{sym, ◌∙◌, ap}
+use Rattle.std.proofs.Common.{◌∙◌, ap}
 use Rattle.lost_civic.specs.Pairs.{seen_pairs}
 use Rattle.lost_civic.specs.Texts.{seen_table}
 use Rattle.lost_civic.proofs.TextLemmas.{table_more}

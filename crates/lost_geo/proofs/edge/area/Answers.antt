@@ -1,5 +1,5 @@
 -- The product fits 64 bits, so nothing is lost.
-use Rattle.std.proofs.Common.{◌*ℤ◌, ℤ, w64, FitsSigned, lit<}
+use Rattle.std.proofs.Common.{◌*ℤ◌, w64, FitsSigned, lit<}
 use Rattle.std.proofs.lemmas.Int.{to_z-of_z, fits_signed_mul}
 use Rattle.lost_geo.proofs.Differences.{unsigned_abs-east, unsigned_abs-north}
 use Rattle.lost_geo.proofs.edge.area.Goals as goal

@@ -1,3 +1,4 @@
+-- The two laws of cuts; the chain is gone along once each way.
 use Rattle.lost_geo.proofs.Crossing.{reverse_crosses_alike}
 use Rattle.lost_geo.proofs.Cuts as cuts
 use Rattle.lost_geo.proofs.laws.cut_shares_the_inside.Goals as goal

@@ -1,3 +1,4 @@
+-- The law, from a walk round the ring.
 use Rattle.lost_geo.proofs.Spans as spans
 use Rattle.lost_geo.proofs.laws.spanned_evenly.Goals as goal
 

@@ -1,3 +1,4 @@
+-- The positions compared stand at the two ends.
 use Rattle.std.proofs.Common.{◌∙◌}
 use Rattle.lost_geo.proofs.Closed.{is_closed-ends}
 use Rattle.lost_geo.proofs.polygon.is_closed.Goals as goal

@@ -9,8 +9,8 @@ use Rattle.lost_urn.proofs.FaultLemmas.{no_fault_more}
 use Rattle.lost_urn.proofs.SpellingLemmas.{raw_fault, label_refused, count_refused, not_refused, length-parts}
 use Rattle.lost_urn.proofs.spelling.check_labels.Goals as goal
 
-pub returns-in_err-check_label : goal.returns-in_err-check_label
-returns-in_err-check_label c =
+pub returns-in_err-check_label-clause-refusal : goal.returns-in_err-check_label-clause-refusal
+returns-in_err-check_label-clause-refusal c =
     let p = err_from_is_err_and c.from_residual.result c.from_residual.ensures.1 in
     let next = part_is_next _ _ c.args.labels.now c.loop-label.yielded _ _ _ c.loop-label.yielded_by _ c.next.ensures.steps (λ b answer q h. search (rules, tests)) (search rules) (search rules) (search rules) c.in-Some.label c.in-Some.is in
     let passed = ap raw_fault (sym next.0) ∙ c.loop-label.invariant.no_fault in
@@ -22,8 +22,8 @@ loop-label-preserved c = record {
   counted = simp length-append (omega arith);
 }
 
-pub returns-then-depth-gt-MAX_LABELS : goal.returns-then-depth-gt-MAX_LABELS
-returns-then-depth-gt-MAX_LABELS c =
+pub returns-then-depth-gt-MAX_LABELS-clause-refusal : goal.returns-then-depth-gt-MAX_LABELS-clause-refusal
+returns-then-depth-gt-MAX_LABELS-clause-refusal c =
     let end = parts_are_all _ _ c.args.labels.now c.loop-label.yielded _ _ _ c.loop-label.yielded_by _ c.next.ensures.steps (λ b answer q h. search (rules, tests)) (search rules) (search rules) (search rules) c.in-None.is in
     count_refused c.args.labels.now c.loop-label.depth (ap raw_fault (sym end.0) ∙ c.loop-label.invariant.no_fault) (c.loop-label.invariant.counted ∙ end.1) c.if-depth-gt-MAX_LABELS.true
 
@@ -31,4 +31,7 @@ pub returns : goal.returns
 returns c =
     let end = parts_are_all _ _ c.args.labels.now c.loop-label.yielded _ _ _ c.loop-label.yielded_by _ c.next.ensures.steps (λ b answer q h. search (rules, tests)) (search rules) (search rules) (search rules) c.in-None.is in
     let counted = c.loop-label.invariant.counted ∙ end.1 in
-    (not_refused c.args.labels.now c.loop-label.depth (ap raw_fault (sym end.0) ∙ c.loop-label.invariant.no_fault) counted c.if-depth-gt-MAX_LABELS.false, counted ∙ sym (length-parts c.args.labels.now))
+    record {
+      refusal = not_refused c.args.labels.now c.loop-label.depth (ap raw_fault (sym end.0) ∙ c.loop-label.invariant.no_fault) counted c.if-depth-gt-MAX_LABELS.false;
+      counted = counted ∙ sym (length-parts c.args.labels.now);
+    }

@@ -1,4 +1,4 @@
-use Rattle.std.proofs.Common.{◌≡◌, ◌∙◌, ap, sym, subst, None, Option, option_map, List, String, string_bytes, rules}
+use Rattle.std.proofs.Common.{◌≡◌, ◌∙◌, ap, sym, subst, None, option_map, string_bytes, rules}
 use Rattle.lost_spec.specs.Civic.{Pairs, address_fault}
 use Rattle.lost_civic.specs.Pairs.{seen_pair, seen_pairs}
 use Rattle.lost_civic.specs.Texts.{table_of, seen_table}

@@ -1,4 +1,4 @@
-use Rattle.std.proofs.Common.{◌≡◌, ◌<◌, ◌∙◌, ap, sym, subst, get_or, Some, option_map, string_bytes, arith}
+use Rattle.std.proofs.Common.{◌<◌, ◌∙◌, ap, sym, get_or, Some, option_map, string_bytes, arith}
 use Rattle.lost_civic.specs.Pairs.{seen_pairs}
 use Rattle.lost_civic.specs.Element.{element_index}
 use Rattle.lost_civic.specs.Texts.{text_of}

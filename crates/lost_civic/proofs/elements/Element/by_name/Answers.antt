@@ -1,7 +1,7 @@
-use Rattle.std.proofs.Common.{◌≡◌, ◌+◌, ◌<◌, ◌∙◌, ap, sym, refl, true, false, length, slice_index_or, arith}
+use Rattle.std.proofs.Common.{◌∙◌, ap, sym, refl, slice_index_or}
 use Rattle.lost_spec.specs.Text.{same_text}
 use Rattle.lost_civic.specs.declared.elements.Element.TheVariants.{Country}
-use Rattle.lost_civic.specs.Element.{element_name, all_elements}
+use Rattle.lost_civic.specs.Element.{all_elements}
 use Rattle.lost_civic.proofs.ElementLemmas.{named_by, none_named, none_named_more}
 use Rattle.lost_civic.proofs.elements.Element.by_name.Goals as goal
 

@@ -1,7 +1,5 @@
-use Rattle.std.proofs.Common.{◌≡◌, ◌∙◌, ap, sym, subst, None, string_bytes, rules}
+use Rattle.std.proofs.Common.{◌≡◌, ◌∙◌, ap, sym, subst, None}
 use Rattle.lost_spec.specs.Civic.{Pairs, pattern_fault}
-use Rattle.lost_civic.specs.declared.texts.Compared.{Compared}
-use Rattle.lost_civic.specs.Element.{element_name}
 use Rattle.lost_civic.specs.Pairs.{seen_pair, seen_pairs}
 use Rattle.lost_civic.specs.Texts.{compared_of, seen_one, seen_compared}
 use Rattle.lost_civic.proofs.PairCopies.{map-from_all_zip, same_pair-copies, same_compared-copies}

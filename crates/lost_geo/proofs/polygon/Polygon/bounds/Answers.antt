@@ -1,3 +1,4 @@
+-- The bounds that a polygon keeps are exact, since its ring has a position.
 use Rattle.lost_geo.proofs.Exact.{AreExact-ring}
 use Rattle.lost_geo.proofs.polygon.Polygon.bounds.Goals as goal
 
