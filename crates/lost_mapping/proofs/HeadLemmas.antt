@@ -1,5 +1,5 @@
 -- What a reader's own clauses say of its refusal, as the refusal of a check.
-use Rattle.std.proofs.Common.{◌≡◌, ◌≢◌, ◌↔◌, Bool, true, false, not, IsTrue, IsNone, IfSome, IsOkUnless, Option, Some, None, Result, Ok, Err, refl, sym, ap, ◌∙◌}
+use Rattle.std.proofs.Common.{◌≡◌, ◌↔◌, Bool, true, false, not, IsTrue, IsNone, IfSome, IsOkUnless, Option, Some, None, Result, Ok, Err, refl}
 use Rattle.lost_spec.specs.declared.faults.MappingError.{MappingError}
 use Rattle.lost_spec.specs.declared.faults.MappingError.TheVariants.{Memory}
 use Rattle.lost_mapping.specs.Faults.{Refuses, fault_if}

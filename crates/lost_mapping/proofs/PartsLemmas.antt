@@ -44,33 +44,33 @@ right_count : (is_default : Bool) (regions : List Region) → has_right_regions 
 right_count true regions = refl
 right_count false regions = refl
 
-parts_fault-groups : (p : Parts) → parts_fault p ≡ option_or (head_fault p) (option_or (contact_fault p.uris p.number) (rest_fault p))
+parts_fault-groups : (p : Parts) → parts_fault p ≡ option_or (head_fault p) (option_or (contact_fault p) (rest_fault p))
 unfolding parts_fault
 parts_fault-groups p =
     groups (not (is_source p.source)) (not (is_id p.source_id)) (not (is_stamp p.last_updated)) (not (is_expires p.expires)) (is_err (read_service p.service)) (not (are_uris p.uris)) (not (is_number p.number)) (not (list_all is_region p.regions)) (not (has_right_regions p.is_default p.regions)) (is_too_large p) (not (has_right_key p.is_default p.key))
-    ∙ ap (λ right. option_or (head_fault p) (option_or (contact_fault p.uris p.number) (option_or (regions_fault p.regions) (first_fault ((not right, RegionMissing) ∷ (is_too_large p, TooLarge) ∷ (not (has_right_key p.is_default p.key), BadKey) ∷ []))))) (right_count p.is_default p.regions)
+    ∙ ap (λ right. option_or (head_fault p) (option_or (contact_fault p) (option_or (regions_fault p.regions) (first_fault ((not right, RegionMissing) ∷ (is_too_large p, TooLarge) ∷ (not (has_right_key p.is_default p.key), BadKey) ∷ []))))) (right_count p.is_default p.regions)
 
 -- ---- the first group that refuses
 
 pub refused_by_head : (p : Parts) (e : MappingError) → (e ≢ Memory → head_fault p ≡ Some e) → e ≢ Memory → parts_fault p ≡ Some e
 refused_by_head p e head other =
-    parts_fault-groups p ∙ ap (λ first. option_or first (option_or (contact_fault p.uris p.number) (rest_fault p))) (head other)
+    parts_fault-groups p ∙ ap (λ first. option_or first (option_or (contact_fault p) (rest_fault p))) (head other)
 
-after_head : (p : Parts) → head_fault p ≡ None → parts_fault p ≡ option_or (contact_fault p.uris p.number) (rest_fault p)
-after_head p head = parts_fault-groups p ∙ ap (λ first. option_or first (option_or (contact_fault p.uris p.number) (rest_fault p))) head
+after_head : (p : Parts) → head_fault p ≡ None → parts_fault p ≡ option_or (contact_fault p) (rest_fault p)
+after_head p head = parts_fault-groups p ∙ ap (λ first. option_or first (option_or (contact_fault p) (rest_fault p))) head
 
-pub refused_by_contact : (p : Parts) (e : MappingError) → head_fault p ≡ None → (e ≢ Memory → contact_fault p.uris p.number ≡ Some e) → e ≢ Memory → parts_fault p ≡ Some e
+pub refused_by_contact : (p : Parts) (e : MappingError) → head_fault p ≡ None → (e ≢ Memory → contact_fault p ≡ Some e) → e ≢ Memory → parts_fault p ≡ Some e
 refused_by_contact p e head contact other = after_head p head ∙ ap (λ first. option_or first (rest_fault p)) (contact other)
 
-after_contact : (p : Parts) → head_fault p ≡ None → contact_fault p.uris p.number ≡ None → parts_fault p ≡ rest_fault p
+after_contact : (p : Parts) → head_fault p ≡ None → contact_fault p ≡ None → parts_fault p ≡ rest_fault p
 after_contact p head contact = after_head p head ∙ ap (λ first. option_or first (rest_fault p)) contact
 
-pub refused_by_regions : (p : Parts) (e : MappingError) → head_fault p ≡ None → contact_fault p.uris p.number ≡ None → (e ≢ Memory → regions_fault p.regions ≡ Some e) → e ≢ Memory → parts_fault p ≡ Some e
+pub refused_by_regions : (p : Parts) (e : MappingError) → head_fault p ≡ None → contact_fault p ≡ None → (e ≢ Memory → regions_fault p.regions ≡ Some e) → e ≢ Memory → parts_fault p ≡ Some e
 refused_by_regions p e head contact regions other =
     after_contact p head contact ∙ ap (λ first. option_or first (shape_fault p.is_default (length p.regions) (polygons_of p.regions) (patterns_of p.regions) p.display_names p.key)) (regions other)
 
 -- what the shape refuses is what the parts refuse, once nothing before it does
-pub after_regions : (p : Parts) (count : ℕ) (polygons : List (List Point)) (patterns : List Pairs) → head_fault p ≡ None → contact_fault p.uris p.number ≡ None → regions_fault p.regions ≡ None → count ≡ length p.regions → polygons ≡ polygons_of p.regions → patterns ≡ patterns_of p.regions → parts_fault p ≡ shape_fault p.is_default count polygons patterns p.display_names p.key
+pub after_regions : (p : Parts) (count : ℕ) (polygons : List (List Point)) (patterns : List Pairs) → head_fault p ≡ None → contact_fault p ≡ None → regions_fault p.regions ≡ None → count ≡ length p.regions → polygons ≡ polygons_of p.regions → patterns ≡ patterns_of p.regions → parts_fault p ≡ shape_fault p.is_default count polygons patterns p.display_names p.key
 after_regions p count polygons patterns head contact regions counted polygons_are patterns_are =
     after_contact p head contact
     ∙ ap (λ first. option_or first (shape_fault p.is_default (length p.regions) (polygons_of p.regions) (patterns_of p.regions) p.display_names p.key)) regions

@@ -1,19 +1,12 @@
 -- How a list of regions is refused where one of them is, and where its polygons and patterns stand.
-use Rattle.std.proofs.Common.{◌≡◌, ◌≢◌, Bool, true, false, not, List, [], ◌∷◌, ◌++◌, Option, Some, None, refl, sym, ap, ◌∙◌}
+use Rattle.std.proofs.Common.{◌≡◌, ◌≢◌, Bool, true, false, not, Some, refl, sym, ap, ◌∙◌}
 use Rattle.lost_spec.specs.declared.faults.MappingError.{MappingError}
 use Rattle.lost_spec.specs.declared.faults.MappingError.TheVariants.{BadRegion, Memory}
 use Rattle.lost_mapping.specs.Faults.{fault_if}
 
-pub fails_where_refused : (passes : Bool) (e : MappingError) → fault_if (not passes) BadRegion ≡ Some e → passes ≡ false
+fails_where_refused : (passes : Bool) (e : MappingError) → fault_if (not passes) BadRegion ≡ Some e → passes ≡ false
 fails_where_refused true e h = cc
 fails_where_refused false e h = refl
-
-pub passes_where_accepted : (passes : Bool) → fault_if (not passes) BadRegion ≡ None → passes ≡ true
-passes_where_accepted true h = refl
-passes_where_accepted false h = cc
-
-pub accepted_where_passes : (passes : Bool) → passes ≡ true → fault_if (not passes) BadRegion ≡ None
-accepted_where_passes passes h = ap (λ b. fault_if (not b) BadRegion) h
 
 -- what refuses a part refuses the whole, where the whole fails with the part
 pub refused_with_part : (part whole : Bool) (e : MappingError) → (part ≡ false → whole ≡ false) → (e ≢ Memory → fault_if (not part) BadRegion ≡ Some e) → e ≢ Memory → fault_if (not whole) BadRegion ≡ Some e

@@ -1,5 +1,5 @@
 -- A test of each text of a list is a test of the texts that definitions see.
-use Rattle.std.proofs.Common.{◌≡◌, ℕ, ◌≤◌, Bool, true, false, not, cond, nat_lt, ◌==◌, ltb-false, List, [], ◌∷◌, map, take, length, String, string_bytes, Option, Some, None, position, refl, sym, ap, ◌||◌, ◌&&◌}
+use Rattle.std.proofs.Common.{◌≡◌, ℕ, ◌≤◌, Bool, true, false, not, cond, nat_lt, ◌==◌, ltb-false, List, [], ◌∷◌, take, length, String, string_bytes, Some, None, position, refl, sym, ap, ◌||◌, ◌&&◌}
 use Rattle.std.specs.List.{list_any, list_all, prefix_len}
 use Rattle.std.proofs.lemmas.List.{take_all}
 use Rattle.lost_spec.specs.Text.{Text, lowered}

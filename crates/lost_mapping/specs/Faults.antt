@@ -33,8 +33,8 @@ head_fault parts = option_or (identity_fault parts.source parts.source_id) (term
 
 -- ---- how the service is reached
 
-abbrev pub contact_fault : List Text → Option Text → Option MappingError
-contact_fault uris number = first_fault ((not (are_uris uris), BadUri) ∷ (not (is_number number), BadNumber) ∷ [])
+abbrev pub contact_fault : Parts → Option MappingError
+contact_fault parts = first_fault ((not (are_uris parts.uris), BadUri) ∷ (not (is_number parts.number), BadNumber) ∷ [])
 
 -- ---- where the mapping holds
 

@@ -82,7 +82,7 @@ impl Mapping {
         ensures refused { IfErr result (λ e. e ≢ MappingError.Memory → parts_fault (parts_of parts) ≡ Some e) }
     {
         let head = Head::read(alloc, &parts)?;
-        check_contact(parts.uris.as_slice(), parts.number.as_deref())?;
+        check_contact(&parts)?;
         let regions = parts.regions.len();
         let areas = Areas::read(alloc, parts.regions)?;
         check_shape(
@@ -221,13 +221,13 @@ impl Mapping {
 }
 
 /// Refuses bad URIs, and then a bad number.
-fn check_contact(uris: &[String], number: Option<&str>) -> Result<(), MappingError>
-    ensures { Refuses result (contact_fault (texts_of uris.now) (option_copied number.entry)) }
+fn check_contact(parts: &Parts) -> Result<(), MappingError>
+    ensures { Refuses result (contact_fault (parts_of parts.now)) }
 {
-    if !are_uris(uris) {
+    if !are_uris(parts.uris.as_slice()) {
         return Err(MappingError::BadUri);
     }
-    if !is_number(number) {
+    if !is_number(parts.number.as_deref()) {
         return Err(MappingError::BadNumber);
     }
     Ok(())
