@@ -5,11 +5,13 @@ use Rattle.lost_spec.specs.Moment.{Instant, nanoseconds_of_a_day, is_date, is_ti
 use Rattle.lost_mapping.specs.StampText.{number_in, has_shape, end_of}
 use Rattle.lost_mapping.proofs.BoolLemmas.{first_fails, second_fails, third_fails, fourth_fails, all_hold}
 
+-- a text is a stamp where each of its parts is good
 pub is_stamp-parts : (text : Text) → is_stamp text
     ≡ (has_shape text && is_date (number_in text 0 4) (number_in text 5 7) (number_in text 8 10) && is_time (number_in text 11 13) (number_in text 14 16) (number_in text 17 19) && is_some (end_of text))
 unfolding is_stamp has_shape number_in end_of
 is_stamp-parts text = refl
 
+-- the calendar has the day in the text, and the clock the second
 abbrev date_of : Text → Bool
 date_of text = is_date (number_in text 0 4) (number_in text 5 7) (number_in text 8 10)
 
