@@ -4,13 +4,11 @@
 
 mod book;
 mod changes;
-mod check;
 mod edit;
 mod held;
 mod limits;
 mod places;
 mod regions;
-mod scans;
 
 pub use book::Book;
 pub use edit::Edit;

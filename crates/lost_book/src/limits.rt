@@ -1,5 +1,5 @@
 //! How much a book may hold and accept.
-ghost use Rattle.std.specs.Prelude.{◌≡◌, ◌<◌, ◌^◌};
+ghost use Rattle.std.specs.Prelude.{◌≡◌};
 ghost use Rattle.lost_spec.specs.Book.{limits_of};
 ghost use Rattle.lost_book.specs.Bounds.{AreAllowed};
 

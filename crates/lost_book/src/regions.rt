@@ -1,7 +1,6 @@
 //! Whether two mappings have the same regions, and the same key.
 ghost use Rattle.std.specs.Prelude.{◌≡◌};
 ghost use lib.Pointwise.{pointwise};
-ghost use Rattle.std.specs.Option.{option_copied};
 ghost use Rattle.lost_spec.specs.Ring.{same_point};
 ghost use Rattle.lost_spec.specs.Book.{same_regions, same_key};
 

@@ -33,7 +33,7 @@ impl Book {
         }
     }
 
-    pub(crate) fn check_publish(&self, mapping: &Mapping) -> Result<(), EditError>
+    pub(super) fn check_publish(&self, mapping: &Mapping) -> Result<(), EditError>
         ensures { result_err result ≡ publish_refusal self.now mapping.now }
     {
         if self.is_spent() {
@@ -51,7 +51,7 @@ impl Book {
         Ok(())
     }
 
-    pub(crate) fn check_replace(&self, mapping: &Mapping) -> Result<(), EditError>
+    pub(super) fn check_replace(&self, mapping: &Mapping) -> Result<(), EditError>
         ensures { result_err result ≡ replace_refusal self.now mapping.now }
     {
         if self.is_spent() {
@@ -72,7 +72,7 @@ impl Book {
         Ok(())
     }
 
-    pub(crate) fn check_withdraw(&self, identity: &Identity, stamp: &Stamp) -> Result<(), EditError>
+    pub(super) fn check_withdraw(&self, identity: &Identity, stamp: &Stamp) -> Result<(), EditError>
         ensures { result_err result ≡ withdraw_refusal self.now identity.now stamp.now }
     {
         if self.is_spent() {

@@ -2,7 +2,7 @@ use Rattle.std.proofs.Common.{◌≡◌, Bool, take}
 use Rattle.std.specs.Fn.{FnReturnsAt}
 use Rattle.lost_spec.specs.Mapping as spec
 use Rattle.lost_spec.specs.Positions.{positions}
-use Rattle.lost_book.proofs.scans.places_of.Given as goal
+use Rattle.lost_book.proofs.book.scans.places_of.Given as goal
 
 abbrev pub invariant-loop-place : goal.invariant-loop-place
 invariant-loop-place g l =

@@ -1,8 +1,8 @@
 use Rattle.std.proofs.Common.{◌<◌, length, refl, sym, ◌∙◌, arith}
 use Rattle.std.proofs.lemmas.Fn.{says_at}
 use Rattle.lost_book.proofs.PlaceLemmas.{positions_more_passes, positions_more_fails, positions_all}
-use Rattle.lost_book.proofs.scans.places_of.Goals as goal
-use Rattle.lost_book.proofs.scans.places_of.Goals.{then-passes+in_ok-push, else-passes}
+use Rattle.lost_book.proofs.book.scans.places_of.Goals as goal
+use Rattle.lost_book.proofs.book.scans.places_of.Goals.{then-passes+in_ok-push, else-passes}
 
 pub loop-place-preserved : goal.loop-place-preserved
 loop-place-preserved g c = λ test is.
