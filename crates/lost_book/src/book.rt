@@ -36,6 +36,7 @@ impl Book {
     pub fn new(alloc: Global, limits: Limits) -> Result<Book, AllocError>
         ensures { IfOk result (λ book. book ≡ empty_book limits) }
     {
+        // Shows to the proof that the limit of edits has 32 bits.
         let _edits = limits.edits();
         Ok(Book {
             limits,
