@@ -1,0 +1,12 @@
+-- What limits keep, and what a book keeps within its limits.
+use Rattle.std.specs.Prelude.{◌≡◌, ◌≤◌, ◌<◌, ◌^◌, Some}
+use Rattle.lost_spec.specs.Book.{Limits, Book, limits_of}
+
+-- the limits are allowed (own)
+abbrev pub AreAllowed : Limits → Type 0
+AreAllowed limits = limits_of limits.mappings limits.edits ≡ Some limits
+
+-- no more edits were accepted than the limit, which has 32 bits (own)
+pub record IsCounted (b : Book) : Type 0 where
+  pub edits : b.edits ≤ b.limits.edits
+  pub limit : b.limits.edits < 2 ^ 32

@@ -1,0 +1,63 @@
+//! How edits change a book.
+ghost use Rattle.std.specs.Prelude.{◌≡◌, ◌≢◌, None, Some, IfErr, OnOk, OnErr};
+ghost use Rattle.lost_spec.specs.Book.{Publish, Replace, Withdraw, refusal, after};
+ghost use Rattle.lost_book.specs.Applied.{IsApplied};
+ghost use Rattle.lost_book.specs.Edit.{edit_of};
+
+use crate::book::Book;
+use crate::changes;
+use crate::edit::Edit;
+use lost_mapping::{Identity, Mapping, Stamp};
+use lost_spec::faults::EditError;
+
+impl Book {
+    /// Applies an edit: a publish appends, a replacement keeps the place, a withdrawal closes up, and the edition rises
+    /// by one. Only a publish takes memory.
+    ///
+    /// # Errors
+    ///
+    /// The refusal of [`Book::check`], and after it [`EditError::Memory`] for want of memory. The book is then
+    /// unchanged.
+    pub fn apply(&mut self, edit: Edit) -> Result<(), EditError>
+        ensures accepted { OnOk result (refusal self.old (edit_of edit) ≡ None) }
+        ensures changed { OnOk result (self.new ≡ after self.old (edit_of edit)) }
+        ensures refused { IfErr result (λ e. e ≢ EditError.Memory → refusal self.old (edit_of edit) ≡ Some e) }
+        ensures memory_last { result ≡ Err EditError.Memory → refusal self.old (edit_of edit) ≡ None }
+        ensures unchanged { OnErr result (self.new ≡ self.old) }
+    {
+        match edit {
+            Edit::Publish(mapping) => self.publish(mapping),
+            Edit::Replace(mapping) => self.replace(mapping),
+            Edit::Withdraw(identity, stamp) => self.withdraw(&identity, &stamp),
+        }
+    }
+
+    fn publish(&mut self, mapping: Mapping) -> Result<(), EditError>
+        ensures { IsApplied self.old (Publish mapping) result self.new }
+    {
+        self.check_publish(&mapping)?;
+        if changes::append(&mut self.mappings, mapping).is_err() {
+            return Err(EditError::Memory);
+        }
+        self.edits += 1;
+        Ok(())
+    }
+
+    fn replace(&mut self, mapping: Mapping) -> Result<(), EditError>
+        ensures { IsApplied self.old (Replace mapping) result self.new }
+    {
+        self.check_replace(&mapping)?;
+        changes::replace(&mut self.mappings, mapping);
+        self.edits += 1;
+        Ok(())
+    }
+
+    fn withdraw(&mut self, identity: &Identity, stamp: &Stamp) -> Result<(), EditError>
+        ensures { IsApplied self.old (Withdraw identity.now stamp.now) result self.new }
+    {
+        self.check_withdraw(identity, stamp)?;
+        changes::withdraw(&mut self.mappings, identity);
+        self.edits += 1;
+        Ok(())
+    }
+}

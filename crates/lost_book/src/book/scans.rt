@@ -1,0 +1,141 @@
+//! The questions that a book is asked, each answered by a scan of the list. Lists are of positions, rising.
+ghost use Rattle.std.specs.Prelude.{◌≡◌, Bool, None, IfOk, MatchOption, position, slice_get};
+ghost use Rattle.std.specs.Fn.{FnReturnsAt};
+ghost use Rattle.lost_spec.specs.Mapping as spec;
+ghost use Rattle.lost_spec.specs.Positions.{positions};
+ghost use Rattle.lost_spec.specs.Find.{AtPoint, AtAddress, is_holder, is_standby, serves, is_implemented};
+ghost use Rattle.lost_spec.specs.Services.{is_holding, has_live_key, by_key};
+
+use crate::book::Book;
+use crate::held::place_of_live_key;
+use crate::places::{holds_address, holds_point, is_of_chain, serves};
+use lost_civic::CivicAddress;
+use lost_geo::GeoPoint;
+use lost_mapping::{Mapping, Moment};
+use lost_urn::ServiceUrn;
+use std::alloc::{AllocError, Global};
+
+impl Book {
+    /// The mappings that are live, are no defaults, have this service and hold the point (RFC 5222, section 8), or want
+    /// of memory.
+    pub fn at_point(
+        &self,
+        moment: &Moment,
+        point: &GeoPoint,
+        service: &ServiceUrn,
+    ) -> Result<Vec<usize>, AllocError>
+        ensures { IfOk result (λ places.
+            places.items ≡ positions (is_holder moment.now (AtPoint point.now) service.now) self.now.mappings) }
+    {
+        places_of(self.mappings(), self.alloc(), |mapping| {
+            serves(mapping, moment, service) && !mapping.is_default() && holds_point(mapping, point)
+        })
+    }
+
+    /// The mappings that are live, are no defaults, have this service and hold the address (RFC 5222, section 8), or
+    /// want of memory.
+    pub fn at_address(
+        &self,
+        moment: &Moment,
+        address: &CivicAddress,
+        service: &ServiceUrn,
+    ) -> Result<Vec<usize>, AllocError>
+        ensures { IfOk result (λ places.
+            places.items ≡ positions (is_holder moment.now (AtAddress address.now) service.now) self.now.mappings) }
+    {
+        places_of(self.mappings(), self.alloc(), |mapping| {
+            serves(mapping, moment, service)
+                && !mapping.is_default()
+                && holds_address(mapping, address)
+        })
+    }
+
+    /// The mappings that are live, are no defaults and hold the point (RFC 5222, section 11), or want of memory.
+    pub fn holding_point(&self, moment: &Moment, point: &GeoPoint) -> Result<Vec<usize>, AllocError>
+        ensures { IfOk result (λ places.
+            places.items ≡ positions (is_holding moment.now (AtPoint point.now)) self.now.mappings) }
+    {
+        places_of(self.mappings(), self.alloc(), |mapping| {
+            mapping.is_live(moment) && !mapping.is_default() && holds_point(mapping, point)
+        })
+    }
+
+    /// The mappings that are live, are no defaults and hold the address (RFC 5222, section 11), or want of memory.
+    pub fn holding_address(
+        &self,
+        moment: &Moment,
+        address: &CivicAddress,
+    ) -> Result<Vec<usize>, AllocError>
+        ensures { IfOk result (λ places.
+            places.items ≡ positions (is_holding moment.now (AtAddress address.now)) self.now.mappings) }
+    {
+        places_of(self.mappings(), self.alloc(), |mapping| {
+            mapping.is_live(moment) && !mapping.is_default() && holds_address(mapping, address)
+        })
+    }
+
+    /// The defaults that are live and have this service (own rule), or want of memory.
+    pub fn defaults(&self, moment: &Moment, service: &ServiceUrn) -> Result<Vec<usize>, AllocError>
+        ensures { IfOk result (λ places.
+            places.items ≡ positions (is_standby moment.now service.now) self.now.mappings) }
+    {
+        places_of(self.mappings(), self.alloc(), |mapping| {
+            serves(mapping, moment, service) && mapping.is_default()
+        })
+    }
+
+    /// The mappings that are live and have this service, defaults too (RFC 5222, section 8.4.2; own rule), or want of
+    /// memory.
+    pub fn of_service(
+        &self,
+        moment: &Moment,
+        service: &ServiceUrn,
+    ) -> Result<Vec<usize>, AllocError>
+        ensures { IfOk result (λ places.
+            places.items ≡ positions (λ m. serves m moment.now service.now) self.now.mappings) }
+    {
+        places_of(
+            self.mappings(),
+            self.alloc(),
+            |mapping| serves(mapping, moment, service),
+        )
+    }
+
+    /// The first mapping that is live and has this key (RFC 5222, section 9; keys are an own rule).
+    pub fn by_key(&self, moment: &Moment, key: &str) -> Option<usize>
+        ensures position { result ≡ position (has_live_key moment.now key.now) self.now.mappings }
+        ensures mapping { MatchOption result (by_key self.now moment.now key.now ≡ None)
+            (λ place. by_key self.now moment.now key.now ≡ slice_get self.now.mappings place) }
+    {
+        place_of_live_key(self.mappings(), moment, key)
+    }
+
+    /// Whether some live mapping has the service or one above it (RFC 5222, section 13.1; own reading).
+    #[tactic(auto, unfolding(lost_spec::specs::Find::is_implemented))]
+    pub fn implemented(&self, moment: &Moment, service: &ServiceUrn) -> bool
+        ensures { result ≡ is_implemented self.now moment.now service.now }
+    {
+        self.mappings()
+            .iter()
+            .any(|mapping| is_of_chain(mapping, moment, service))
+    }
+}
+
+/// Where the mappings stand that pass a test, or want of memory.
+fn places_of<F: Fn(&Mapping) -> bool>(
+    mappings: &[Mapping],
+    alloc: Global,
+    passes: F,
+) -> Result<Vec<usize>, AllocError>
+    requires { F.IsAlwaysCallable passes }
+    ensures { (test : spec.Mapping → Bool) → ((m : spec.Mapping) (r : Bool) → FnReturnsAt F.Fn passes m r → r ≡ test m)
+        → IfOk result (λ places. places.items ≡ positions test mappings.now) }
+{
+    let mut places = Vec::new(alloc);
+    for (place, mapping) in mappings.iter().enumerate() {
+        if passes(mapping) {
+            places.push(place)?;
+        }
+    }
+    Ok(places)
+}

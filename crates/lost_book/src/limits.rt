@@ -1,0 +1,59 @@
+//! How much a book may hold and accept.
+ghost use Rattle.std.specs.Prelude.{◌≡◌};
+ghost use Rattle.lost_spec.specs.Book.{limits_of};
+ghost use Rattle.lost_book.specs.Bounds.{AreAllowed};
+
+use std::marker::Model;
+
+/// The most mappings that a book may hold (own rule).
+const GREATEST_MAPPINGS: u32 = 65_536;
+
+/// How many mappings a book may hold, 1 to 65,536, and how many edits it may accept, at least 1 (own rule). Contracts
+/// see them as the record `Limits`.
+#[derive(Clone, Copy, PartialEq, Eq, Debug)]
+pub struct Limits {
+    mappings: u32,
+    edits: u32,
+}
+
+impl Model for Limits {
+    ghost use Rattle.lost_spec.specs.Book as spec;
+    ghost use Rattle.lost_book.specs.Bounds.{AreAllowed};
+
+    ghost Value = { spec.Limits };
+
+    ghost view = { λ l. record { mappings = l.mappings; edits = l.edits } };
+
+    ghost invariant = { λ l. AreAllowed (record { mappings = l.mappings; edits = l.edits }) };
+
+    ghost inverse = { λ l. record { mappings = l.mappings; edits = l.edits } };
+}
+
+impl Limits {
+    /// These limits, or `None` unless `mappings` is 1 to 65,536 and `edits` is at least 1.
+    pub fn new(mappings: u32, edits: u32) -> Option<Limits>
+        ensures { result ≡ limits_of mappings edits }
+    {
+        if mappings >= 1 && mappings <= GREATEST_MAPPINGS && edits >= 1 {
+            Some(Limits { mappings, edits })
+        } else {
+            None
+        }
+    }
+
+    /// How many mappings may be held.
+    pub fn mappings(&self) -> u32
+        ensures mappings { result ≡ self.now.mappings }
+        ensures allowed { AreAllowed self.now }
+    {
+        self.mappings
+    }
+
+    /// How many edits may be accepted.
+    pub fn edits(&self) -> u32
+        ensures edits { result ≡ self.now.edits }
+        ensures allowed { AreAllowed self.now }
+    {
+        self.edits
+    }
+}
