@@ -1,0 +1,9 @@
+-- What a `Place` of the code stands for.
+use Rattle.lost_query.specs.declared.place.Place.{Place as Kept}
+use Rattle.lost_query.specs.declared.place.Place.TheVariants.{Point as KeptPoint, Address as KeptAddress}
+use Rattle.lost_spec.specs.Find.{Place, AtPoint, AtAddress}
+
+-- where a request asks (RFC 5222, section 12)
+abbrev pub place_of : Kept → Place
+place_of (KeptPoint point) = AtPoint point
+place_of (KeptAddress address) = AtAddress address

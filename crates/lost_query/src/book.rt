@@ -1,0 +1,58 @@
+//! The plain book as holdings.
+use crate::holdings::Holdings;
+use crate::place::Place;
+use lost_book::Book;
+use lost_mapping::{Mapping, Moment};
+use lost_urn::ServiceUrn;
+use std::alloc::AllocError;
+
+impl Holdings for Book {
+    ghost book = { λ b. b };
+
+    fn edition(&self) -> u64 {
+        Book::edition(self)
+    }
+
+    fn len(&self) -> usize {
+        Book::len(self)
+    }
+
+    fn mapping(&self, position: usize) -> &Mapping {
+        Book::mapping(self, position)
+    }
+
+    fn by_key(&self, moment: &Moment, key: &str) -> Option<usize> {
+        Book::by_key(self, moment, key)
+    }
+
+    fn implemented(&self, moment: &Moment, service: &ServiceUrn) -> bool {
+        Book::implemented(self, moment, service)
+    }
+
+    fn holding(&self, moment: &Moment, place: &Place) -> Result<Vec<usize>, AllocError> {
+        match place {
+            Place::Point(point) => self.holding_point(moment, point),
+            Place::Address(address) => self.holding_address(moment, address),
+        }
+    }
+
+    fn at(
+        &self,
+        moment: &Moment,
+        place: &Place,
+        service: &ServiceUrn,
+    ) -> Result<Vec<usize>, AllocError> {
+        match place {
+            Place::Point(point) => self.at_point(moment, point, service),
+            Place::Address(address) => self.at_address(moment, address, service),
+        }
+    }
+
+    fn defaults(&self, moment: &Moment, service: &ServiceUrn) -> Result<Vec<usize>, AllocError> {
+        Book::defaults(self, moment, service)
+    }
+
+    fn of_service(&self, moment: &Moment, service: &ServiceUrn) -> Result<Vec<usize>, AllocError> {
+        Book::of_service(self, moment, service)
+    }
+}

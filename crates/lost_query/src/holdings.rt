@@ -1,0 +1,66 @@
+//! What holds mappings, and what it is asked.
+ghost use Rattle.std.specs.Prelude.{◌≡◌, ◌<◌, Some, IfOk, length, position, slice_get};
+ghost use Rattle.lost_spec.specs.Book as spec;
+ghost use Rattle.lost_spec.specs.Positions.{positions};
+ghost use Rattle.lost_spec.specs.Find.{is_holder, is_standby, serves, is_implemented};
+ghost use Rattle.lost_spec.specs.Services.{is_holding, has_live_key};
+ghost use Rattle.lost_query.specs.Place.{place_of};
+
+use crate::place::Place;
+use lost_mapping::{Mapping, Moment};
+use lost_urn::ServiceUrn;
+use std::alloc::AllocError;
+
+/// What holds mappings, however it keeps them: it is seen as a book (own rule). A position is that of a mapping in the
+/// book's list, from 0; lists of positions are rising.
+pub trait Holdings {
+    /// The book that it is seen as.
+    ghost book: { Self → spec.Book };
+
+    /// How many edits were accepted.
+    fn edition(&self) -> u64
+        ensures { result ≡ (book self.now).edits };
+
+    /// How many mappings are held.
+    fn len(&self) -> usize
+        ensures { result ≡ length (book self.now).mappings };
+
+    /// The mapping at a position, which is below `len`.
+    fn mapping(&self, position: usize) -> &Mapping
+        requires { position < length (book self.now).mappings }
+        ensures { slice_get (book self.now).mappings position ≡ Some result.now };
+
+    /// Where the live mapping with this key stands (RFC 5222, section 9; keys own).
+    fn by_key(&self, moment: &Moment, key: &str) -> Option<usize>
+        ensures { result ≡ position (has_live_key moment.now key.now) (book self.now).mappings };
+
+    /// Whether some live mapping has the service or one above it (RFC 5222, section 13.1; own reading).
+    fn implemented(&self, moment: &Moment, service: &ServiceUrn) -> bool
+        ensures { result ≡ is_implemented (book self.now) moment.now service.now };
+
+    /// The mappings that are live, are no defaults and hold the place (RFC 5222, section 11), or want of memory.
+    fn holding(&self, moment: &Moment, place: &Place) -> Result<Vec<usize>, AllocError>
+        ensures { IfOk result (λ places.
+            places.items ≡ positions (is_holding moment.now (place_of place.now)) (book self.now).mappings) };
+
+    /// The mappings that are live, are no defaults, have this service and hold the place (RFC 5222, section 8), or want
+    /// of memory.
+    fn at(
+        &self,
+        moment: &Moment,
+        place: &Place,
+        service: &ServiceUrn,
+    ) -> Result<Vec<usize>, AllocError>
+        ensures { IfOk result (λ places.
+            places.items ≡ positions (is_holder moment.now (place_of place.now) service.now) (book self.now).mappings) };
+
+    /// The live defaults of this service (own rule), or want of memory.
+    fn defaults(&self, moment: &Moment, service: &ServiceUrn) -> Result<Vec<usize>, AllocError>
+        ensures { IfOk result (λ places.
+            places.items ≡ positions (is_standby moment.now service.now) (book self.now).mappings) };
+
+    /// The live mappings of this service, defaults too (RFC 5222, section 8.4.2; own policy), or want of memory.
+    fn of_service(&self, moment: &Moment, service: &ServiceUrn) -> Result<Vec<usize>, AllocError>
+        ensures { IfOk result (λ places.
+            places.items ≡ positions (λ m. serves m moment.now service.now) (book self.now).mappings) };
+}

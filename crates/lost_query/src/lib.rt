@@ -1,0 +1,22 @@
+//! Requests, replies and answers (RFC 5222, sections 8 to 13): what a request asks of the mappings that are held, and
+//! the answer to it. What holds the mappings is behind a trait, so the answer does not depend on how they are kept.
+#![tactic(auto)]
+
+mod answering;
+mod book;
+mod holdings;
+mod place;
+mod reply;
+mod request;
+mod services;
+mod validation;
+
+pub use answering::answer;
+pub use holdings::Holdings;
+pub use lost_spec::answers::{AnswerError, Warning};
+pub use place::Place;
+pub use reply::{Boundary, Reply, ShownMapping, Validation};
+pub use request::{Body, Location, Request};
+
+#[cfg(test)]
+mod tests;

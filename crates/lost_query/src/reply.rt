@@ -1,0 +1,72 @@
+//! Replies.
+use lost_mapping::Mapping;
+use lost_spec::answers::{AnswerError, Warning};
+use lost_urn::ServiceUrn;
+
+/// A reply (RFC 5222, sections 8.4, 9 to 11 and 13.1). `edition` is the number of edits that the mappings it is for
+/// come from, `path` the request's with the server's name after it.
+#[derive(Drop)]
+pub enum Reply {
+    /// The mappings that were found (RFC 5222, section 8.4).
+    FindServiceResponse {
+        edition: u64,
+        location_used: String,
+        validation: Option<Validation>,
+        mappings: Vec<ShownMapping>,
+        path: Vec<String>,
+        warnings: Vec<Warning>,
+    },
+    /// The services at the location (RFC 5222, section 11).
+    ListServicesByLocationResponse {
+        edition: u64,
+        location_used: String,
+        path: Vec<String>,
+        services: Vec<ServiceUrn>,
+    },
+    /// The services anywhere (RFC 5222, section 10).
+    ListServicesResponse {
+        edition: u64,
+        path: Vec<String>,
+        services: Vec<ServiceUrn>,
+    },
+    /// All regions of the mapping that has the key, polygons first (RFC 5222, section 9).
+    GetServiceBoundaryResponse {
+        edition: u64,
+        path: Vec<String>,
+        mapping: Mapping,
+    },
+    /// An error of the answer (RFC 5222, section 13.1).
+    Errors { edition: u64, error: AnswerError },
+    /// The line was no request (RFC 5222, section 13.1).
+    BadRequest,
+    /// Memory ran out (RFC 5222, section 13.1).
+    InternalError,
+}
+
+/// A mapping, and how its boundary is shown (RFC 5222, section 8.4.1).
+#[derive(Drop)]
+pub struct ShownMapping {
+    pub mapping: Mapping,
+    pub boundary: Boundary,
+}
+
+/// Which boundary of a mapping is shown (RFC 5222, sections 5.5 and 5.6).
+#[derive(Clone, Copy, PartialEq, Eq, Debug)]
+pub enum Boundary {
+    /// Its key and its source.
+    ByReference,
+    /// Its polygons.
+    ByPolygons,
+    /// Its civic patterns.
+    ByPatterns,
+    /// None, for a default.
+    NoBoundary,
+}
+
+/// The names of an address's elements by how they were judged (RFC 5222, section 8.4.2).
+#[derive(Drop)]
+pub struct Validation {
+    pub invalid: Vec<String>,
+    pub unchecked: Vec<String>,
+    pub valid: Vec<String>,
+}

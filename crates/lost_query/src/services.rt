@@ -1,0 +1,40 @@
+//! The services below a service.
+ghost use Rattle.std.specs.Prelude.{◌≡◌, IfOk};
+ghost use Rattle.std.specs.Option.{option_copied};
+ghost use Rattle.lost_spec.specs.Services.{services, all_services};
+ghost use Rattle.lost_query.specs.Place.{place_of};
+
+use crate::holdings::Holdings;
+use crate::place::Place;
+use lost_mapping::Moment;
+use lost_urn::ServiceUrn;
+use std::alloc::{AllocError, Global};
+
+/// The services just below one, or the topmost, of the live mappings that hold the place and are no defaults, in the
+/// order of their texts, each once (RFC 5222, section 11; order own), or want of memory.
+pub(crate) fn services_at<H: Holdings>(
+    alloc: Global,
+    holdings: &H,
+    moment: &Moment,
+    place: &Place,
+    above: Option<&ServiceUrn>,
+) -> Result<Vec<ServiceUrn>, AllocError>
+    ensures { IfOk result (λ found.
+        found.items ≡ services (H.book holdings.now) moment.now (place_of place.now) (option_copied above.entry)) }
+{
+    Err(AllocError)
+}
+
+/// The services just below one, or the topmost, of all live mappings, defaults too, in the order of their texts, each
+/// once (RFC 5222, section 10; order own), or want of memory.
+pub(crate) fn services_anywhere<H: Holdings>(
+    alloc: Global,
+    holdings: &H,
+    moment: &Moment,
+    above: Option<&ServiceUrn>,
+) -> Result<Vec<ServiceUrn>, AllocError>
+    ensures { IfOk result (λ found.
+        found.items ≡ all_services (H.book holdings.now) moment.now (option_copied above.entry)) }
+{
+    Err(AllocError)
+}
