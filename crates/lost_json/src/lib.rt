@@ -1,0 +1,19 @@
+//! Lines of JSON (own format over RFC 5222): which lines are requests and which order the map desk's edits, and the
+//! lines of their replies.
+#![tactic(auto)]
+
+mod desk;
+mod desk_reply;
+mod line;
+mod reading;
+mod request;
+mod writing;
+
+pub use desk::{DeskFault, DeskLine, read_desk};
+pub use desk_reply::{DeskReply, DeskText, write_desk};
+pub use line::{BAD_REQUEST, INTERNAL_ERROR, reply_line};
+pub use request::{ReadError, read_request};
+pub use writing::write_reply;
+
+#[cfg(test)]
+mod tests;
