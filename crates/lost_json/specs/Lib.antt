@@ -6,3 +6,4 @@ pub mod Replies
 pub mod DeskReplies
 pub mod DeskLines
 pub mod Line
+pub mod PlainNames
