@@ -1,6 +1,10 @@
 //! The line that answers a line.
 ghost use Rattle.std.specs.Prelude.{◌≡◌, IfOk};
-ghost use Rattle.lost_json.specs.Line.{line_reply};
+ghost use Rattle.lost_spec.specs.Request.{BadRequest, InternalError};
+ghost use Rattle.lost_query.specs.Reply.{reply_of};
+ghost use Rattle.lost_json.specs.Requests.{line_request};
+ghost use Rattle.lost_json.specs.Replies.{reply_text};
+ghost use Rattle.lost_json.specs.Line.{reply_to as reply_meant, line_reply};
 
 use crate::request::{ReadError, read_request};
 use crate::writing::write_reply;
@@ -13,6 +17,31 @@ pub const INTERNAL_ERROR: &[u8] = b"{\"errors\":{\"error\":\"internalError\"}}\n
 
 /// The line of the error `badRequest` (RFC 5222, section 13.1).
 pub const BAD_REQUEST: &[u8] = b"{\"errors\":{\"error\":\"badRequest\"}}\n";
+
+/// The two lines above are those of the replies `internalError` and `badRequest`.
+#[tactic(auto, unfolding(crate::specs::Replies::reply_text, serde_json::proofs::OnLiterals::serde_json_on_literals))]
+pub fn law_constant_lines()
+    ensures internal_error { INTERNAL_ERROR.now ≡ reply_text InternalError }
+    ensures bad_request { BAD_REQUEST.now ≡ reply_text BadRequest }
+{}
+
+/// The reply to a line: the answer to the request that it spells, and `badRequest` where it spells none.
+fn reply_to<H: Holdings>(
+    alloc: Global,
+    holdings: &H,
+    name: &Source,
+    moment: &Moment,
+    line: &[u8],
+) -> Result<Reply, AllocError>
+    ensures { IfOk result (λ reply.
+        reply_of reply ≡ reply_meant (H.book holdings.now) name.now moment.now (line_request line.now)) }
+{
+    match read_request(alloc, line) {
+        Ok(request) => answer(alloc, holdings, name, moment, &request),
+        Err(ReadError::BadRequest) => Ok(Reply::BadRequest),
+        Err(ReadError::Memory) => Err(AllocError),
+    }
+}
 
 /// Reads a request line, answers it over these holdings by the server of this name at an instant, and writes the
 /// reply's line, its byte 10 too, or want of memory. A line that is no request gives `badRequest` (RFC 5222, section
@@ -27,10 +56,6 @@ pub fn reply_line<H: Holdings>(
 ) -> Result<Vec<u8>, AllocError>
     ensures { IfOk result (λ reply. reply.items ≡ line_reply (H.book holdings.now) name.now moment.now line.now) }
 {
-    let reply = match read_request(alloc, line) {
-        Ok(request) => answer(alloc, holdings, name, moment, &request)?,
-        Err(ReadError::BadRequest) => Reply::BadRequest,
-        Err(ReadError::Memory) => return Err(AllocError),
-    };
+    let reply = reply_to(alloc, holdings, name, moment, line)?;
     write_reply(alloc, &reply)
 }
