@@ -1,0 +1,4 @@
+pub mod Stream
+pub mod Step
+pub mod Replay
+pub mod Replayer

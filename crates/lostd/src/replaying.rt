@@ -1,0 +1,41 @@
+//! `lostd replay`: standard input is answered on standard output.
+use crate::trouble::Trouble;
+use clap::ArgMatches;
+use lost_mapping::{Moment, Source, SourceError, Stamp, StampError};
+use lost_server::{Turns, Watched, replay};
+use std::alloc::Global;
+use std::io;
+
+/// Answers standard input on standard output, as the arguments say.
+pub(crate) fn replay_standard_streams<R: Print + Input + AllocGlobal>(
+    rt: &R,
+    given: &ArgMatches<'_>,
+) -> Result<(), Trouble> {
+    let alloc = rt.alloc();
+    let name = name_of(alloc, given.get_str("name").unwrap_or(""))?;
+    let moment = moment_of(alloc, given.get_str("now").unwrap_or(""))?;
+    let mut input = Watched::new(rt.reader());
+    let mut output = Watched::new(io::writer(rt));
+    match replay(alloc, &mut input, &mut output, &name, &moment, Turns::USUAL) {
+        Ok(_) => Ok(()),
+        Err(fault) => Err(Trouble::of_run(fault)),
+    }
+}
+
+/// The server's name.
+fn name_of(alloc: Global, text: &str) -> Result<Source, Trouble> {
+    match Source::parse(alloc, text.as_bytes()) {
+        Ok(name) => Ok(name),
+        Err(SourceError::Bad) => Err(Trouble::NAME),
+        Err(SourceError::Memory) => Err(Trouble::MEMORY),
+    }
+}
+
+/// The moment of every answer.
+fn moment_of(alloc: Global, text: &str) -> Result<Moment, Trouble> {
+    match Stamp::parse(alloc, text.as_bytes()) {
+        Ok(stamp) => Ok(stamp.moment()),
+        Err(StampError::Bad) => Err(Trouble::NOW),
+        Err(StampError::Memory) => Err(Trouble::MEMORY),
+    }
+}

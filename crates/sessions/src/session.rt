@@ -1,0 +1,23 @@
+//! One session.
+use lost_mapping::{Source, Stamp};
+use lost_server::{Turns, Watched, replay};
+use std::alloc::Global;
+
+/// The server's name in every session.
+const NAME: &[u8] = b"lost.example";
+
+/// The moment of every session.
+const NOW: &[u8] = b"2026-01-01T00:00:00Z";
+
+/// The replies to the lines of a session, or `None` where the replay ends in a fault.
+pub(crate) fn replies(alloc: Global, lines: &[u8]) -> Option<Vec<u8>> {
+    let name = Source::parse(alloc, NAME).ok()?;
+    let moment = Stamp::parse(alloc, NOW).ok()?.moment();
+    let mut input = Watched::new(lines);
+    let mut output = Watched::new(Vec::new(alloc));
+    let replayed = replay(alloc, &mut input, &mut output, &name, &moment, Turns::USUAL);
+    match replayed {
+        Ok(_) => Some(output.into_inner()),
+        Err(_) => None,
+    }
+}
