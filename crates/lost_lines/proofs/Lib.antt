@@ -1,1 +1,6 @@
 pub mod SendLemmas
+pub mod CuttingLemmas
+pub mod RunLemmas
+pub mod ServingLemmas
+pub mod ResultLemmas
+pub mod CutterLemmas

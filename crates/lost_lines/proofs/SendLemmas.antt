@@ -30,3 +30,20 @@ Writes-all a b bytes rest w none = let whole : bytes ≡ w.front = w.splits ∙ 
 -- a write fails, and nothing more is written
 pub AppendsFront-from_writes : (a b c : Option Text) (bytes rest : Text) → Writes a b bytes rest → Keeps b c → AppendsFront a c bytes
 AppendsFront-from_writes a b c bytes rest w kept = (w.front, rest, w.splits, Appends-kept a b c w.front w.appended kept)
+
+-- all that is gathered was written, and then the text
+pub Sends-from_writes : (a b c : Option Text) (gathered left text : Text) → Appends a b gathered → left ≡ [] → Appends b c text → Sends a gathered c left text
+Sends-from_writes a b c gathered left text first none second = record {
+  sent = gathered ++ text;
+  appended = Appends-trans a b c gathered text first second;
+  whole = sym (ap (λ l. (gathered ++ text) ++ l) none ∙ append-nil (gathered ++ text))
+}
+
+-- a front of what is gathered was written
+pub AppendsFront-more : (a b : Option Text) (gathered text : Text) → AppendsFront a b gathered → AppendsFront a b (gathered ++ text)
+AppendsFront-more a b gathered text w = (w.0, w.1 ++ text, ap (λ l. l ++ text) w.2 ∙ append_assoc w.0 w.1 text, w.3)
+
+-- all that is gathered was written, and then a front of the text
+pub AppendsFront-after : (a b c : Option Text) (gathered text : Text) → Appends a b gathered → AppendsFront b c text → AppendsFront a c (gathered ++ text)
+AppendsFront-after a b c gathered text first w =
+    (gathered ++ w.0, w.1, ap (λ l. gathered ++ l) w.2 ∙ sym (append_assoc gathered w.0 w.1), Appends-trans a b c gathered w.0 first w.3)

@@ -1,5 +1,5 @@
 //! Replies on their way to the output: they are gathered, and sent together.
-ghost use Rattle.std.specs.Prelude.{◌≡◌, ◌≢◌, ◌<◌, ◌≤◌, ◌++◌, [], false, true, take, length, Ok, IfOk, OnOk, OnErr};
+ghost use Rattle.std.specs.Prelude.{◌≡◌, ◌<◌, ◌≤◌, ◌++◌, [], if◌then◌else◌, take, length, IfOk, OnOk, OnErr};
 ghost use Rattle.std.specs.Io.KnownBytes.{Keeps, Appends};
 ghost use Rattle.lost_lines.specs.Watched.{inner_of};
 ghost use Rattle.lost_lines.specs.Sending.{Sends, SetsFlag};
@@ -22,15 +22,19 @@ pub(crate) fn gather<W: Write>(
     ensures err { OnErr result (AppendsFront (W.contents (inner_of output.old)) (W.contents (inner_of output.new)) (gathered.old.items ++ text.now)) }
     ensures flag { SetsFlag output.old output.new result }
 {
-    if has_room(gathered, text) && gathered.extend_from_slice(text).is_ok() {
+    if add(gathered, text) {
         return Ok(());
     }
     release(gathered, output)?;
     send(output, text)
 }
 
-fn has_room(gathered: &Vec<u8>, text: &[u8]) -> bool {
+/// Adds a text to what is gathered, where there is room for it; says whether it did.
+fn add(gathered: &mut Vec<u8>, text: &[u8]) -> bool
+    ensures { gathered.new.items ≡ (if result then gathered.old.items ++ text.now else gathered.old.items) }
+{
     gathered.len().saturating_add(text.len()) <= GATHERED_LIMIT
+        && gathered.extend_from_slice(text).is_ok()
 }
 
 /// Sends what is gathered, and flushes the output.

@@ -134,10 +134,27 @@ impl LineServer {
         ensures most { server_most self.new ≡ server_most self.old }
         ensures flag { SetsFlag output.old output.new result }
     {
-        if !self.cutter.is_empty() {
-            self.end_line(alloc, output, answerer)?;
-        }
+        self.end_last_line(alloc, output, answerer)?;
         settle(&mut self.gathered, output)
+    }
+
+    /// Answers the last line where the input ended in one.
+    fn end_last_line<W: Write, A: Answerer>(
+        &mut self,
+        alloc: Global,
+        output: &mut Watched<W>,
+        answerer: &mut A,
+    ) -> Result<(), ServeError>
+        requires { MayEnd self.old }
+        ensures ok { (piece : List ℕ) → IsHolding (cutter_of self.old) piece → OnOk result (Serves A.step (point_of answerer.old (W.contents (inner_of output.old)) self.old) (point_of answerer.new (W.contents (inner_of output.new)) self.new) (piece_lines piece)) }
+        ensures err { (piece : List ℕ) → IsHolding (cutter_of self.old) piece → OnErr result (Breaks A.step (point_of answerer.old (W.contents (inner_of output.old)) self.old) (point_of answerer.new (W.contents (inner_of output.new)) self.new) (piece_lines piece)) }
+        ensures most { server_most self.new ≡ server_most self.old }
+        ensures flag { SetsFlag output.old output.new result }
+    {
+        if self.cutter.is_empty() {
+            return Ok(());
+        }
+        self.end_line(alloc, output, answerer)
     }
 
     /// Answers the line that was read.
