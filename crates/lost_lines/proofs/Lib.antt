@@ -4,3 +4,4 @@ pub mod RunLemmas
 pub mod ServingLemmas
 pub mod ResultLemmas
 pub mod CutterLemmas
+pub mod StreamLemmas

@@ -2,6 +2,7 @@
 use Rattle.std.proofs.Common.{◌≡◌, ℕ, ◌+◌, ◌<◌, ◌≤◌, Bool, cond, List, [], ◌∷◌, ◌++◌, length, take, drop, Option, refl, sym, ap, ◌∙◌, append_assoc, append-nil, length-append, zero-add, add-zero, arith}
 use Rattle.std.specs.Io.KnownBytes.{Appends}
 use Rattle.std.proofs.KnownBytes.{Appends-trans, Appends-nil}
+use Rattle.std.proofs.lemmas.List.{nil_from_length}
 use Rattle.lost_spec.specs.Text.{Text}
 use Rattle.lost_lines.specs.declared.counts.Counts.{Counts}
 use Rattle.lost_lines.specs.Cutting.{newline, cut, ended_lines, piece_lines, is_long as is_line_long}
@@ -61,9 +62,9 @@ module _ {State : Type 0} (step : State → Cut → Reply → State → Type 0) 
     written = rw text_of-append (AppendsFront-append a.contents b.contents c.contents (gathered_of a.server) (gathered_of b.server) (text_of first.replies) (text_of second.replies) first.sending second.written)
   }
 
-  pub Advances-append : (a b c : Point State) (f g : Text) → Advances step a b f → Advances step b c g → Advances step a c (f ++ g)
-  Advances-append a b c f g first second piece held =
-    let m = first piece held in
+  -- further bytes are taken
+  pub Moves-append : (a b c : Point State) (piece f g : Text) → Moves step a b piece f → Advances step b c g → Moves step a c piece (f ++ g)
+  Moves-append a b c piece f g m second =
     let n = second m.rest m.held in
     record {
       lines = m.lines ++ n.lines;
@@ -73,9 +74,9 @@ module _ {State : Type 0} (step : State → Cut → Reply → State → Type 0) 
       serves = Serves-append a b c m.lines n.lines m.serves n.serves
     }
 
-  pub Fails-after : (a b c : Point State) (f g : Text) → Advances step a b f → Fails step b c g → Fails step a c (f ++ g)
-  Fails-after a b c f g first second piece held =
-    let m = first piece held in
+  -- a fault comes among further bytes
+  pub Stops-after : (a b c : Point State) (piece f g : Text) → Moves step a b piece f → Fails step b c g → Stops step a c piece (f ++ g)
+  Stops-after a b c piece f g m second =
     let n = second m.rest m.held in
     record {
       lines = m.lines ++ n.lines;
@@ -83,6 +84,12 @@ module _ {State : Type 0} (step : State → Cut → Reply → State → Type 0) 
       begins = rw (← append_assoc piece f g) (ended_lines-append (piece ++ f) g m.lines m.rest m.cuts ∙ ap (λ l. m.lines ++ l) n.begins ∙ sym (append_assoc m.lines n.lines n.others));
       breaks = Breaks-after a b c m.lines n.lines m.serves n.breaks
     }
+
+  pub Advances-append : (a b c : Point State) (f g : Text) → Advances step a b f → Advances step b c g → Advances step a c (f ++ g)
+  Advances-append a b c f g first second piece held = Moves-append a b c piece f g (first piece held) second
+
+  pub Fails-after : (a b c : Point State) (f g : Text) → Advances step a b f → Fails step b c g → Fails step a c (f ++ g)
+  Fails-after a b c f g first second piece held = Stops-after a b c piece f g (first piece held) second
 
   -- a fault among bytes is one among more bytes
   pub Fails-more : (a b : Point State) (f g : Text) → Fails step a b f → Fails step a b (f ++ g)
@@ -236,3 +243,9 @@ module _ {State : Type 0} (step : State → Cut → Reply → State → Type 0) 
 
   pub Fails-after_front : (a b c : Point State) (bytes rest : Text) → TakesFront step a b bytes rest → Fails step b c rest → Fails step a c bytes
   Fails-after_front a b c bytes rest first second = rw first.splits (Fails-after step a b c first.front rest first.advances second)
+
+  -- all the bytes were taken
+  pub Advances-whole : (a b : Point State) (bytes rest : Text) → TakesFront step a b bytes rest → length rest ≡ 0 → Advances step a b bytes
+  Advances-whole a b bytes rest t none =
+    let whole : bytes ≡ t.front = t.splits ∙ ap (λ l. t.front ++ l) (nil_from_length rest none) ∙ append-nil t.front in
+    rw whole t.advances
