@@ -1,0 +1,15 @@
+-- Lemmas on what a cutter has of the line that is being read.
+use Rattle.std.proofs.Common.{◌≡◌, ℕ, ◌+◌, ◌<◌, ◌==◌, true, List, [], ◌∷◌, length, min, arith}
+use Rattle.std.proofs.lemmas.Bool.{eqb-true}
+use Rattle.std.proofs.lemmas.List.{nil_from_length}
+use Rattle.lost_spec.specs.Text.{Text}
+use Rattle.lost_lines.specs.Cutting.{line_limit}
+use Rattle.lost_lines.specs.declared.cutter.Cutter.{Cutter}
+use Rattle.lost_lines.specs.Cutter.{IsHolding, length_of}
+
+-- no byte of the line was read
+pub nil_from_empty : (c : Cutter) (piece : Text) → IsHolding c piece → (length_of c == 0) ≡ true → piece ≡ []
+nil_from_empty c piece held is =
+    let none : length_of c ≡ 0 = eqb-true (length_of c) 0 is in
+    let counted : length_of c ≡ min (length piece) (line_limit + 1) = held.counted in
+    nil_from_length piece (omega arith)

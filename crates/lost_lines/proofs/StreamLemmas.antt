@@ -1,0 +1,246 @@
+-- Lemmas on a whole stream: what its ends are, from what was served.
+use Rattle.std.proofs.Common.{◌≡◌, ◌⊎◌, ℕ, ◌+◌, ◌<◌, ◌≤◌, Bool, false, List, [], ◌∷◌, ◌++◌, length, take, Option, None, Some, IfSome, refl, sym, ap, ◌∙◌, inl, inr, append_assoc, append-nil, length-append, take_at, arith}
+use Rattle.std.specs.Io.KnownBytes.{Appends, Consumes, Keeps, IsAtEnd}
+use Rattle.std.proofs.KnownBytes.{Consumes-nil, Consumes-trans, Consumes-kept}
+use Rattle.std.proofs.lemmas.List.{take_all}
+use Rattle.lost_spec.specs.Text.{Text}
+use Rattle.lost_lines.specs.declared.counts.Counts.{Counts}
+use Rattle.lost_lines.specs.declared.server.LineServer.{LineServer}
+use Rattle.lost_lines.specs.declared.turns.Turns.{Turns}
+use Rattle.lost_lines.specs.Cutting.{cut, ended_lines, piece_lines, lines_of}
+use Rattle.lost_lines.specs.Cutter.{IsHolding}
+use Rattle.lost_lines.specs.Run.{Cut, Reply, Run, text_of, long_count, memory_count}
+use Rattle.lost_lines.specs.Sending.{Sends}
+use Rattle.lost_lines.specs.Stream.{AreCounts, AppendsFront, IsServed, IsCutOff, IsWholeSoFar, StandsPast, IsSpent}
+use Rattle.lost_lines.specs.Serving.{Point, Adds, Serves, Breaks, Moves, Advances, Stops, Fails, TakesFront, TakesUpTo, cutter_of, gathered_of, server_counts, server_most}
+use Rattle.lost_lines.proofs.CuttingLemmas.{lines_of-append, lines_of-cut, ended_lines-append}
+use Rattle.lost_lines.proofs.ServingLemmas.{Serves-none, Serves-append, Breaks-after, Moves-append, Stops-after, Advances-none}
+
+-- the counts of a point where nothing was answered yet
+abbrev pub no_counts : Counts
+no_counts = record { lines = 0; long_lines = 0; memory = 0; faults = 0 }
+
+-- bytes were consumed from the start of a stream, and the lines that they end were served and the replies sent
+pub record Reads {State : Type 0} (step : State → Cut → Reply → State → Type 0) (a b : Point State) (unread left : Option Text) : Type 0 where
+  pub consumed : Text
+  pub read : Consumes unread left consumed
+  pub moves : Moves step a b [] consumed
+  pub settled : gathered_of b.server ≡ []
+
+-- a server has served nothing yet
+pub record IsStart (server : LineServer) : Type 0 where
+  pub held : IsHolding (cutter_of server) []
+  pub settled : gathered_of server ≡ []
+  pub counts : server_counts server ≡ no_counts
+
+AreCounts-from_adds : (old new : Counts) (lines : List Text) (replies : List Reply) → old ≡ no_counts → Adds old new lines replies → AreCounts new lines replies
+AreCounts-from_adds old new lines replies none adds =
+    let zero_lines = ap (λ (c : Counts). c.lines) none in
+    let zero_long = ap (λ (c : Counts). c.long_lines) none in
+    let zero_memory = ap (λ (c : Counts). c.memory) none in
+    let added_lines = adds.lines_answered in
+    let added_long = adds.long_lines in
+    let added_memory = adds.memory in
+    record {
+      lines_answered = omega arith;
+      long_lines = omega arith;
+      memory = omega arith;
+      faults = adds.faults ∙ ap (λ (c : Counts). c.faults) none
+    }
+
+Appends-from_sends : (a b : Option Text) (ag bg text : Text) → ag ≡ [] → bg ≡ [] → Sends a ag b bg text → Appends a b text
+Appends-from_sends a b ag bg text first second sends =
+    let whole : text ≡ sends.sent = ap (λ l. l ++ text) (sym first) ∙ sends.whole ∙ ap (λ l. sends.sent ++ l) second ∙ append-nil sends.sent in
+    rw whole sends.appended
+
+AppendsFront-from_appends : (a b : Option Text) (text : Text) → Appends a b text → AppendsFront a b text
+AppendsFront-from_appends a b text all = (text, [], sym (append-nil text), all)
+
+-- the lines of a front of a stream begin its lines
+begins-front : (unread left : Option Text) (consumed : Text) (lines : List Text) (piece : Text) → Consumes unread left consumed → cut consumed ≡ (lines, piece)
+    → IfSome unread (λ bytes. (rest : List Text) × (lines_of bytes ≡ lines ++ rest))
+begins-front None left consumed lines piece read cuts = tt
+begins-front (Some bytes) None consumed lines piece read cuts = absurd read
+begins-front (Some bytes) (Some left) consumed lines piece read cuts = (lines_of (piece ++ left), ap lines_of read ∙ lines_of-append consumed left lines piece cuts)
+
+begins-ended : (unread left : Option Text) (consumed : Text) (lines others : List Text) → Consumes unread left consumed → ended_lines consumed ≡ lines ++ others
+    → IfSome unread (λ bytes. (rest : List Text) × (lines_of bytes ≡ lines ++ rest))
+begins-ended None left consumed lines others read begins = tt
+begins-ended (Some bytes) None consumed lines others read begins = absurd read
+begins-ended (Some bytes) (Some left) consumed lines others read begins =
+    let rest = lines_of ((cut consumed).1 ++ left) in
+    (others ++ rest, ap lines_of read ∙ lines_of-append consumed left (ended_lines consumed) (cut consumed).1 refl ∙ ap (λ l. l ++ rest) begins ∙ append_assoc lines others rest)
+
+-- the lines of a stream that was read to its end
+lines_of-whole : (unread left : Option Text) (consumed : Text) (lines : List Text) (piece : Text) → Consumes unread left consumed → IsAtEnd left → cut consumed ≡ (lines, piece)
+    → IfSome unread (λ bytes. lines ++ piece_lines piece ≡ lines_of bytes)
+lines_of-whole None left consumed lines piece read end cuts = tt
+lines_of-whole (Some bytes) None consumed lines piece read end cuts = absurd read
+lines_of-whole (Some bytes) (Some left) consumed lines piece read end cuts =
+    sym (ap lines_of (read ∙ ap (λ l. consumed ++ l) end ∙ append-nil consumed) ∙ lines_of-cut consumed lines piece cuts)
+
+begins-whole : (unread : Option Text) (lines : List Text) → IfSome unread (λ bytes. lines ≡ lines_of bytes) → IfSome unread (λ bytes. (rest : List Text) × (lines_of bytes ≡ lines ++ rest))
+begins-whole None lines h = tt
+begins-whole (Some bytes) lines h = ([], sym h ∙ sym (append-nil lines))
+
+AppendsFront-from_start : (a b : Option Text) (gathered text : Text) → gathered ≡ [] → AppendsFront a b (gathered ++ text) → AppendsFront a b text
+AppendsFront-from_start a b gathered text none written = (written.0, written.1, ap (λ l. l ++ text) (sym none) ∙ written.2, written.3)
+
+-- the lines that a front of the last chunk ends, and what the rest of it ends
+ended_lines-front : (consumed front chunk rest : Text) (lines : List Text) (piece : Text) → chunk ≡ front ++ rest → cut (consumed ++ front) ≡ (lines, piece)
+    → ended_lines (consumed ++ chunk) ≡ lines ++ ended_lines (piece ++ rest)
+ended_lines-front consumed front chunk rest lines piece splits cuts =
+    ap (λ l. ended_lines (consumed ++ l)) splits ∙ ap ended_lines (sym (append_assoc consumed front rest)) ∙ ended_lines-append (consumed ++ front) rest lines piece cuts
+
+StandsPast-from_rest : (most : ℕ) (lines : List Text) (consumed front chunk rest : Text) → chunk ≡ front ++ rest → 0 < length rest → length lines ≡ most → ended_lines (consumed ++ front) ≡ lines
+    → StandsPast most lines (consumed ++ chunk)
+StandsPast-from_rest most lines consumed front chunk [] splits some full ended = absurd (omega (arith, some))
+StandsPast-from_rest most lines consumed front chunk (byte ∷ rest) splits some full ended = record {
+  front = consumed ++ front;
+  byte = byte;
+  rest = rest;
+  spent = full;
+  ended = ended;
+  past = ap (λ l. consumed ++ l) splits ∙ sym (append_assoc consumed front (byte ∷ rest))
+}
+
+module _ {State : Type 0} (step : State → Cut → Reply → State → Type 0) where
+  pub Reads-none : (a : Point State) (unread : Option Text) → IsStart a.server → Reads step a a unread unread
+  Reads-none a unread start = record {
+    consumed = [];
+    read = Consumes-nil unread;
+    moves = Advances-none step a [] start.held;
+    settled = start.settled
+  }
+
+  pub Reads-kept : (a b : Point State) (unread left now : Option Text) → Reads step a b unread left → Keeps left now → Reads step a b unread now
+  Reads-kept a b unread left now r kept = record {
+    consumed = r.consumed;
+    read = Consumes-kept unread left now r.consumed r.read kept;
+    moves = r.moves;
+    settled = r.settled
+  }
+
+  pub Reads-more : (a b c : Point State) (unread left now : Option Text) (chunk : Text) → Reads step a b unread left → Consumes left now chunk → Advances step b c chunk → gathered_of c.server ≡ [] → Reads step a c unread now
+  Reads-more a b c unread left now chunk r read advances settled = record {
+    consumed = r.consumed ++ chunk;
+    read = Consumes-trans unread left now r.consumed chunk r.read read;
+    moves = Moves-append step a b c [] r.consumed chunk r.moves advances;
+    settled = settled
+  }
+
+  pub IsCutOff-from_reads : (a b : Point State) (unread left : Option Text) → IsStart a.server → Reads step a b unread left → IsCutOff step a.answerer b.answerer unread a.contents b.contents
+  IsCutOff-from_reads a b unread left start r = record {
+    lines = r.moves.lines;
+    replies = r.moves.serves.replies;
+    run = r.moves.serves.run;
+    read = begins-front unread left r.consumed r.moves.lines r.moves.rest r.read r.moves.cuts;
+    written = AppendsFront-from_appends a.contents b.contents (text_of r.moves.serves.replies) (Appends-from_sends a.contents b.contents (gathered_of a.server) (gathered_of b.server) (text_of r.moves.serves.replies) start.settled r.settled r.moves.serves.sending)
+  }
+
+  pub IsWholeSoFar-from_reads : (a b : Point State) (most : ℕ) (unread left : Option Text) → IsStart a.server → Reads step a b unread left → (server_counts b.server).lines ≤ most
+      → IsWholeSoFar step a.answerer b.answerer most unread left a.contents b.contents
+  IsWholeSoFar-from_reads a b most unread left start r within =
+    let lines = r.moves.lines in
+    let replies = r.moves.serves.replies in
+    let counted = (AreCounts-from_adds (server_counts a.server) (server_counts b.server) lines replies start.counts r.moves.serves.counted).lines_answered in
+    record {
+      lines = lines;
+      replies = replies;
+      consumed = r.consumed;
+      run = r.moves.serves.run;
+      read = r.read;
+      ended = sym (ap (λ (c : List Text × Text). take most c.0) r.moves.cuts ∙ take_all most lines (omega arith));
+      written = Appends-from_sends a.contents b.contents (gathered_of a.server) (gathered_of b.server) (text_of replies) start.settled r.settled r.moves.serves.sending
+    }
+
+  -- as many reads as may be were made
+  pub IsSpent-from_reads : (a b : Point State) (turns : Turns) (unread left : Option Text) (reads : ℕ) (has_ended : Bool) → IsStart a.server → Reads step a b unread left → (server_counts b.server).lines ≤ turns.lines → reads ≡ turns.reads → has_ended ≡ false
+      → IsSpent step a.answerer b.answerer turns unread left a.contents b.contents reads has_ended
+  IsSpent-from_reads a b turns unread left reads has_ended start r within made not_ended = record {
+    whole = IsWholeSoFar-from_reads a b turns.lines unread left start r within;
+    spent = inr (made, not_ended)
+  }
+
+  -- the end of the stream is read
+  pub Reads-end : (a b : Point State) (unread left now : Option Text) → Reads step a b unread left → Consumes left now [] → Reads step a b unread now
+  Reads-end a b unread left now r read = record {
+    consumed = r.consumed;
+    read = rw append-nil at (Consumes-trans unread left now r.consumed [] r.read read);
+    moves = r.moves;
+    settled = r.settled
+  }
+
+  pub IsServed-from_end : (a b c : Point State) (unread left : Option Text) → IsStart a.server → (r : Reads step a b unread left) → IsAtEnd left → Serves step b c (piece_lines r.moves.rest) → gathered_of c.server ≡ []
+      → IsServed step a.answerer c.answerer unread a.contents c.contents (server_counts c.server)
+  IsServed-from_end a b c unread left start r end last settled =
+    let s = Serves-append step a b c r.moves.lines (piece_lines r.moves.rest) r.moves.serves last in
+    let lines = r.moves.lines ++ piece_lines r.moves.rest in
+    record {
+      lines = lines;
+      replies = s.replies;
+      run = s.run;
+      read = lines_of-whole unread left r.consumed r.moves.lines r.moves.rest r.read end r.moves.cuts;
+      written = Appends-from_sends a.contents c.contents (gathered_of a.server) (gathered_of c.server) (text_of s.replies) start.settled settled s.sending;
+      counted = AreCounts-from_adds (server_counts a.server) (server_counts c.server) lines s.replies start.counts s.counted
+    }
+
+  pub IsCutOff-from_end : (a b c : Point State) (unread left : Option Text) → IsStart a.server → (r : Reads step a b unread left) → IsAtEnd left → Breaks step b c (piece_lines r.moves.rest)
+      → IsCutOff step a.answerer c.answerer unread a.contents c.contents
+  IsCutOff-from_end a b c unread left start r end last =
+    let s = Breaks-after step a b c r.moves.lines (piece_lines r.moves.rest) r.moves.serves last in
+    let lines = r.moves.lines ++ piece_lines r.moves.rest in
+    record {
+      lines = lines;
+      replies = s.replies;
+      run = s.run;
+      read = begins-whole unread lines (lines_of-whole unread left r.consumed r.moves.lines r.moves.rest r.read end r.moves.cuts);
+      written = AppendsFront-from_start a.contents c.contents (gathered_of a.server) (text_of s.replies) start.settled s.written
+    }
+
+  pub IsCutOff-from_stops : (a b c : Point State) (unread left now : Option Text) (chunk : Text) → IsStart a.server → Reads step a b unread left → Consumes left now chunk → Fails step b c chunk
+      → IsCutOff step a.answerer c.answerer unread a.contents c.contents
+  IsCutOff-from_stops a b c unread left now chunk start r read fails =
+    let s = Stops-after step a b c [] r.consumed chunk r.moves fails in
+    record {
+      lines = s.lines;
+      replies = s.breaks.replies;
+      run = s.breaks.run;
+      read = begins-ended unread now (r.consumed ++ chunk) s.lines s.others (Consumes-trans unread left now r.consumed chunk r.read read) s.begins;
+      written = AppendsFront-from_start a.contents c.contents (gathered_of a.server) (text_of s.breaks.replies) start.settled s.breaks.written
+    }
+
+  -- a byte stands past the last line that may be answered
+  pub IsSpent-from_rest : (a b c : Point State) (turns : Turns) (unread left now : Option Text) (chunk rest : Text) (reads : ℕ) (has_ended : Bool) → IsStart a.server → Reads step a b unread left → Consumes left now chunk → TakesUpTo step b c chunk rest
+      → 0 < length rest → gathered_of c.server ≡ [] → server_most c.server ≡ turns.lines → IsSpent step a.answerer c.answerer turns unread now a.contents c.contents reads has_ended
+  IsSpent-from_rest a b c turns unread left now chunk rest reads has_ended start r read takes some settled most =
+    let front = takes.taken.front in
+    let m = Moves-append step a b c [] r.consumed front r.moves takes.taken.advances in
+    let counted = (AreCounts-from_adds (server_counts a.server) (server_counts c.server) m.lines m.serves.replies start.counts m.serves.counted).lines_answered in
+    let full : length m.lines ≡ turns.lines = sym counted ∙ takes.spent some ∙ most in
+    let begins = ended_lines-front r.consumed front chunk rest m.lines m.rest takes.taken.splits m.cuts in
+    record {
+      whole = record {
+        lines = m.lines;
+        replies = m.serves.replies;
+        consumed = r.consumed ++ chunk;
+        run = m.serves.run;
+        read = Consumes-trans unread left now r.consumed chunk r.read read;
+        ended = sym (ap (take turns.lines) begins ∙ take_at m.lines (ended_lines (m.rest ++ rest)) turns.lines full);
+        written = Appends-from_sends a.contents c.contents (gathered_of a.server) (gathered_of c.server) (text_of m.serves.replies) start.settled settled m.serves.sending
+      };
+      spent = inl (StandsPast-from_rest turns.lines m.lines r.consumed front chunk rest takes.taken.splits some full (ap (λ (d : List Text × Text). d.0) m.cuts))
+    }
+
+  pub IsCutOff-from_rest : (a b c : Point State) (unread left now : Option Text) (chunk rest : Text) → IsStart a.server → Reads step a b unread left → Consumes left now chunk → TakesUpTo step b c chunk rest
+      → gathered_of c.server ≡ [] → IsCutOff step a.answerer c.answerer unread a.contents c.contents
+  IsCutOff-from_rest a b c unread left now chunk rest start r read takes settled =
+    let front = takes.taken.front in
+    let m = Moves-append step a b c [] r.consumed front r.moves takes.taken.advances in
+    record {
+      lines = m.lines;
+      replies = m.serves.replies;
+      run = m.serves.run;
+      read = begins-ended unread now (r.consumed ++ chunk) m.lines (ended_lines (m.rest ++ rest)) (Consumes-trans unread left now r.consumed chunk r.read read) (ended_lines-front r.consumed front chunk rest m.lines m.rest takes.taken.splits m.cuts);
+      written = AppendsFront-from_appends a.contents c.contents (text_of m.serves.replies) (Appends-from_sends a.contents c.contents (gathered_of a.server) (gathered_of c.server) (text_of m.serves.replies) start.settled settled m.serves.sending)
+    }

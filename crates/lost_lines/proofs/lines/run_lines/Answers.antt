@@ -1,0 +1,93 @@
+use Rattle.std.proofs.Common.{◌≡◌, ◌<◌, length, refl, ◌∙◌, rules, tests, arith}
+use Rattle.std.proofs.lemmas.Result.{err_from_is_err_and}
+use Rattle.lost_lines.proofs.ServingLemmas.{Advances-whole}
+use Rattle.lost_lines.proofs.StreamLemmas.{IsStart, Reads-none, Reads-kept, Reads-more, Reads-end, IsServed-from_end, IsCutOff-from_reads, IsCutOff-from_end, IsCutOff-from_stops, IsCutOff-from_rest, IsWholeSoFar-from_reads, IsSpent-from_reads, IsSpent-from_rest}
+use Rattle.lost_lines.proofs.lines.run_lines.Goals as goal
+
+pub loop-turn-init : goal.loop-turn-init
+loop-turn-init g c =
+    let start : IsStart c.new-server.result = record { held = c.new-server.ensures.cutter; settled = c.new-server.ensures.gathered; counts = c.new-server.ensures.counts } in
+    record {
+      start = start;
+      chunk = refl;
+      reads = Reads-none g.A.Answerer.step _ _ start;
+      may_end = λ begun. absurd (omega (arith, c.new-server.ensures.cutter.counted, begun));
+      most = c.new-server.ensures.most;
+      input_sound = c.requires.input_sound;
+      not_ended = c.requires.not_ended;
+      made = c.requires.no_read;
+      output_sound = c.requires.output_sound
+    }
+
+pub returns-in_default-clause-cut_off : goal.returns-in_default-clause-cut_off
+returns-in_default-clause-cut_off g c =
+    let now = c.loop-turn.invariant in
+    IsCutOff-from_reads g.A.Answerer.step _ _ _ _ now.start now.reads
+
+pub returns-in_default-clause-whole : goal.returns-in_default-clause-whole
+returns-in_default-clause-whole g c is =
+    let now = c.loop-turn.invariant in
+    let step = g.A.Answerer.step in
+    IsWholeSoFar-from_reads step _ _ _ _ _ now.start (Reads-kept step _ _ _ _ _ now.reads c.in_default.ensures.bytes) (omega (arith, c.loop-turn.server.tally.within, now.most))
+
+pub returns-in_err-finish-clause-cut_off : goal.returns-in_err-finish-clause-cut_off
+returns-in_err-finish-clause-cut_off g c =
+    let p = err_from_is_err_and c.from_residual.result c.from_residual.ensures.1 in
+    let now = c.loop-turn.invariant in
+    let step = g.A.Answerer.step in
+    let some : 0 < length c.read.new.buf = omega (arith, c.read.auto.buf, now.chunk) in
+    let end = c.in-Ok.ensures.bytes.1 c.if-count-eq0.true some in
+    let r = Reads-end step _ _ _ _ _ now.reads (rw c.if-count-eq0.true at c.in-Ok.ensures.bytes.0) in
+    rw p.1 (IsCutOff-from_end step _ _ _ _ _ now.start r end (c.in_err-finish.ensures.err r.moves.rest r.moves.held))
+
+pub returns-then-count-eq0-clause-served : goal.returns-then-count-eq0-clause-served
+returns-then-count-eq0-clause-served g c =
+    let now = c.loop-turn.invariant in
+    let step = g.A.Answerer.step in
+    let some : 0 < length c.read.new.buf = omega (arith, c.read.auto.buf, now.chunk) in
+    let end = c.in-Ok.ensures.bytes.1 c.if-count-eq0.true some in
+    let r = Reads-end step _ _ _ _ _ now.reads (rw c.if-count-eq0.true at c.in-Ok.ensures.bytes.0) in
+    rw c.counts.ensures.counts (IsServed-from_end step _ _ _ _ _ now.start r end (c.in_ok-finish.ensures.ok r.moves.rest r.moves.held) c.in_ok-finish.ensures.settled)
+
+pub returns-in_err-rest-clause-cut_off : goal.returns-in_err-rest-clause-cut_off
+returns-in_err-rest-clause-cut_off g c =
+    let p = err_from_is_err_and c.from_residual-in_err-rest.result c.from_residual-in_err-rest.ensures.1 in
+    let now = c.loop-turn.invariant in
+    rw p.1 (IsCutOff-from_stops g.A.Answerer.step _ _ _ _ _ _ _ now.start now.reads c.in-Ok.ensures.bytes.0 c.in_err-rest.ensures.err)
+
+pub returns-then-not-is_empty-clause-cut_off : goal.returns-then-not-is_empty-clause-cut_off
+returns-then-not-is_empty-clause-cut_off g c =
+    let now = c.loop-turn.invariant in
+    IsCutOff-from_rest g.A.Answerer.step _ _ _ _ _ _ _ _ now.start now.reads c.in-Ok.ensures.bytes.0 c.in_ok-rest.ensures.ok c.in_ok-rest.ensures.settled
+
+pub returns-then-not-is_empty-clause-turns : goal.returns-then-not-is_empty-clause-turns
+returns-then-not-is_empty-clause-turns g c is =
+    let now = c.loop-turn.invariant in
+    let some : 0 < length c.in_ok-rest.rest.now = search rules in
+    IsSpent-from_rest g.A.Answerer.step _ _ _ _ _ _ _ _ _ _ _ now.start now.reads c.in-Ok.ensures.bytes.0 c.in_ok-rest.ensures.ok some c.in_ok-rest.ensures.settled (c.take_chunk.ensures.most ∙ now.most)
+
+pub loop-turn-preserved : goal.loop-turn-preserved
+loop-turn-preserved g c =
+    let now = c.loop-turn.invariant in
+    let none : length c.in_ok-rest.rest.now ≡ 0 = search rules in
+    record {
+      start = now.start;
+      chunk = c.read.auto.buf ∙ now.chunk;
+      reads = Reads-more g.A.Answerer.step _ _ _ _ _ _ _ now.reads c.in-Ok.ensures.bytes.0 (Advances-whole g.A.Answerer.step _ _ _ _ c.in_ok-rest.ensures.ok.taken none) c.in_ok-rest.ensures.settled;
+      may_end = c.in_ok-rest.ensures.may_end;
+      most = c.take_chunk.ensures.most ∙ now.most;
+      input_sound = search rules;
+      not_ended = search (rules, tests);
+      made = search rules;
+      output_sound = search rules
+    }
+
+pub returns-clause-cut_off : goal.returns-clause-cut_off
+returns-clause-cut_off g c =
+    let now = c.loop-turn.invariant in
+    IsCutOff-from_reads g.A.Answerer.step _ _ _ _ now.start now.reads
+
+pub returns-clause-turns : goal.returns-clause-turns
+returns-clause-turns g c is =
+    let now = c.loop-turn.invariant in
+    IsSpent-from_reads g.A.Answerer.step _ _ _ _ _ _ _ now.start now.reads (omega (arith, c.loop-turn.server.tally.within, now.most)) (omega (arith, now.made)) now.not_ended

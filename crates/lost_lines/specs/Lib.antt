@@ -1,0 +1,10 @@
+pub mod Answer
+pub mod Cutter
+pub mod Cutting
+pub mod Fault
+pub mod Run
+pub mod Sending
+pub mod Serving
+pub mod Stream
+pub mod Tally
+pub mod Watched

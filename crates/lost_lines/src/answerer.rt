@@ -1,0 +1,67 @@
+//! What answers a line, and its replies.
+ghost use Rattle.std.specs.Prelude.{◌≡◌};
+ghost use Rattle.lost_lines.specs.Run.{Cut, Whole, TooLong, Unread, Reply};
+ghost use Rattle.lost_lines.specs.Answer.{bytes_of, reply_of};
+
+use crate::short_text::ShortText;
+use std::alloc::Global;
+
+/// What answers lines, one after another, and may change with each.
+pub trait Answerer {
+    /// How it answers: from what it is, by a line as it was cut and a reply, to what it then is.
+    ghost step: { Self → Cut → Reply → Self → Type 0 };
+
+    /// Answers a line that was kept whole, without its byte 10.
+    fn answer(&mut self, alloc: Global, line: &[u8]) -> Answer
+        ensures { step self.old (Whole line.now) (reply_of result) self.new };
+
+    /// Answers a line over the limit of 1,048,576 bytes.
+    fn answer_long(&mut self) -> Answer
+        ensures { step self.old TooLong (reply_of result) self.new };
+
+    /// Answers a line that could not be kept, since memory was refused while it was read.
+    fn answer_unread(&mut self) -> Answer
+        ensures { step self.old Unread (reply_of result) self.new };
+}
+
+/// The reply to a line: its text, the byte 10 at its end too, and whether it says that a growth was refused.
+#[derive(Drop)]
+pub struct Answer {
+    /// The text that is written.
+    pub text: Text,
+    /// Whether the line was answered for want of memory.
+    pub is_memory: bool,
+}
+
+impl Answer {
+    /// The bytes that are written.
+    pub fn bytes(&self) -> &[u8]
+        ensures { result.now ≡ (reply_of self.now).text }
+    {
+        self.text.bytes()
+    }
+}
+
+/// The text of a reply.
+#[derive(Drop)]
+pub enum Text {
+    /// A text of its own.
+    Kept(Vec<u8>),
+    /// A text of at most 64 bytes, which takes no memory.
+    Short(ShortText),
+    /// A text of the program.
+    Constant(&'static [u8]),
+}
+
+impl Text {
+    /// Its bytes.
+    pub fn bytes(&self) -> &[u8]
+        ensures { result.now ≡ bytes_of self.now }
+    {
+        match self {
+            Text::Kept(bytes) => bytes.as_slice(),
+            Text::Short(bytes) => bytes.bytes(),
+            Text::Constant(bytes) => bytes,
+        }
+    }
+}

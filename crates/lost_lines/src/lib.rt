@@ -1,0 +1,26 @@
+//! Lines of a stream (own rules): bytes are cut into lines, each line is answered, and the replies are written in
+//! order, up to the end of the input or to a fault. What answers a line is up to the caller.
+#![tactic(auto)]
+
+mod answerer;
+mod counts;
+mod cutter;
+mod fault;
+mod lines;
+mod output;
+mod server;
+mod short_text;
+mod tally;
+mod turns;
+mod watched;
+
+pub use answerer::{Answer, Answerer, Text};
+pub use counts::Counts;
+pub use fault::ServeError;
+pub use lines::run_lines;
+pub use short_text::ShortText;
+pub use turns::Turns;
+pub use watched::Watched;
+
+#[cfg(test)]
+mod tests;

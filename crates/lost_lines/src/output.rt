@@ -1,0 +1,93 @@
+//! Replies on their way to the output: they are gathered, and sent together.
+ghost use Rattle.std.specs.Prelude.{◌≡◌, ◌<◌, ◌≤◌, ◌++◌, [], if◌then◌else◌, take, length, IfOk, OnOk, OnErr};
+ghost use Rattle.std.specs.Io.KnownBytes.{Keeps, Appends};
+ghost use Rattle.lost_lines.specs.Watched.{inner_of};
+ghost use Rattle.lost_lines.specs.Sending.{Sends, SetsFlag};
+ghost use Rattle.lost_lines.specs.Stream.{AppendsFront};
+
+use crate::fault::ServeError;
+use crate::watched::Watched;
+use std::io::Write;
+
+/// The most bytes that are gathered before they are sent.
+const GATHERED_LIMIT: usize = 65_536;
+
+/// Adds a text to what is gathered; where there is no room for it, what is gathered and then the text are sent.
+pub(crate) fn gather<W: Write>(
+    gathered: &mut Vec<u8>,
+    output: &mut Watched<W>,
+    text: &[u8],
+) -> Result<(), ServeError>
+    ensures ok { OnOk result (Sends (W.contents (inner_of output.old)) gathered.old.items (W.contents (inner_of output.new)) gathered.new.items text.now) }
+    ensures err { OnErr result (AppendsFront (W.contents (inner_of output.old)) (W.contents (inner_of output.new)) (gathered.old.items ++ text.now)) }
+    ensures flag { SetsFlag output.old output.new result }
+{
+    if add(gathered, text) {
+        return Ok(());
+    }
+    release(gathered, output)?;
+    send(output, text)
+}
+
+/// Adds a text to what is gathered, where there is room for it; says whether it did.
+fn add(gathered: &mut Vec<u8>, text: &[u8]) -> bool
+    ensures { gathered.new.items ≡ (if result then gathered.old.items ++ text.now else gathered.old.items) }
+{
+    gathered.len().saturating_add(text.len()) <= GATHERED_LIMIT
+        && gathered.extend_from_slice(text).is_ok()
+}
+
+/// Sends what is gathered, and flushes the output.
+pub(crate) fn settle<W: Write>(gathered: &mut Vec<u8>, output: &mut Watched<W>) -> Result<(), ServeError>
+    ensures ok { OnOk result (Appends (W.contents (inner_of output.old)) (W.contents (inner_of output.new)) gathered.old.items) }
+    ensures empty { OnOk result (gathered.new.items ≡ []) }
+    ensures err { OnErr result (AppendsFront (W.contents (inner_of output.old)) (W.contents (inner_of output.new)) gathered.old.items) }
+    ensures flag { SetsFlag output.old output.new result }
+{
+    release(gathered, output)?;
+    output.flush().map_err(|_| ServeError::Write)
+}
+
+/// Sends what is gathered.
+fn release<W: Write>(gathered: &mut Vec<u8>, output: &mut Watched<W>) -> Result<(), ServeError>
+    ensures ok { OnOk result (Appends (W.contents (inner_of output.old)) (W.contents (inner_of output.new)) gathered.old.items) }
+    ensures empty { OnOk result (gathered.new.items ≡ []) }
+    ensures err { OnErr result (AppendsFront (W.contents (inner_of output.old)) (W.contents (inner_of output.new)) gathered.old.items) }
+    ensures flag { SetsFlag output.old output.new result }
+{
+    send(output, gathered.as_slice())?;
+    gathered.clear();
+    Ok(())
+}
+
+/// Writes all the bytes.
+fn send<W: Write>(output: &mut Watched<W>, bytes: &[u8]) -> Result<(), ServeError>
+    ensures ok { OnOk result (Appends (W.contents (inner_of output.old)) (W.contents (inner_of output.new)) bytes.now) }
+    ensures err { OnErr result (AppendsFront (W.contents (inner_of output.old)) (W.contents (inner_of output.new)) bytes.now) }
+    ensures flag { SetsFlag output.old output.new result }
+{
+    let mut rest = bytes;
+    while !rest.is_empty() {
+        let count = send_some(output, rest)?;
+        rest = &rest[count..];
+    }
+    Ok(())
+}
+
+/// Writes some of the bytes, and gives how many.
+fn send_some<W: Write>(output: &mut Watched<W>, bytes: &[u8]) -> Result<usize, ServeError>
+    requires { 0 < length bytes.now }
+    ensures some { IfOk result (λ count. 0 < count) }
+    ensures within { IfOk result (λ count. count ≤ length bytes.now) }
+    ensures ok { IfOk result (λ count. Appends (W.contents (inner_of output.old)) (W.contents (inner_of output.new)) (take count bytes.now)) }
+    ensures err { OnErr result (Keeps (W.contents (inner_of output.old)) (W.contents (inner_of output.new))) }
+    ensures flag { SetsFlag output.old output.new result }
+{
+    let Ok(count) = output.write(bytes) else {
+        return Err(ServeError::Write);
+    };
+    if count == 0 {
+        return Err(ServeError::Write);
+    }
+    Ok(count)
+}

@@ -1,0 +1,19 @@
+//! How long a stream is served at most.
+
+/// The most lines that are answered, and the most reads that are made (own rule): a stream that has more is ended, so
+/// that no input keeps a call for ever.
+#[derive(Clone, Copy, PartialEq, Eq, Debug)]
+pub struct Turns {
+    /// The most lines.
+    pub lines: u64,
+    /// The most reads.
+    pub reads: u64,
+}
+
+impl Turns {
+    /// What the programs use: 1,000,000 lines and 100,000,000 reads.
+    pub const USUAL: Turns = Turns {
+        lines: 1_000_000,
+        reads: 100_000_000,
+    };
+}
