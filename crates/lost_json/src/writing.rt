@@ -11,7 +11,6 @@ mod members;
 mod names;
 mod regions;
 mod replies;
-
 #[cfg(test)]
 mod tests;
 

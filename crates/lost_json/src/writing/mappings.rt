@@ -126,7 +126,12 @@ fn mapping_value(alloc: Global, mapping: &Mapping, boundary: Boundary) -> Result
     put_if(&mut map, alloc, "serviceBoundary", by_value)?;
     put_if(&mut map, alloc, "serviceBoundaryReference", by_reference)?;
     put_if(&mut map, alloc, "serviceNumber", number)?;
-    put_text(&mut map, alloc, "source", mapping.identity().source().text())?;
+    put_text(
+        &mut map,
+        alloc,
+        "source",
+        mapping.identity().source().text(),
+    )?;
     put_text(&mut map, alloc, "sourceId", mapping.identity().source_id())?;
     put(&mut map, alloc, "uri", uris)?;
     Ok(Value::from(map))

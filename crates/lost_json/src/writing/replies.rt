@@ -129,11 +129,7 @@ fn services_at_value(
     put_text(&mut map, alloc, "locationUsed", location_used)?;
     put(&mut map, alloc, "path", path)?;
     put(&mut map, alloc, "serviceList", services)?;
-    one_member(
-        alloc,
-        "listServicesByLocationResponse",
-        Value::from(map),
-    )
+    one_member(alloc, "listServicesByLocationResponse", Value::from(map))
 }
 
 /// The services anywhere (RFC 5222, section 10).
