@@ -7,3 +7,4 @@ pub mod DeskReplies
 pub mod DeskLines
 pub mod Line
 pub mod PlainNames
+pub mod Put

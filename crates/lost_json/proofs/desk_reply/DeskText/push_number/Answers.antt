@@ -1,4 +1,4 @@
-use Rattle.std.proofs.Common.{◌<◌, length, ap, arith, lit<}
+use Rattle.std.proofs.Common.{length, ap, arith, lit<}
 use Rattle.std.proofs.lemmas.Fmt.{length-decimal-le}
 use Rattle.lost_json.proofs.desk_reply.DeskText.push_number.Goals as goal
 
