@@ -1,3 +1,4 @@
 pub mod Place
 pub mod Request
 pub mod Reply
+pub mod Used

@@ -6,9 +6,11 @@ mod answering;
 mod book;
 mod holdings;
 mod place;
+mod places;
 mod reply;
 mod request;
 mod services;
+mod used;
 mod validation;
 
 pub use answering::answer;

@@ -1,0 +1,2 @@
+pub mod FindLemmas
+pub mod PlaceLemmas
