@@ -5,13 +5,16 @@
 mod answering;
 mod book;
 mod holdings;
+mod path;
 mod place;
 mod places;
 mod reply;
 mod request;
 mod services;
+mod shown;
 mod used;
 mod validation;
+mod warnings;
 
 pub use answering::answer;
 pub use holdings::Holdings;
