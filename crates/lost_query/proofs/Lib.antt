@@ -1,2 +1,5 @@
 pub mod FindLemmas
 pub mod PlaceLemmas
+pub mod PickLemmas
+pub mod PositionLemmas
+pub mod ChainLemmas

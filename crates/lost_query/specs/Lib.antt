@@ -2,3 +2,4 @@ pub mod Place
 pub mod Request
 pub mod Reply
 pub mod Used
+pub mod Finding

@@ -4,8 +4,10 @@
 
 mod answering;
 mod book;
+mod finding;
 mod holdings;
 mod path;
+mod picks;
 mod place;
 mod places;
 mod reply;
