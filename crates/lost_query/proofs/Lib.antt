@@ -3,3 +3,4 @@ pub mod PlaceLemmas
 pub mod PickLemmas
 pub mod PositionLemmas
 pub mod ChainLemmas
+pub mod BoundaryLemmas

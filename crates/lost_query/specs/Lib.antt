@@ -3,3 +3,5 @@ pub mod Request
 pub mod Reply
 pub mod Used
 pub mod Finding
+pub mod Route
+pub mod Ask

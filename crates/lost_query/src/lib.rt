@@ -4,12 +4,16 @@
 
 mod answering;
 mod book;
+mod boundaries;
+mod find_service;
 mod finding;
 mod holdings;
+mod lists;
 mod path;
 mod picks;
 mod place;
 mod places;
+mod refusals;
 mod reply;
 mod request;
 mod services;

@@ -1,5 +1,5 @@
 //! The path of a request: the names of the servers that it came by (RFC 5222, section 6).
-ghost use Rattle.std.specs.Prelude.{◌≡◌, ◌∷◌, ◌++◌, [], IfOk};
+ghost use Rattle.std.specs.Prelude.{◌≡◌, IfOk};
 ghost use Rattle.lost_spec.specs.Answer.{path_of, is_loop};
 ghost use Rattle.lost_mapping.specs.Texts.{texts_of};
 ghost use Rattle.lost_query.specs.Request.{request_of};
@@ -20,26 +20,34 @@ pub(crate) fn path_of(request: &Request) -> &[String]
     }
 }
 
-/// Whether the path has the server's name, in any case (RFC 5222, section 6).
-pub(crate) fn is_loop(name: &Source, path: &[String]) -> bool
-    ensures { result ≡ is_loop name.now (texts_of path.now) }
-{
-    path.iter()
-        .any(|text| name.text().eq_ignore_ascii_case(text.as_str()))
+/// The way of a request: the server's name, and the names that the request came by (RFC 5222, section 6).
+pub(crate) struct Route<'a> {
+    pub name: &'a Source,
+    pub path: &'a [String],
 }
 
-/// The path with the server's name after it (RFC 5222, section 6), or want of memory.
-pub(crate) fn path_shown(
-    alloc: Global,
-    name: &Source,
-    path: &[String],
-) -> Result<Vec<String>, AllocError>
-    ensures { IfOk result (λ shown. texts_of shown.items ≡ texts_of path.now ++ name.now ∷ []) }
-{
-    let mut shown = Vec::with_capacity(alloc, path.len() + 1)?;
-    for text in path {
-        shown.push(text.clone()?)?;
+impl Route<'_> {
+    ghost use Rattle.lost_query.specs.Route.{shown_path};
+
+    /// Whether the path has the server's name, in any case (RFC 5222, section 6).
+    pub(crate) fn is_loop(&self) -> bool
+        ensures { result ≡ is_loop self.now.name.now (texts_of self.now.path.now) }
+    {
+        let name = self.name.text();
+        self.path
+            .iter()
+            .any(|text| name.eq_ignore_ascii_case(text.as_str()))
     }
-    shown.push(String::from_str(alloc, name.text())?)?;
-    Ok(shown)
+
+    /// The path with the server's name after it (RFC 5222, section 6), or want of memory.
+    pub(crate) fn shown(&self, alloc: Global) -> Result<Vec<String>, AllocError>
+        ensures { IfOk result (λ shown. texts_of shown.items ≡ shown_path self.now) }
+    {
+        let mut shown = Vec::with_capacity(alloc, self.path.len() + 1)?;
+        for text in self.path {
+            shown.push(text.clone()?)?;
+        }
+        shown.push(String::from_str(alloc, self.name.text())?)?;
+        Ok(shown)
+    }
 }
