@@ -1,3 +1,7 @@
 pub mod Place
 pub mod Request
 pub mod Reply
+pub mod Used
+pub mod Finding
+pub mod Route
+pub mod Ask

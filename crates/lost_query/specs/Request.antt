@@ -1,5 +1,5 @@
 -- What a `Request` of the code stands for.
-use Rattle.std.specs.Prelude.{List, map, option_map, string_bytes}
+use Rattle.std.specs.Prelude.{List, map, string_bytes}
 use Rattle.lost_spec.specs.Request as spec
 use Rattle.lost_civic.specs.Pairs.{seen_pairs}
 use Rattle.lost_mapping.specs.Texts.{texts_of}

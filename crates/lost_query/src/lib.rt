@@ -4,12 +4,23 @@
 
 mod answering;
 mod book;
+mod boundaries;
+mod find_service;
+mod finding;
 mod holdings;
+mod lists;
+mod path;
+mod picks;
 mod place;
+mod places;
+mod refusals;
 mod reply;
 mod request;
 mod services;
+mod shown;
+mod used;
 mod validation;
+mod warnings;
 
 pub use answering::answer;
 pub use holdings::Holdings;

@@ -1,0 +1,6 @@
+pub mod FindLemmas
+pub mod PlaceLemmas
+pub mod PickLemmas
+pub mod PositionLemmas
+pub mod ChainLemmas
+pub mod BoundaryLemmas

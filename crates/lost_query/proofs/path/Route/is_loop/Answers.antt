@@ -1,0 +1,12 @@
+use Rattle.std.proofs.Common.{◌≡◌, ◌∙◌, string_bytes, rules, tests}
+use Rattle.std.specs.List.{list_any}
+use Rattle.std.proofs.lemmas.Iterator.{YieldsList-from_slice}
+use Rattle.std.proofs.lemmas.Iterator.Search.{any_from_yields_List}
+use Rattle.lost_spec.specs.Text.{same_ignoring_case}
+use Rattle.lost_query.proofs.FindLemmas.{list_any-map}
+use Rattle.lost_query.proofs.path.Route.is_loop.Goals as goal
+
+pub returns : goal.returns
+returns c =
+    let direct : c.any.result ≡ list_any (λ text. same_ignoring_case c.args.self.now.name.now (string_bytes text)) c.args.self.now.path.now = any_from_yields_List (λ text. same_ignoring_case c.args.self.now.name.now (string_bytes text)) _ _ c.any.result c.any.ensures.ran (YieldsList-from_slice c.args.self.now.path.now (cc)) (λ x b q k. search (rules, tests)) in
+    direct ∙ list_any-map string_bytes (same_ignoring_case c.args.self.now.name.now) c.args.self.now.path.now

@@ -1,0 +1,36 @@
+//! The reply to getServiceBoundary (RFC 5222, section 9).
+ghost use Rattle.std.specs.Prelude.{◌≡◌, IfOk};
+ghost use Rattle.lost_spec.specs.Services.{by_key};
+ghost use Rattle.lost_spec.specs.Answer.{boundary_reply};
+ghost use Rattle.lost_query.specs.Reply.{reply_of};
+ghost use Rattle.lost_query.specs.Route.{shown_path};
+
+use crate::holdings::Holdings;
+use crate::path::Route;
+use crate::refusals::refusal;
+use crate::reply::Reply;
+use lost_mapping::Moment;
+use lost_spec::answers::AnswerError;
+use std::alloc::{AllocError, Global};
+
+/// The reply to getServiceBoundary: the regions of the live mapping that has the key, or `notFound` (RFC 5222, section
+/// 9; keys own), or want of memory.
+pub(crate) fn get_boundary<H: Holdings>(
+    alloc: Global,
+    holdings: &H,
+    moment: &Moment,
+    route: &Route<'_>,
+    key: &str,
+) -> Result<Reply, AllocError>
+    ensures { IfOk result (λ reply. reply_of reply
+        ≡ boundary_reply (H.book holdings.now).edits (shown_path route.now) (by_key (H.book holdings.now) moment.now key.now)) }
+{
+    let Some(position) = holdings.by_key(moment, key) else {
+        return Ok(refusal(holdings, AnswerError::NotFound));
+    };
+    Ok(Reply::GetServiceBoundaryResponse {
+        edition: holdings.edition(),
+        path: route.shown(alloc)?,
+        mapping: holdings.mapping(position).clone()?,
+    })
+}

@@ -1,0 +1,140 @@
+//! The reply to findService at a place (RFC 5222, section 8).
+ghost use Rattle.std.specs.Prelude.{◌≡◌, IfOk, option_map};
+ghost use Rattle.lost_spec.specs.Moment.{Instant};
+ghost use Rattle.lost_spec.specs.Find.{FoundHolders, FoundDefaults, found, is_implemented};
+ghost use Rattle.lost_spec.specs.Answer.{error_of, validation_for};
+ghost use Rattle.lost_query.specs.Place.{place_of};
+ghost use Rattle.lost_query.specs.Reply.{validation_of, reply_of};
+ghost use Rattle.lost_query.specs.Ask.{asked_reply};
+
+use crate::finding::{Finding, find};
+use crate::holdings::Holdings;
+use crate::path::Route;
+use crate::place::Place;
+use crate::refusals::refusal;
+use crate::reply::{Reply, Validation};
+use crate::shown::all_shown;
+use crate::validation::validate;
+use crate::warnings::{default_warnings, substitution_warnings};
+use lost_mapping::{Mapping, Moment};
+use lost_spec::answers::AnswerError;
+use lost_urn::ServiceUrn;
+use std::alloc::{AllocError, Global};
+
+/// What a findService asks, at the place of the location that is used (RFC 5222, section 8.3).
+pub(crate) struct Ask<'a> {
+    pub service: &'a ServiceUrn,
+    pub location_used: &'a str,
+    pub place: &'a Place,
+    pub validate: bool,
+    pub by_value: bool,
+}
+
+/// The reply to findService at a place (RFC 5222, section 8), or want of memory: what is found, or the error where
+/// nothing is.
+pub(crate) fn find_service<H: Holdings>(
+    alloc: Global,
+    holdings: &H,
+    moment: &Moment,
+    ask: &Ask<'_>,
+    route: &Route<'_>,
+) -> Result<Reply, AllocError>
+    ensures { IfOk result (λ reply. reply_of reply ≡ asked_reply (H.book holdings.now) moment.now ask.now route.now
+        (found (H.book holdings.now) moment.now (place_of ask.now.place.now) ask.now.service.now)) }
+{
+    match find(alloc, holdings, moment, ask.place, ask.service)? {
+        Finding::Holders(service, mappings) => {
+            reply_with_holders(alloc, holdings, moment, ask, route, &service, mappings)
+        }
+        Finding::Defaults(service, mappings) => {
+            reply_with_defaults(alloc, holdings, ask, route, &service, mappings)
+        }
+        Finding::Nothing => {
+            let error = error_of_nothing(holdings, moment, ask.service);
+            Ok(refusal(holdings, error))
+        }
+    }
+}
+
+/// The reply with the mappings of a service that hold the place, or want of memory.
+fn reply_with_holders<H: Holdings>(
+    alloc: Global,
+    holdings: &H,
+    moment: &Moment,
+    ask: &Ask<'_>,
+    route: &Route<'_>,
+    service: &ServiceUrn,
+    mappings: Vec<Mapping>,
+) -> Result<Reply, AllocError>
+    ensures { IfOk result (λ reply. reply_of reply
+        ≡ asked_reply (H.book holdings.now) moment.now ask.now route.now (FoundHolders service.now mappings.items)) }
+{
+    Ok(Reply::FindServiceResponse {
+        edition: holdings.edition(),
+        location_used: String::from_str(alloc, ask.location_used)?,
+        validation: validation_for(alloc, holdings, moment, ask, service, &mappings)?,
+        mappings: all_shown(alloc, mappings, ask.place, ask.by_value)?,
+        path: route.shown(alloc)?,
+        warnings: substitution_warnings(alloc, ask.service, service)?,
+    })
+}
+
+/// The reply with the defaults of a service, or want of memory.
+fn reply_with_defaults<H: Holdings>(
+    alloc: Global,
+    holdings: &H,
+    ask: &Ask<'_>,
+    route: &Route<'_>,
+    service: &ServiceUrn,
+    mappings: Vec<Mapping>,
+) -> Result<Reply, AllocError>
+    ensures { (t : Instant) → IfOk result (λ reply. reply_of reply
+        ≡ asked_reply (H.book holdings.now) t ask.now route.now (FoundDefaults service.now mappings.items)) }
+{
+    Ok(Reply::FindServiceResponse {
+        edition: holdings.edition(),
+        location_used: String::from_str(alloc, ask.location_used)?,
+        validation: None,
+        mappings: all_shown(alloc, mappings, ask.place, ask.by_value)?,
+        path: route.shown(alloc)?,
+        warnings: default_warnings(alloc, ask.service, service, ask.place, ask.validate)?,
+    })
+}
+
+/// The error where nothing is found: `notFound` where the service is implemented, and else `serviceNotImplemented`
+/// (RFC 5222, section 13.1; own reading).
+fn error_of_nothing<H: Holdings>(holdings: &H, moment: &Moment, service: &ServiceUrn) -> AnswerError
+    ensures { result ≡ error_of (is_implemented (H.book holdings.now) moment.now service.now) }
+{
+    if holdings.implemented(moment, service) {
+        AnswerError::NotFound
+    } else {
+        AnswerError::ServiceNotImplemented
+    }
+}
+
+/// How the elements of the place's address are judged, where that is asked for and the place is an address (RFC 5222,
+/// section 8.4.2), or want of memory.
+fn validation_for<H: Holdings>(
+    alloc: Global,
+    holdings: &H,
+    moment: &Moment,
+    ask: &Ask<'_>,
+    service: &ServiceUrn,
+    mappings: &[Mapping],
+) -> Result<Option<Validation>, AllocError>
+    ensures { IfOk result (λ judged. option_map validation_of judged ≡ validation_for (H.book holdings.now) moment.now
+        (place_of ask.now.place.now) ask.now.validate service.now mappings.now) }
+{
+    match ask.place {
+        Place::Point(_) => Ok(None),
+        Place::Address(address) => {
+            if ask.validate {
+                let judged = validate(alloc, holdings, moment, service, mappings, address)?;
+                Ok(Some(judged))
+            } else {
+                Ok(None)
+            }
+        }
+    }
+}

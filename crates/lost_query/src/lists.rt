@@ -1,0 +1,58 @@
+//! The replies to listServicesByLocation and to listServices (RFC 5222, sections 10 and 11).
+ghost use Rattle.std.specs.Prelude.{◌≡◌, IfOk};
+ghost use Rattle.std.specs.Option.{option_copied};
+ghost use Rattle.lost_spec.specs.Request.{ListServicesByLocationResponse, ListServicesResponse};
+ghost use Rattle.lost_spec.specs.Services.{services, all_services};
+ghost use Rattle.lost_query.specs.Place.{place_of};
+ghost use Rattle.lost_query.specs.Reply.{reply_of};
+ghost use Rattle.lost_query.specs.Route.{shown_path};
+
+use crate::holdings::Holdings;
+use crate::path::Route;
+use crate::place::Place;
+use crate::reply::Reply;
+use crate::services::{services_anywhere, services_at};
+use lost_mapping::Moment;
+use lost_urn::ServiceUrn;
+use std::alloc::{AllocError, Global};
+
+/// The reply to listServicesByLocation at the place of the location used (RFC 5222, section 11), or want of memory.
+pub(crate) fn list_at<H: Holdings>(
+    alloc: Global,
+    holdings: &H,
+    moment: &Moment,
+    route: &Route<'_>,
+    above: Option<&ServiceUrn>,
+    location_used: &str,
+    place: &Place,
+) -> Result<Reply, AllocError>
+    ensures { IfOk result (λ reply. reply_of reply
+        ≡ ListServicesByLocationResponse (H.book holdings.now).edits location_used.now (shown_path route.now)
+            (services (H.book holdings.now) moment.now (place_of place.now) (option_copied above.entry))) }
+{
+    Ok(Reply::ListServicesByLocationResponse {
+        edition: holdings.edition(),
+        location_used: String::from_str(alloc, location_used)?,
+        path: route.shown(alloc)?,
+        services: services_at(alloc, holdings, moment, place, above)?,
+    })
+}
+
+/// The reply to listServices (RFC 5222, section 10), or want of memory.
+pub(crate) fn list_anywhere<H: Holdings>(
+    alloc: Global,
+    holdings: &H,
+    moment: &Moment,
+    route: &Route<'_>,
+    above: Option<&ServiceUrn>,
+) -> Result<Reply, AllocError>
+    ensures { IfOk result (λ reply. reply_of reply
+        ≡ ListServicesResponse (H.book holdings.now).edits (shown_path route.now)
+            (all_services (H.book holdings.now) moment.now (option_copied above.entry))) }
+{
+    Ok(Reply::ListServicesResponse {
+        edition: holdings.edition(),
+        path: route.shown(alloc)?,
+        services: services_anywhere(alloc, holdings, moment, above)?,
+    })
+}

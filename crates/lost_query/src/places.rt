@@ -1,0 +1,117 @@
+//! The place of the location used, or the error where there is none.
+ghost use Rattle.std.specs.Prelude.{◌≡◌, ℕ, Some, IfOk, option_map};
+ghost use Rattle.lost_spec.specs.Text.{Text};
+ghost use Rattle.lost_spec.specs.Find as spec;
+ghost use Rattle.lost_spec.specs.Request.{Reply};
+ghost use Rattle.lost_spec.specs.Answer.{point_place, address_place, place_of, at_location, location_used};
+ghost use Rattle.lost_civic.specs.Pairs.{seen_pairs};
+ghost use Rattle.lost_query.specs.Place.{place_of as seen_place};
+ghost use Rattle.lost_query.specs.Request.{body_of, location_of, locations_of};
+ghost use Rattle.lost_query.specs.Used.{reply_used};
+
+use crate::place::Place;
+use crate::request::{Body, Location};
+use crate::used::{is_geodetic, location_used};
+use lost_civic::{CivicAddress, CivicError};
+use lost_geo::GeoPoint;
+use lost_spec::answers::AnswerError;
+use std::alloc::{AllocError, Global};
+
+/// Where a request asks, or why it asks nowhere.
+#[derive(Drop)]
+pub(crate) enum Used<'a> {
+    /// The id of the location used, and its place.
+    At(&'a str, Place),
+    /// The first error that applies to the locations.
+    Refused(AnswerError),
+}
+
+/// The id and the place of the location used, or the first error that applies (RFC 5222, section 13.1; order own), or
+/// want of memory: `locationProfileUnrecognized` where no location has a profile that is known; then those of the
+/// location used.
+pub(crate) fn place_used(alloc: Global, locations: &[Location]) -> Result<Used<'_>, AllocError>
+    ensures { IfOk result (λ used. (edition : ℕ) (answer : Text → spec.Place → Reply)
+        → reply_used edition used answer ≡ at_location edition (location_used (locations_of locations.now)) answer) }
+{
+    match location_used(locations) {
+        Some(location) => place_at(alloc, location),
+        None => Ok(Used::Refused(AnswerError::LocationProfileUnrecognized)),
+    }
+}
+
+/// The id and the place of a location, or the first error that applies (RFC 5222, section 13.1; order own), or want of
+/// memory: `SRSInvalid` for a point whose reference system is not known; `locationInvalid` where the content is no
+/// place of the profile.
+fn place_at(alloc: Global, location: &Location) -> Result<Used<'_>, AllocError>
+    ensures { IfOk result (λ used. (edition : ℕ) (answer : Text → spec.Place → Reply)
+        → reply_used edition used answer ≡ at_location edition (Some (location_of location.now)) answer) }
+{
+    let geodetic = is_geodetic(location.profile.as_str());
+    if geodetic && !location.srs_known {
+        return Ok(Used::Refused(AnswerError::SrsInvalid));
+    }
+    match place_of(alloc, geodetic, &location.body)? {
+        Some(place) => Ok(Used::At(location.id.as_str(), place)),
+        None => Ok(Used::Refused(AnswerError::LocationInvalid)),
+    }
+}
+
+/// The place of a body, which is a point for `geodetic-2d` and an address for `civic` (RFC 5222, section 12), or none
+/// where the body is not, or want of memory.
+fn place_of(alloc: Global, geodetic: bool, body: &Body) -> Result<Option<Place>, AllocError>
+    ensures { IfOk result (λ place. option_map seen_place place ≡ place_of geodetic (body_of body.now)) }
+{
+    match body {
+        Body::Point(lat, lon) => {
+            if geodetic {
+                Ok(point_place(*lat, *lon))
+            } else {
+                Ok(None)
+            }
+        }
+        Body::Address(pairs) => {
+            if geodetic {
+                Ok(None)
+            } else {
+                address_place(alloc, pairs)
+            }
+        }
+        Body::Unreadable => Ok(None),
+    }
+}
+
+/// The point of a latitude and a longitude, or none where one is out of range (RFC 5222, section 12.2).
+fn point_place(lat: i64, lon: i64) -> Option<Place>
+    ensures { option_map seen_place result ≡ point_place lat lon }
+{
+    match GeoPoint::new(lat, lon) {
+        Ok(point) => Some(Place::Point(point)),
+        Err(_) => None,
+    }
+}
+
+/// The address of these pairs, or none where they are refused (RFC 5222, section 12.3), or want of memory.
+fn address_place(
+    alloc: Global,
+    pairs: &Vec<(String, String)>,
+) -> Result<Option<Place>, AllocError>
+    ensures { IfOk result (λ place. option_map seen_place place ≡ address_place (seen_pairs pairs.now.items)) }
+{
+    match CivicAddress::from_pairs(alloc, copied_pairs(pairs)?) {
+        Ok(address) => Ok(Some(Place::Address(address))),
+        Err(fault) => {
+            if fault == CivicError::Memory {
+                Err(AllocError)
+            } else {
+                Ok(None)
+            }
+        }
+    }
+}
+
+/// The same names and values once more, or want of memory.
+fn copied_pairs(pairs: &Vec<(String, String)>) -> Result<Vec<(String, String)>, AllocError>
+    ensures { IfOk result (λ copy. seen_pairs copy.items ≡ seen_pairs pairs.now.items) }
+{
+    Ok(pairs.clone()?)
+}

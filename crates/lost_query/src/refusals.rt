@@ -1,0 +1,18 @@
+//! Replies that are errors.
+ghost use Rattle.std.specs.Prelude.{◌≡◌};
+ghost use Rattle.lost_spec.specs.Request.{Errors};
+ghost use Rattle.lost_query.specs.Reply.{reply_of};
+
+use crate::holdings::Holdings;
+use crate::reply::Reply;
+use lost_spec::answers::AnswerError;
+
+/// The reply that is this error (RFC 5222, section 13.1).
+pub(crate) fn refusal<H: Holdings>(holdings: &H, error: AnswerError) -> Reply
+    ensures { reply_of result ≡ Errors (H.book holdings.now).edits error }
+{
+    Reply::Errors {
+        edition: holdings.edition(),
+        error,
+    }
+}
