@@ -1,0 +1,2 @@
+pub mod HasChildren
+pub mod InsertLemmas
