@@ -4,3 +4,5 @@ pub mod PickLemmas
 pub mod PositionLemmas
 pub mod ChainLemmas
 pub mod BoundaryLemmas
+pub mod HasChildren
+pub mod InsertLemmas

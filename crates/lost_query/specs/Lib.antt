@@ -1,3 +1,4 @@
+pub mod Children
 pub mod Place
 pub mod Request
 pub mod Reply

@@ -6,9 +6,13 @@ ghost use Rattle.lost_query.specs.Place.{place_of};
 
 use crate::holdings::Holdings;
 use crate::place::Place;
+use crate::services::children::{add_child, list};
 use lost_mapping::Moment;
 use lost_urn::ServiceUrn;
 use std::alloc::{AllocError, Global};
+use std::collections::BTreeSet;
+
+mod children;
 
 /// The services just below one, or the topmost, of the live mappings that hold the place and are no defaults, in the
 /// order of their texts, each once (RFC 5222, section 11; order own), or want of memory.
@@ -22,7 +26,12 @@ pub(crate) fn services_at<H: Holdings>(
     ensures { IfOk result (λ found.
         found.items ≡ services (H.book holdings.now) moment.now (place_of place.now) (option_copied above.entry)) }
 {
-    Err(AllocError)
+    let positions = holdings.holding(moment, place)?;
+    let mut children = BTreeSet::new(alloc);
+    for position in positions.iter().rev() {
+        add_child(&mut children, above, holdings.mapping(*position))?;
+    }
+    list(alloc, children)
 }
 
 /// The services just below one, or the topmost, of all live mappings, defaults too, in the order of their texts, each
@@ -36,5 +45,13 @@ pub(crate) fn services_anywhere<H: Holdings>(
     ensures { IfOk result (λ found.
         found.items ≡ all_services (H.book holdings.now) moment.now (option_copied above.entry)) }
 {
-    Err(AllocError)
+    let mut children = BTreeSet::new(alloc);
+    for position in (0..holdings.len()).rev() {
+        let mapping = holdings.mapping(position);
+        if !mapping.is_live(moment) {
+            continue;
+        }
+        add_child(&mut children, above, mapping)?;
+    }
+    list(alloc, children)
 }

@@ -1,0 +1,118 @@
+-- How far the search for the children of a service has come: the last mappings of a list are done.
+use Rattle.std.proofs.Common.{◌≡◌, ℕ, zero, suc, ◌+◌, ◌-◌, ◌<◌, ◌≤◌, Bool, true, false, cond, List, map, [], ◌∷◌, ◌++◌, length, drop, filter, filter_map, Option, Some, None, unwrap_or, refl, sym, ap, subst, ◌∙◌, arith}
+use Rattle.std.specs.List.{AllByRecursion, cons_option, slice_get}
+use Rattle.lost_spec.specs.Text.{ascending_by}
+use Rattle.lost_spec.specs.Service.{Service, service_text, child}
+use Rattle.lost_spec.specs.Moment.{Instant}
+use Rattle.lost_spec.specs.Mapping.{Mapping, is_live}
+use Rattle.lost_spec.specs.Book.{Book}
+use Rattle.lost_spec.specs.Positions.{positions_from, positions}
+use Rattle.lost_spec.specs.Find.{Place}
+use Rattle.lost_spec.proofs.PositionLemmas.{positions_are_where_it_passes_lem}
+use Rattle.std.proofs.lemmas.List.{nil_from_length}
+use Rattle.lost_spec.specs.Services.{children_in, is_holding, services, all_services}
+use Rattle.lost_query.specs.Children.{AreServices, with_some}
+
+-- the services are the children of q over these mappings
+pub record HasChildren (q : Option Service) (ms : List Mapping) (services : List Service) : Type 0 where
+  pub all : AreServices services
+  pub are : services ≡ children_in q ms
+
+-- over no mapping there are none
+pub HasChildren-none : (q : Option Service) (services : List Service) → services ≡ [] → HasChildren q [] services
+HasChildren-none q services none = record { all = subst AreServices (sym none) tt; are = none }
+
+-- a service that is found comes first
+with_some-ascending_by : (found : Option Service) (services : List Service) → with_some found (ascending_by service_text services) ≡ ascending_by service_text (cons_option found services)
+with_some-ascending_by None services = refl
+with_some-ascending_by (Some s) services = refl
+
+-- one more mapping
+pub HasChildren-more : (q : Option Service) (m : Mapping) (ms : List Mapping) (old new : List Service) → HasChildren q ms old → AreServices new → new ≡ with_some (child q m.service) old → HasChildren q (m ∷ ms) new
+HasChildren-more q m ms old new before all added =
+    let found = child q m.service in
+    record {
+      all = all;
+      are = added ∙ ap (with_some found) before.are ∙ with_some-ascending_by found (filter_map (λ (n : Mapping). child q n.service) ms);
+    }
+
+-- what stands at a place comes before what follows it
+pub drop-slice_get : {Thing : Type 0} (xs : List Thing) (i : ℕ) (x : Thing) → slice_get xs i ≡ Some x → drop i xs ≡ x ∷ drop (suc i) xs
+drop-slice_get [] i x is = absurd (cc)
+drop-slice_get (y ∷ ys) zero x is = ap (λ o. unwrap_or o y ∷ ys) is
+drop-slice_get (y ∷ ys) (suc i) x is = drop-slice_get ys i x is
+
+module _ (test : Mapping → Bool) (q : Option Service) (ms : List Mapping) where
+  -- the last mappings of a list, those that pass, and one before them that passes or fails
+  module _ (i : ℕ) (m : Mapping) (some : 0 < i) (is : slice_get ms (i - 1) ≡ Some m) (old : List Service) (before : HasChildren q (filter test (drop i ms)) old) where
+    front : filter test (drop (i - 1) ms) ≡ filter test (m ∷ drop i ms)
+    front = let next : suc (i - 1) ≡ i = omega arith in ap (filter test) (drop-slice_get ms (i - 1) m is ∙ ap (λ k. m ∷ drop k ms) next)
+
+    pub HasChildren-passes : test m ≡ true → (new : List Service) → AreServices new → new ≡ with_some (child q m.service) old → HasChildren q (filter test (drop (i - 1) ms)) new
+    HasChildren-passes passes new all added =
+        let passing : m ∷ filter test (drop i ms) ≡ filter test (drop (i - 1) ms) = ap (λ b. cond b (m ∷ filter test (drop i ms)) (filter test (drop i ms))) (sym passes) ∙ sym front in
+        subst (λ ns. HasChildren q ns new) passing (HasChildren-more q m (filter test (drop i ms)) old new before all added)
+
+    pub HasChildren-fails : test m ≡ false → HasChildren q (filter test (drop (i - 1) ms)) old
+    HasChildren-fails fails =
+        let failing : filter test (drop i ms) ≡ filter test (drop (i - 1) ms) = ap (λ b. cond b (m ∷ filter test (drop i ms)) (filter test (drop i ms))) (sym fails) ∙ sym front in
+        subst (λ ns. HasChildren q ns old) failing before
+
+-- ---- the mappings at some positions
+
+-- the mappings of a list that stand at some positions
+abbrev pub mappings_at : List Mapping → List ℕ → List Mapping
+mappings_at ms positions = filter_map (slice_get ms) positions
+
+-- a filter of things that are looked up first
+filter_map-map : {A B C : Type 0} (f : A → B) (h : B → Option C) (xs : List A) → filter_map (λ x. h (f x)) xs ≡ filter_map h (map f xs)
+filter_map-map f h [] = refl
+filter_map-map f h (x ∷ xs) = ap (cons_option (h (f x))) (filter_map-map f h xs)
+
+filter_map-some : {A : Type 0} (xs : List A) → filter_map (λ o. o) (map Some xs) ≡ xs
+filter_map-some [] = refl
+filter_map-some (x ∷ xs) = ap (λ rest. x ∷ rest) (filter_map-some xs)
+
+-- at the positions of what passes stands what passes
+mappings_at-positions : (test : Mapping → Bool) (ms : List Mapping) → mappings_at ms (positions test ms) ≡ filter test ms
+mappings_at-positions test ms =
+    filter_map-map (slice_get ms) (λ o. o) (positions test ms) ∙ ap (filter_map (λ o. o)) (positions_are_where_it_passes_lem test ms).mappings ∙ filter_map-some (filter test ms)
+
+-- no position is past the end
+positions_from-below : (test : Mapping → Bool) (n : ℕ) (ms : List Mapping) → AllByRecursion (λ i. i < n + length ms) (positions_from test n ms)
+positions_from-below test n [] = tt
+positions_from-below test n (m ∷ ms) =
+    let next : suc n + length ms ≡ n + suc (length ms) = omega arith in
+    let later = subst (λ k. AllByRecursion (λ i. i < k) (positions_from test (suc n) ms)) next (positions_from-below test (suc n) ms) in
+    elim (test m) as (λ b. AllByRecursion (λ i. i < n + suc (length ms)) (cond b (n ∷ positions_from test (suc n) ms) (positions_from test (suc n) ms))) [
+      | true ↦ (omega arith, later)
+      | false ↦ later
+    ]
+
+-- what holds of each thing holds of one behind others
+at_middle : {Thing : Type 0} (P : Thing → Type 0) (front : List Thing) (x : Thing) (done : List Thing) → AllByRecursion P ((front ++ x ∷ []) ++ done) → P x
+at_middle P [] x done all = all.0
+at_middle P (y ∷ front) x done all = at_middle P front x done all.1
+
+-- the next position is one of the list
+pub position-below : (test : Mapping → Bool) (ms : List Mapping) (rest front done : List ℕ) (i : ℕ) → rest ++ done ≡ positions test ms → rest ≡ front ++ i ∷ [] → i < length ms
+position-below test ms rest front done i is next =
+    let all : AllByRecursion (λ k. k < 0 + length ms) ((front ++ i ∷ []) ++ done) = subst (AllByRecursion (λ k. k < 0 + length ms)) (sym is ∙ ap (λ xs. xs ++ done) next) (positions_from-below test 0 ms) in
+    let below : i < 0 + length ms = at_middle (λ k. k < 0 + length ms) front i done all in
+    omega arith
+
+-- ---- at the end
+
+-- where no mapping is left before, the children are the services anywhere
+pub all_services-HasChildren : (b : Book) (t : Instant) (q : Option Service) (i : ℕ) (services : List Service) → i ≤ 0 → HasChildren q (filter (λ m. is_live m t) (drop i b.mappings)) services → services ≡ all_services b t q
+unfolding all_services
+all_services-HasChildren b t q i services past has =
+    let first : i ≡ 0 = omega arith in
+    has.are ∙ ap (λ k. children_in q (filter (λ (m : Mapping). is_live m t) (drop k b.mappings))) first
+
+-- where no position is left before, the children are the services at the place
+pub services-HasChildren : (b : Book) (t : Instant) (l : Place) (q : Option Service) (rest done : List ℕ) (found : List Service) → length rest ≡ 0 → rest ++ done ≡ positions (is_holding t l) b.mappings → HasChildren q (mappings_at b.mappings done) found → found ≡ services b t l q
+unfolding services
+services-HasChildren b t l q rest done found past is has =
+    let all : done ≡ positions (is_holding t l) b.mappings = ap (λ xs. xs ++ done) (sym (nil_from_length rest past)) ∙ is in
+    has.are ∙ ap (λ ps. children_in q (mappings_at b.mappings ps)) all ∙ ap (children_in q) (mappings_at-positions (is_holding t l) b.mappings)
