@@ -4,6 +4,7 @@
 
 mod desk;
 mod desk_reply;
+mod kinds;
 mod line;
 mod reading;
 mod request;

@@ -8,7 +8,7 @@ ghost use Rattle.lost_json.specs.Members.{tree_of, the_member, required, optiona
 
 use crate::request::ReadError;
 use serde_json::{Error, Map, Value};
-use std::alloc::{AllocError, Global};
+use std::alloc::{AllocError, AllocFailed, Global};
 
 /// What a value of a tree is read as.
 pub(crate) trait Kind: Drop {
@@ -34,6 +34,16 @@ impl From<AllocError> for ReadError {
     ghost from_gives = { λ _ error. error ≡ Memory };
 
     fn from(_refused: AllocError) -> ReadError {
+        ReadError::Memory
+    }
+}
+
+impl<T: Drop> From<AllocFailed<T>> for ReadError {
+    ghost use Rattle.lost_json.specs.declared.request.ReadError.TheVariants.{Memory};
+
+    ghost from_gives = { λ _ error. error ≡ Memory };
+
+    fn from(_refused: AllocFailed<T>) -> ReadError {
         ReadError::Memory
     }
 }
