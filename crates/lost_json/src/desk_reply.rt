@@ -48,8 +48,5 @@ pub fn write_desk(reply: &DeskReply) -> DeskText
     requires { IsInTable reply.now }
     ensures { result ≡ desk_text reply.now }
 {
-    DeskText {
-        bytes: [0; 64],
-        len: 0,
-    }
+    DeskText { bytes: [0; 64], len: 0 }
 }

@@ -6,6 +6,7 @@ mod desk;
 mod desk_reply;
 mod kinds;
 mod line;
+mod locations;
 mod reading;
 mod request;
 mod writing;

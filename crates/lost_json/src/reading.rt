@@ -1,5 +1,5 @@
 //! Small readers: the tree of a line, the members of an object, and the kinds of values that members have.
-ghost use Rattle.std.specs.Prelude.{◌≡◌, ◌↔◌, option_map};
+ghost use Rattle.std.specs.Prelude.{◌≡◌, ◌↔◌, Some, option_map};
 ghost use Rattle.serde_json.specs.Errors.{IsMemory};
 ghost use Rattle.serde_json.specs.Find.{get_member};
 ghost use Rattle.serde_json.specs.View.{view, members_view};
@@ -95,6 +95,21 @@ pub(crate) fn required<T: Kind>(
     match member(members, name) {
         Some(value) => T::read(alloc, value),
         None => Err(ReadError::BadRequest),
+    }
+}
+
+/// A member of a kind, or nothing where it is missing or of another kind: only memory fails.
+pub(crate) fn readable<T: Kind>(
+    alloc: Global,
+    members: &Map<String, Value>,
+    name: &str,
+) -> Result<Option<T>, ReadError>
+    ensures { Gives (λ found. option_map T.seen found) result (Some (required T.meant name.now (members_view members.now.entries))) }
+{
+    match required::<T>(alloc, members, name) {
+        Ok(thing) => Ok(Some(thing)),
+        Err(ReadError::BadRequest) => Ok(None),
+        Err(ReadError::Memory) => Err(ReadError::Memory),
     }
 }
 
