@@ -7,6 +7,7 @@ mod desk_reply;
 mod kinds;
 mod line;
 mod locations;
+mod options;
 mod reading;
 mod request;
 mod writing;

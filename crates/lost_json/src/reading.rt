@@ -4,7 +4,7 @@ ghost use Rattle.serde_json.specs.Errors.{IsMemory};
 ghost use Rattle.serde_json.specs.Find.{get_member};
 ghost use Rattle.serde_json.specs.View.{view, members_view};
 ghost use Rattle.lost_json.specs.Gives.{Gives};
-ghost use Rattle.lost_json.specs.Members.{tree_of, the_member, required, optional, defaulting};
+ghost use Rattle.lost_json.specs.Members.{tree_of, one_of, only_member, the_member, required, optional, defaulting};
 
 use crate::request::ReadError;
 use serde_json::{Error, Map, Value};
@@ -66,6 +66,28 @@ fn tree_fault(error: &Error) -> ReadError
         ReadError::Memory
     } else {
         ReadError::BadRequest
+    }
+}
+
+/// The one member of an object that has exactly one, and nothing of any other value.
+pub(crate) fn only_member(value: &Value) -> Option<(&str, &Value)>
+    ensures { option_map (λ found. (found.0.now, view found.1.now)) result ≡ only_member (view value.now) }
+{
+    match value.as_object() {
+        Some(members) => one_of(members),
+        None => None,
+    }
+}
+
+fn one_of(members: &Map<String, Value>) -> Option<(&str, &Value)>
+    ensures { option_map (λ found. (found.0.now, view found.1.now)) result ≡ one_of (members_view members.now.entries) }
+{
+    let mut entries = members.iter();
+    let (name, value) = entries.next()?;
+    if entries.next().is_some() {
+        None
+    } else {
+        Some((name.as_str(), value))
     }
 }
 
