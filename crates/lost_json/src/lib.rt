@@ -8,7 +8,9 @@ mod kinds;
 mod line;
 mod locations;
 mod options;
+mod parts;
 mod reading;
+mod regions;
 mod request;
 mod writing;
 

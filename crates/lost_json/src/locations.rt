@@ -18,9 +18,9 @@ use std::alloc::Global;
 const KNOWN_SYSTEM: &str = "urn:ogc:def:crs:EPSG::4326";
 
 /// The profiles that are known (RFC 5222, section 12.1).
-const GEODETIC: &str = "geodetic-2d";
+pub(crate) const GEODETIC: &str = "geodetic-2d";
 
-const CIVIC: &str = "civic";
+pub(crate) const CIVIC: &str = "civic";
 
 /// The most locations of a request (own rule).
 const MOST_LOCATIONS: usize = 8;

@@ -1,7 +1,7 @@
 //! Small readers: the tree of a line, the members of an object, and the kinds of values that members have.
 ghost use Rattle.std.specs.Prelude.{◌≡◌, ◌↔◌, Some, option_map};
 ghost use Rattle.serde_json.specs.Errors.{IsMemory};
-ghost use Rattle.serde_json.specs.Find.{get_member};
+ghost use Rattle.serde_json.specs.Find.{as_str, get_member};
 ghost use Rattle.serde_json.specs.View.{view, members_view};
 ghost use Rattle.lost_json.specs.Gives.{Gives};
 ghost use Rattle.lost_json.specs.Members.{tree_of, one_of, only_member, the_member, required, optional, defaulting};
@@ -104,6 +104,16 @@ pub(crate) fn member<'v>(members: &'v Map<String, Value>, name: &str) -> Option<
 {
     let value = given(members, name)?;
     if value.is_null() { None } else { Some(value) }
+}
+
+/// The text of a member that is there and is one.
+pub(crate) fn text_member<'v>(members: &'v Map<String, Value>, name: &str) -> Option<&'v str>
+    ensures { option_map (λ text. text.now) result ≡ required as_str name.now (members_view members.now.entries) }
+{
+    match member(members, name) {
+        Some(value) => value.as_str(),
+        None => None,
+    }
 }
 
 /// A required member of a kind.
