@@ -1,3 +1,4 @@
+pub mod DeskLemmas
 pub mod EachLemmas
 pub mod LocationLemmas
 pub mod TreeLemmas
