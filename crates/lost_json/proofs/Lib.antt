@@ -1,2 +1,6 @@
 pub mod FloatLemmas
 pub mod ListLemmas
+pub mod DeskLemmas
+pub mod EachLemmas
+pub mod LocationLemmas
+pub mod TreeLemmas

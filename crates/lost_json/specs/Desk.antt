@@ -79,17 +79,17 @@ parts_of_members members =
       display_names = display_names;
       key = key;
     })
-      (optional as_str (codes "key") members))
-      (defaulting (list_in display_name_in) [] (codes "displayName") members))
-      (defaulting as_bool false (codes "default") members))
-      (defaulting regions_kind [] (codes "serviceBoundary") members))
-      (optional as_str (codes "serviceNumber") members))
-      (required (list_in as_str) (codes "uri") members))
-      (required as_str (codes "service") members))
-      (required as_str (codes "expires") members))
-      (required as_str (codes "lastUpdated") members))
-      (required as_str (codes "sourceId") members))
-      (required as_str (codes "source") members)
+    (optional as_str (codes "key") members))
+    (defaulting (list_in display_name_in) [] (codes "displayName") members))
+    (defaulting as_bool false (codes "default") members))
+    (defaulting regions_kind [] (codes "serviceBoundary") members))
+    (optional as_str (codes "serviceNumber") members))
+    (required (list_in as_str) (codes "uri") members))
+    (required as_str (codes "service") members))
+    (required as_str (codes "expires") members))
+    (required as_str (codes "lastUpdated") members))
+    (required as_str (codes "sourceId") members))
+    (required as_str (codes "source") members)
 
 -- an order, or the refusal of what it was made of
 abbrev pub unless_fault : Option MappingError → Order → Result Order DeskFault
@@ -112,16 +112,16 @@ withdrawal_fault source source_id last_updated =
 abbrev pub withdrawal : Text → Text → Text → Result Order DeskFault
 withdrawal source source_id last_updated =
     unless_fault (withdrawal_fault source source_id last_updated)
-      (Stage (Withdraw (record { source = lowered source; source_id = source_id }) (stamp_of last_updated)))
+    (Stage (Withdraw (record { source = lowered source; source_id = source_id }) (stamp_of last_updated)))
 
 abbrev pub withdrawal_of_members : Members → Option (Result Order DeskFault)
 withdrawal_of_members members =
     option_and_then (λ source.
     option_and_then (λ source_id.
     option_map (withdrawal source source_id)
-      (required as_str (codes "lastUpdated") members))
-      (required as_str (codes "sourceId") members))
-      (required as_str (codes "source") members)
+    (required as_str (codes "lastUpdated") members))
+    (required as_str (codes "sourceId") members))
+    (required as_str (codes "source") members)
 
 abbrev pub withdrawal_order : Members → Result Order DeskFault
 withdrawal_order members = unwrap_or (withdrawal_of_members members) (Err BadLine)

@@ -89,11 +89,11 @@ find_service_of members =
     option_and_then (λ validate.
     option_and_then (λ by_value.
     option_map (λ path. FindService service locations validate by_value path)
-      (path_in members))
-      (defaulting by_value_kind false (codes "serviceBoundary") members))
-      (defaulting as_bool false (codes "validateLocation") members))
-      (required locations_in (codes "location") members))
-      (required service_in (codes "service") members)
+    (path_in members))
+    (defaulting by_value_kind false (codes "serviceBoundary") members))
+    (defaulting as_bool false (codes "validateLocation") members))
+    (required locations_in (codes "location") members))
+    (required service_in (codes "service") members)
 
 -- listServicesByLocation (RFC 5222, section 11)
 abbrev pub services_at_of : Members → Option Request
@@ -101,9 +101,9 @@ services_at_of members =
     option_and_then (λ service.
     option_and_then (λ locations.
     option_map (λ path. ListServicesByLocation service locations path)
-      (path_in members))
-      (required locations_in (codes "location") members))
-      (optional service_in (codes "service") members)
+    (path_in members))
+    (required locations_in (codes "location") members))
+    (optional service_in (codes "service") members)
 
 -- listServices (RFC 5222, section 10)
 abbrev pub services_of : Members → Option Request

@@ -1,10 +1,21 @@
 //! Desk lines.
-ghost use Rattle.std.specs.Prelude.{◌≡◌, ◌≢◌, None, Some, Ok, IfOk, IfErr, IfSome};
-ghost use Rattle.lost_json.specs.Desk.{desk_line, desk_fault_code};
-ghost use Rattle.lost_json.specs.DeskLines.{order_of};
+ghost use Rattle.std.specs.Prelude.{◌≡◌, ◌≢◌, true, false, None, Some, Ok, Err, option_map, unwrap_or, IfOk, IfErr, IfSome, OnOk};
+ghost use Rattle.serde_json.specs.Find.{as_object};
+ghost use Rattle.serde_json.specs.View.{view, members_view};
+ghost use Rattle.lost_spec.specs.Book as book;
+ghost use Rattle.lost_spec.specs.Mapping as spec;
+ghost use Rattle.lost_spec.specs.Moment.{is_stamp, stamp_of};
+ghost use Rattle.lost_spec.specs.Text.{lowered};
+ghost use Rattle.lost_json.specs.Desk.{Stage, parts_of_members, mapping_order, withdrawal_fault, withdrawal, withdrawal_order, is_desk_name, order_named, order_of_member, order_in, desk_line, desk_fault_code};
+ghost use Rattle.lost_json.specs.DeskLines.{order_of, fault_of, GivesOrder, GivesLine};
 
+use crate::parts::read_parts;
+use crate::reading::{only_member, read_tree, text_member};
+use crate::request::ReadError;
 use lost_book::Edit;
-use lost_spec::faults::MappingError;
+use lost_mapping::{Identity, Mapping, Stamp};
+use lost_spec::faults::{MappingError, StampError};
+use serde_json::{Map, Value};
 use std::alloc::Global;
 use thiserror::Error;
 
@@ -51,5 +62,150 @@ pub fn read_desk(alloc: Global, line: &[u8]) -> Result<Option<DeskLine>, DeskFau
     ensures refused { IfErr result (λ fault.
         fault ≢ DeskFault.Mapping MappingError.Memory → desk_line line.now ≡ Some (Err fault)) }
 {
-    Err(DeskFault::Mapping(MappingError::Memory))
+    match read_tree(alloc, line) {
+        Ok(tree) => read_line(alloc, &tree),
+        Err(ReadError::BadRequest) => Ok(None),
+        Err(ReadError::Memory) => Err(DeskFault::Mapping(MappingError::Memory)),
+    }
+}
+
+impl From<ReadError> for DeskFault {
+    ghost from_gives = { λ error fault. fault ≡ fault_of error };
+
+    fn from(error: ReadError) -> DeskFault {
+        match error {
+            ReadError::BadRequest => DeskFault::BadLine,
+            ReadError::Memory => DeskFault::Mapping(MappingError::Memory),
+        }
+    }
+}
+
+/// The order of a tree: an object with exactly one member, whose name is that of a desk line.
+fn read_line(alloc: Global, tree: &Value) -> Result<Option<DeskLine>, DeskFault>
+    ensures { GivesLine result (order_in (view tree.now)) }
+{
+    match only_member(tree) {
+        Some((name, value)) => read_member(alloc, name, value),
+        None => Ok(None),
+    }
+}
+
+fn read_member(alloc: Global, name: &str, value: &Value) -> Result<Option<DeskLine>, DeskFault>
+    ensures { GivesLine result (order_of_member (name.now, view value.now)) }
+{
+    if is_desk_name(name) {
+        Ok(Some(read_order(alloc, name, value)?))
+    } else {
+        Ok(None)
+    }
+}
+
+fn is_desk_name(name: &str) -> bool
+    ensures { result ≡ is_desk_name name.now }
+{
+    "publish" == name || "replace" == name || "withdraw" == name || "commit" == name
+}
+
+/// The order of this name: a value that is no object is a bad line.
+fn read_order(alloc: Global, name: &str, value: &Value) -> Result<DeskLine, DeskFault>
+    ensures { GivesOrder result (unwrap_or (option_map (order_named name.now) (as_object (view value.now))) (Err DeskFault.BadLine)) }
+{
+    match value.as_object() {
+        Some(members) => read_named_order(alloc, name, members),
+        None => Err(DeskFault::BadLine),
+    }
+}
+
+/// The order of this name, by the members of its value.
+fn read_named_order(
+    alloc: Global,
+    name: &str,
+    members: &Map<String, Value>,
+) -> Result<DeskLine, DeskFault>
+    ensures { GivesOrder result (order_named name.now (members_view members.now.entries)) }
+{
+    if "publish" == name {
+        Ok(DeskLine::Edit(Edit::Publish(read_mapping(alloc, members)?)))
+    } else if "replace" == name {
+        Ok(DeskLine::Edit(Edit::Replace(read_mapping(alloc, members)?)))
+    } else if "withdraw" == name {
+        read_withdrawal(alloc, members)
+    } else {
+        Ok(DeskLine::Commit)
+    }
+}
+
+/// The mapping of an object, or the first refusal of its parts.
+fn read_mapping(alloc: Global, members: &Map<String, Value>) -> Result<Mapping, DeskFault>
+    ensures mapping { IfOk result (λ mapping. (edit : spec.Mapping → book.Edit)
+        → mapping_order edit (parts_of_members (members_view members.now.entries)) ≡ Ok (Stage (edit mapping))) }
+    ensures refused { IfErr result (λ fault. fault ≢ DeskFault.Mapping MappingError.Memory → (edit : spec.Mapping → book.Edit)
+        → mapping_order edit (parts_of_members (members_view members.now.entries)) ≡ Err fault) }
+{
+    let parts = read_parts(alloc, members)?;
+    match Mapping::build(alloc, parts) {
+        Ok(mapping) => Ok(mapping),
+        Err(fault) => Err(DeskFault::Mapping(fault)),
+    }
+}
+
+/// The withdrawal of an object.
+fn read_withdrawal(alloc: Global, members: &Map<String, Value>) -> Result<DeskLine, DeskFault>
+    ensures { GivesOrder result (withdrawal_order (members_view members.now.entries)) }
+{
+    let Some(source) = text_member(members, "source") else {
+        return Err(DeskFault::BadLine);
+    };
+    let Some(source_id) = text_member(members, "sourceId") else {
+        return Err(DeskFault::BadLine);
+    };
+    let Some(last_updated) = text_member(members, "lastUpdated") else {
+        return Err(DeskFault::BadLine);
+    };
+    withdraw(alloc, source, source_id, last_updated)
+}
+
+fn withdraw(
+    alloc: Global,
+    source: &str,
+    source_id: &str,
+    last_updated: &str,
+) -> Result<DeskLine, DeskFault>
+    ensures { GivesOrder result (withdrawal source.now source_id.now last_updated.now) }
+{
+    match withdrawal(alloc, source, source_id, last_updated) {
+        Ok((identity, stamp)) => Ok(DeskLine::Edit(Edit::Withdraw(identity, stamp))),
+        Err(fault) => Err(DeskFault::Mapping(fault)),
+    }
+}
+
+/// What a withdrawal names and when, or the first refusal of its texts.
+fn withdrawal(
+    alloc: Global,
+    source: &str,
+    source_id: &str,
+    last_updated: &str,
+) -> Result<(Identity, Stamp), MappingError>
+    ensures accepted { OnOk result (withdrawal_fault source.now source_id.now last_updated.now ≡ None) }
+    ensures identity { IfOk result (λ found. found.0 ≡ record { source = lowered source.now; source_id = source_id.now }) }
+    ensures stamp { IfOk result (λ found. found.1 ≡ stamp_of last_updated.now) }
+    ensures refused { IfErr result
+        (λ fault. fault ≢ MappingError.Memory → withdrawal_fault source.now source_id.now last_updated.now ≡ Some fault) }
+{
+    let identity = Identity::parse(alloc, source, source_id)?;
+    let stamp = parse_stamp(alloc, last_updated)?;
+    Ok((identity, stamp))
+}
+
+fn parse_stamp(alloc: Global, text: &str) -> Result<Stamp, MappingError>
+    ensures accepted { OnOk result (is_stamp text.now ≡ true) }
+    ensures stamp { IfOk result (λ stamp. stamp ≡ stamp_of text.now) }
+    ensures refused { IfErr result (λ fault. fault ≢ MappingError.Memory
+        → (fault ≡ MappingError.BadStamp) × (is_stamp text.now ≡ false)) }
+{
+    match Stamp::parse(alloc, text.as_bytes()) {
+        Ok(stamp) => Ok(stamp),
+        Err(StampError::Bad) => Err(MappingError::BadStamp),
+        Err(StampError::Memory) => Err(MappingError::Memory),
+    }
 }

@@ -4,8 +4,13 @@
 
 mod desk;
 mod desk_reply;
+mod kinds;
 mod line;
+mod locations;
+mod options;
+mod parts;
 mod reading;
+mod regions;
 mod request;
 mod writing;
 
