@@ -16,7 +16,7 @@ mod writing;
 
 pub use desk::{DeskFault, DeskLine, read_desk};
 pub use desk_reply::{DeskReply, DeskText, write_desk};
-pub use line::{BAD_REQUEST, INTERNAL_ERROR, reply_line};
+pub use line::{BAD_REQUEST, INTERNAL_ERROR, law_constant_lines, reply_line};
 pub use request::{ReadError, read_request};
 pub use writing::write_reply;
 

@@ -3,7 +3,9 @@
 
 mod books;
 mod laws;
+mod replay;
 mod replayer;
 mod replies;
 
+pub use replay::replay;
 pub use lost_lines::{Counts, ServeError, Turns, Watched};

@@ -2,7 +2,7 @@
 ghost use Rattle.std.specs.Prelude.{◌≡◌, ◌≢◌, ◌≤◌, true, false, IfOk, IfErr, OnOk, OnErr, IsErrOf, Err};
 ghost use Rattle.std.specs.Io.KnownBytes.{IsAtEnd};
 ghost use Rattle.lost_lines.specs.Watched.{inner_of, has_failed, has_ended, reads_of};
-ghost use Rattle.lost_server.specs.Replay.{IsReplayed, IsReplayedInPart, IsReplayedSoFar};
+ghost use Rattle.lost_server.specs.Replay.{IsReplayed, IsReplayedInPart, IsReplayedSoFar, IsReplaySpent};
 
 use crate::books::Books;
 use crate::replayer::Replayer;
@@ -51,9 +51,12 @@ pub fn replay<R: Read, W: Write>(
         (R.remaining (inner_of input.old)) (W.contents (inner_of output.old)) (W.contents (inner_of output.new))) }
     ensures read { IsErrOf result ServeError.Read → has_failed input.new ≡ true }
     ensures write { IsErrOf result ServeError.Write → has_failed output.new ≡ true }
-    ensures so_far { IfErr result (λ e. e ≢ ServeError.Memory → e ≢ ServeError.Write → IsReplayedSoFar name.now moment.now turns.lines
+    ensures so_far { IsErrOf result ServeError.Read → IsReplayedSoFar name.now moment.now turns.lines
         (R.remaining (inner_of input.old)) (R.remaining (inner_of input.new)) (W.contents (inner_of output.old))
-        (W.contents (inner_of output.new))) }
+        (W.contents (inner_of output.new)) }
+    ensures turns { IsErrOf result ServeError.TurnsSpent → IsReplaySpent name.now moment.now turns
+        (R.remaining (inner_of input.old)) (R.remaining (inner_of input.new)) (W.contents (inner_of output.old))
+        (W.contents (inner_of output.new)) (reads_of input.new) (has_ended input.new) }
     ensures unread { result ≡ Err ServeError.Memory → input.new ≡ input.old }
     ensures unwritten { result ≡ Err ServeError.Memory → output.new ≡ output.old }
     ensures reads { reads_of input.new ≤ turns.reads }

@@ -7,6 +7,7 @@ mod trouble;
 
 use std::env;
 use std::process::ExitCode;
+use std::rt::Env;
 use trouble::Trouble;
 
 fn main(rt: HostRuntime) -> ExitCode {
