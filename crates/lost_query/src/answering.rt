@@ -1,13 +1,21 @@
 //! The answer to a request.
 ghost use Rattle.std.specs.Prelude.{◌≡◌, IfOk};
-ghost use Rattle.lost_spec.specs.Answer.{answer};
+ghost use Rattle.lost_spec.specs.Answer.{answer, answer_by_kind};
 ghost use Rattle.lost_query.specs.Request.{request_of};
 ghost use Rattle.lost_query.specs.Reply.{reply_of};
+ghost use Rattle.lost_query.specs.Route.{shown_path};
 
+use crate::boundaries::get_boundary;
+use crate::find_service::{Ask, find_service};
 use crate::holdings::Holdings;
+use crate::lists::{list_anywhere, list_at};
+use crate::path::{Route, path_of};
+use crate::places::{Used, place_used};
+use crate::refusals::refusal;
 use crate::reply::Reply;
 use crate::request::Request;
 use lost_mapping::{Moment, Source};
+use lost_spec::answers::AnswerError;
 use std::alloc::{AllocError, Global};
 
 /// The answer of the server of this name to a request at an instant, over these holdings (RFC 5222, sections 6 to 13;
@@ -15,6 +23,7 @@ use std::alloc::{AllocError, Global};
 /// `locationProfileUnrecognized` where no location has a profile that is known (the first that has one is the location
 /// used); `SRSInvalid` and `locationInvalid` for the location used; and then the reply of the request's kind. A reply
 /// that is no error has the path with the name after it.
+#[tactic(auto, unfolding(lost_spec::specs::Answer::answer))]
 pub fn answer<H: Holdings>(
     alloc: Global,
     holdings: &H,
@@ -25,5 +34,69 @@ pub fn answer<H: Holdings>(
     ensures { IfOk result (λ reply.
         reply_of reply ≡ answer (H.book holdings.now) name.now moment.now (request_of request.now)) }
 {
-    Err(AllocError)
+    let route = Route {
+        name,
+        path: path_of(request),
+    };
+    if route.is_loop() {
+        return Ok(refusal(holdings, AnswerError::Loop));
+    }
+    answer_by_kind(alloc, holdings, moment, &route, request)
+}
+
+/// The answer to a request whose path does not have the server's name (RFC 5222, sections 8 to 13; order own), or want
+/// of memory.
+fn answer_by_kind<H: Holdings>(
+    alloc: Global,
+    holdings: &H,
+    moment: &Moment,
+    route: &Route<'_>,
+    request: &Request,
+) -> Result<Reply, AllocError>
+    ensures { IfOk result (λ reply. reply_of reply
+        ≡ answer_by_kind (H.book holdings.now) moment.now (shown_path route.now) (request_of request.now)) }
+{
+    match request {
+        Request::FindService {
+            service,
+            locations,
+            validate,
+            by_value,
+            ..
+        } => match place_used(alloc, locations)? {
+            Used::Refused(error) => Ok(refusal(holdings, error)),
+            Used::At(location_used, place) => {
+                let ask = Ask {
+                    service,
+                    location_used,
+                    place: &place,
+                    validate: *validate,
+                    by_value: *by_value,
+                };
+                find_service(alloc, holdings, moment, &ask, route)
+            }
+        },
+        Request::ListServicesByLocation {
+            service,
+            locations,
+            ..
+        } => match place_used(alloc, locations)? {
+            Used::Refused(error) => Ok(refusal(holdings, error)),
+            Used::At(location_used, place) => list_at(
+                alloc,
+                holdings,
+                moment,
+                route,
+                service.as_ref(),
+                location_used,
+                &place,
+            ),
+        },
+        Request::ListServices { service, .. } => {
+            list_anywhere(alloc, holdings, moment, route, service.as_ref())
+        }
+        Request::GetServiceBoundary { key, .. } => get_boundary(
+            alloc, holdings, moment, route, key,
+        ),
+    }
 }

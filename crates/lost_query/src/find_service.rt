@@ -22,6 +22,7 @@ use lost_urn::ServiceUrn;
 use std::alloc::{AllocError, Global};
 
 /// What a findService asks, at the place of the location that is used (RFC 5222, section 8.3).
+#[derive(Drop)]
 pub(crate) struct Ask<'a> {
     pub service: &'a ServiceUrn,
     pub location_used: &'a str,

@@ -28,7 +28,7 @@ pub(crate) fn list_at<H: Holdings>(
 ) -> Result<Reply, AllocError>
     ensures { IfOk result (λ reply. reply_of reply
         ≡ ListServicesByLocationResponse (H.book holdings.now).edits location_used.now (shown_path route.now)
-            (services (H.book holdings.now) moment.now (place_of place.now) (option_copied above.entry))) }
+        (services (H.book holdings.now) moment.now (place_of place.now) (option_copied above.entry))) }
 {
     Ok(Reply::ListServicesByLocationResponse {
         edition: holdings.edition(),
@@ -48,7 +48,7 @@ pub(crate) fn list_anywhere<H: Holdings>(
 ) -> Result<Reply, AllocError>
     ensures { IfOk result (λ reply. reply_of reply
         ≡ ListServicesResponse (H.book holdings.now).edits (shown_path route.now)
-            (all_services (H.book holdings.now) moment.now (option_copied above.entry))) }
+        (all_services (H.book holdings.now) moment.now (option_copied above.entry))) }
 {
     Ok(Reply::ListServicesResponse {
         edition: holdings.edition(),

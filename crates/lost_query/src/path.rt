@@ -21,6 +21,7 @@ pub(crate) fn path_of(request: &Request) -> &[String]
 }
 
 /// The way of a request: the server's name, and the names that the request came by (RFC 5222, section 6).
+#[derive(Drop)]
 pub(crate) struct Route<'a> {
     pub name: &'a Source,
     pub path: &'a [String],

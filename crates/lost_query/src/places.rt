@@ -91,10 +91,7 @@ fn point_place(lat: i64, lon: i64) -> Option<Place>
 }
 
 /// The address of these pairs, or none where they are refused (RFC 5222, section 12.3), or want of memory.
-fn address_place(
-    alloc: Global,
-    pairs: &Vec<(String, String)>,
-) -> Result<Option<Place>, AllocError>
+fn address_place(alloc: Global, pairs: &Vec<(String, String)>) -> Result<Option<Place>, AllocError>
     ensures { IfOk result (λ place. option_map seen_place place ≡ address_place (seen_pairs pairs.now.items)) }
 {
     match CivicAddress::from_pairs(alloc, copied_pairs(pairs)?) {

@@ -36,7 +36,10 @@ pub enum Reply {
         mapping: Mapping,
     },
     /// An error of the answer (RFC 5222, section 13.1).
-    Errors { edition: u64, error: AnswerError },
+    Errors {
+        edition: u64,
+        error: AnswerError,
+    },
     /// The line was no request (RFC 5222, section 13.1).
     BadRequest,
     /// Memory ran out (RFC 5222, section 13.1).

@@ -26,7 +26,10 @@ pub enum Request {
         path: Vec<String>,
     },
     /// The regions that a key names (RFC 5222, section 9).
-    GetServiceBoundary { key: String, path: Vec<String> },
+    GetServiceBoundary {
+        key: String,
+        path: Vec<String>,
+    },
 }
 
 /// A location of a request (RFC 5222, section 8.3.1).
