@@ -2,10 +2,9 @@
 #![tactic(auto)]
 
 mod books;
-mod laws;
-mod replay;
+mod replaying;
 mod replayer;
 mod replies;
 
-pub use replay::replay;
+pub use replaying::replay;
 pub use lost_lines::{Counts, ServeError, Turns, Watched};
