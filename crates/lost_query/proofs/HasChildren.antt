@@ -1,14 +1,14 @@
 -- How far the search for the children of a service has come: the last mappings of a list are done.
-use Rattle.std.proofs.Common.{◌≡◌, ℕ, zero, suc, ◌+◌, ◌-◌, ◌<◌, ◌≤◌, Bool, true, false, cond, List, map, [], ◌∷◌, ◌++◌, length, drop, filter, filter_map, Option, Some, None, unwrap_or, refl, sym, ap, subst, ◌∙◌, arith}
-use Rattle.std.specs.List.{AllByRecursion, cons_option, slice_get}
+use Rattle.std.proofs.Common.{◌≡◌, ℕ, zero, suc, ◌-◌, ◌<◌, ◌≤◌, Bool, true, false, cond, List, [], ◌∷◌, ◌++◌, length, drop, filter, filter_map, Option, Some, None, unwrap_or, refl, sym, ap, subst, ◌∙◌, arith}
+use Rattle.std.specs.List.{cons_option, slice_get}
 use Rattle.lost_spec.specs.Text.{ascending_by}
 use Rattle.lost_spec.specs.Service.{Service, service_text, child}
 use Rattle.lost_spec.specs.Moment.{Instant}
 use Rattle.lost_spec.specs.Mapping.{Mapping, is_live}
 use Rattle.lost_spec.specs.Book.{Book}
-use Rattle.lost_spec.specs.Positions.{positions_from, positions}
+use Rattle.lost_spec.specs.Positions.{positions}
 use Rattle.lost_spec.specs.Find.{Place}
-use Rattle.lost_spec.proofs.PositionLemmas.{positions_are_where_it_passes_lem}
+use Rattle.lost_query.proofs.StandingLemmas.{mappings_at, mappings_at-positions}
 use Rattle.std.proofs.lemmas.List.{nil_from_length}
 use Rattle.lost_spec.specs.Services.{children_in, is_holding, services, all_services}
 use Rattle.lost_query.specs.Children.{AreServices, with_some}
@@ -57,49 +57,6 @@ module _ (test : Mapping → Bool) (q : Option Service) (ms : List Mapping) wher
     HasChildren-fails fails =
         let failing : filter test (drop i ms) ≡ filter test (drop (i - 1) ms) = ap (λ b. cond b (m ∷ filter test (drop i ms)) (filter test (drop i ms))) (sym fails) ∙ sym front in
         subst (λ ns. HasChildren q ns old) failing before
-
--- ---- the mappings at some positions
-
--- the mappings of a list that stand at some positions
-abbrev pub mappings_at : List Mapping → List ℕ → List Mapping
-mappings_at ms positions = filter_map (slice_get ms) positions
-
--- a filter of things that are looked up first
-filter_map-map : {A B C : Type 0} (f : A → B) (h : B → Option C) (xs : List A) → filter_map (λ x. h (f x)) xs ≡ filter_map h (map f xs)
-filter_map-map f h [] = refl
-filter_map-map f h (x ∷ xs) = ap (cons_option (h (f x))) (filter_map-map f h xs)
-
-filter_map-some : {A : Type 0} (xs : List A) → filter_map (λ o. o) (map Some xs) ≡ xs
-filter_map-some [] = refl
-filter_map-some (x ∷ xs) = ap (λ rest. x ∷ rest) (filter_map-some xs)
-
--- at the positions of what passes stands what passes
-mappings_at-positions : (test : Mapping → Bool) (ms : List Mapping) → mappings_at ms (positions test ms) ≡ filter test ms
-mappings_at-positions test ms =
-    filter_map-map (slice_get ms) (λ o. o) (positions test ms) ∙ ap (filter_map (λ o. o)) (positions_are_where_it_passes_lem test ms).mappings ∙ filter_map-some (filter test ms)
-
--- no position is past the end
-positions_from-below : (test : Mapping → Bool) (n : ℕ) (ms : List Mapping) → AllByRecursion (λ i. i < n + length ms) (positions_from test n ms)
-positions_from-below test n [] = tt
-positions_from-below test n (m ∷ ms) =
-    let next : suc n + length ms ≡ n + suc (length ms) = omega arith in
-    let later = subst (λ k. AllByRecursion (λ i. i < k) (positions_from test (suc n) ms)) next (positions_from-below test (suc n) ms) in
-    elim (test m) as (λ b. AllByRecursion (λ i. i < n + suc (length ms)) (cond b (n ∷ positions_from test (suc n) ms) (positions_from test (suc n) ms))) [
-      | true ↦ (omega arith, later)
-      | false ↦ later
-    ]
-
--- what holds of each thing holds of one behind others
-at_middle : {Thing : Type 0} (P : Thing → Type 0) (front : List Thing) (x : Thing) (done : List Thing) → AllByRecursion P ((front ++ x ∷ []) ++ done) → P x
-at_middle P [] x done all = all.0
-at_middle P (y ∷ front) x done all = at_middle P front x done all.1
-
--- the next position is one of the list
-pub position-below : (test : Mapping → Bool) (ms : List Mapping) (rest front done : List ℕ) (i : ℕ) → rest ++ done ≡ positions test ms → rest ≡ front ++ i ∷ [] → i < length ms
-position-below test ms rest front done i is next =
-    let all : AllByRecursion (λ k. k < 0 + length ms) ((front ++ i ∷ []) ++ done) = subst (AllByRecursion (λ k. k < 0 + length ms)) (sym is ∙ ap (λ xs. xs ++ done) next) (positions_from-below test 0 ms) in
-    let below : i < 0 + length ms = at_middle (λ k. k < 0 + length ms) front i done all in
-    omega arith
 
 -- ---- at the end
 

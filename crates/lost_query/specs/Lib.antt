@@ -1,4 +1,5 @@
 pub mod Children
+pub mod Judged
 pub mod Place
 pub mod Request
 pub mod Reply

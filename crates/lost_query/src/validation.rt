@@ -1,14 +1,24 @@
 //! Validation of a civic address.
-ghost use Rattle.std.specs.Prelude.{◌≡◌, IfOk};
-ghost use Rattle.lost_spec.specs.Validation.{validation};
+ghost use Rattle.std.specs.Prelude.{◌≡◌, ◌++◌, not, filter, map, IfOk, OnOk};
+ghost use Rattle.lost_spec.specs.Text.{ascending_by};
+ghost use Rattle.lost_spec.specs.Validation.{unknown_names, validation};
+ghost use Rattle.lost_civic.specs.Element.{element_name, all_elements};
+ghost use Rattle.lost_query.specs.Judged.{stands_in, is_valid_element, is_contradicted, ValidatesNoOther};
 ghost use Rattle.lost_query.specs.Reply.{validation_of};
 
 use crate::holdings::Holdings;
 use crate::reply::Validation;
-use lost_civic::CivicAddress;
+use crate::validation::elements::{append, elements_of, names_of, part, unknown_names};
+use crate::validation::patterns::{
+    is_contradicted, is_named, matching_patterns, reference_patterns,
+};
+use lost_civic::{CivicAddress, CivicPattern, Element};
 use lost_mapping::{Mapping, Moment};
 use lost_urn::ServiceUrn;
 use std::alloc::{AllocError, Global};
+
+mod elements;
+mod patterns;
 
 /// How the elements of an address are judged, where these mappings of a service were found at it (RFC 5222, section
 /// 8.4.2; policy own), or want of memory.
@@ -23,5 +33,72 @@ pub(crate) fn validate<H: Holdings>(
     ensures { IfOk result (λ judged.
         validation_of judged ≡ validation (H.book holdings.now) moment.now service.now found.now address.now) }
 {
-    Err(AllocError)
+    let (valid, others) = part_valid(alloc, found, address)?;
+    let references = reference_patterns(alloc, holdings, moment, service, address, &valid)?;
+    let (invalid, unchecked) = part_invalid(alloc, &references, &others, address)?;
+    make_validation(alloc, address, &invalid, &unchecked, &valid)
+}
+
+/// The elements that are valid, and the other elements of the address, in the order of the table (RFC 5222, section
+/// 8.4.2; policy own), or want of memory.
+fn part_valid(
+    alloc: Global,
+    found: &[Mapping],
+    address: &CivicAddress,
+) -> Result<(Vec<Element>, Vec<Element>), AllocError>
+    ensures valid { IfOk result (λ parts.
+        parts.0.items ≡ filter (is_valid_element found.now address.now) (filter (stands_in address.now) all_elements)) }
+    ensures others { IfOk result (λ parts.
+        parts.1.items ≡ filter (λ e. not (is_valid_element found.now address.now e)) (filter (stands_in address.now) all_elements)) }
+
+    // A name that is of no element is not valid.
+    ensures unknown { OnOk result (ValidatesNoOther found.now address.now) }
+{
+    let elements = elements_of(alloc, address)?;
+    let matching = matching_patterns(alloc, found, address)?;
+    part(alloc, &elements, |element| is_named(&matching, *element))
+}
+
+/// The elements that are invalid, of those that are not valid, and the rest of them, in their order (RFC 5222, section
+/// 8.4.2; policy own), or want of memory.
+fn part_invalid(
+    alloc: Global,
+    references: &[&CivicPattern],
+    others: &[Element],
+    address: &CivicAddress,
+) -> Result<(Vec<Element>, Vec<Element>), AllocError>
+    ensures invalid { IfOk result (λ parts.
+        parts.0.items ≡ filter (is_contradicted (map (λ p. p.now) references.now) address.now) others.now) }
+    ensures unchecked { IfOk result (λ parts.
+        parts.1.items ≡ filter (λ e. not (is_contradicted (map (λ p. p.now) references.now) address.now e)) others.now) }
+{
+    part(
+        alloc,
+        others,
+        |element| is_contradicted(references, address, *element),
+    )
+}
+
+/// The names of elements by how they were judged, and of an address's other names, which are unchecked (own policy), or
+/// want of memory.
+fn make_validation(
+    alloc: Global,
+    address: &CivicAddress,
+    invalid: &[Element],
+    unchecked: &[Element],
+    valid: &[Element],
+) -> Result<Validation, AllocError>
+    ensures { IfOk result (λ judged. validation_of judged ≡ record {
+      invalid = map element_name invalid.now;
+      unchecked = map element_name unchecked.now ++ ascending_by (λ name. name) (unknown_names address.now);
+      valid = map element_name valid.now;
+    }) }
+{
+    let mut unchecked = names_of(alloc, unchecked)?;
+    append(&mut unchecked, unknown_names(alloc, address)?)?;
+    Ok(Validation {
+        invalid: names_of(alloc, invalid)?,
+        unchecked,
+        valid: names_of(alloc, valid)?,
+    })
 }

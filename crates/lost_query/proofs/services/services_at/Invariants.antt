@@ -5,7 +5,8 @@ use Rattle.std.specs.Slice.Iter.{iter_rest}
 use Rattle.lost_spec.specs.Positions.{positions}
 use Rattle.lost_spec.specs.Services.{is_holding}
 use Rattle.lost_query.specs.Place.{place_of}
-use Rattle.lost_query.proofs.HasChildren.{HasChildren, mappings_at}
+use Rattle.lost_query.proofs.HasChildren.{HasChildren}
+use Rattle.lost_query.proofs.StandingLemmas.{mappings_at}
 use Rattle.lost_query.proofs.services.services_at.Given as goal
 
 abbrev pub invariant-loop-position : goal.invariant-loop-position

@@ -1,0 +1,64 @@
+-- Patterns behind references, and those of a list that pass a test, a step of a loop at a time.
+use Rattle.std.proofs.Common.{◌≡◌, ℕ, ◌+◌, ◌<◌, ◌≤◌, Bool, true, false, cond, ◌||◌, List, [], ◌∷◌, ◌++◌, map, filter, take, length, get_or, find, Option, Some, None, is_some, option_map, Bor, refl, sym, ap, ◌∙◌}
+use Rattle.std.specs.List.{list_any}
+use Rattle.std.specs.Option.{option_copied}
+use Rattle.std.proofs.lemmas.List.{take_all, append_assoc, append-nil, map_push, flat_map_more}
+use Rattle.std.proofs.lemmas.List.Elements.{filter_more, filter-append}
+use Rattle.lost_spec.specs.Text.{Text, same_text, is_among}
+use Rattle.lost_spec.specs.Civic.{Pairs, names_of, value_of, comparison_text}
+use Rattle.lost_spec.specs.Mapping.{Mapping}
+use Rattle.lost_spec.specs.Validation.{patterns_in}
+
+-- ---- a name in a list of pairs
+
+-- a name has a comparison text where it stands
+pub is_some-compared : (name : Text) (pairs : Pairs) → is_some (option_map comparison_text (value_of name pairs)) ≡ is_among name (names_of pairs)
+is_some-compared name [] = refl
+is_some-compared name (pair ∷ rest) =
+    let found = find (λ (other : Text × Text). same_text name other.0) rest in
+    elim (same_text name pair.0) as (λ b. is_some (option_map comparison_text (option_map (λ (other : Text × Text). other.1) (cond b (Some pair) found))) ≡ (b || is_among name (names_of rest))) [
+      | true ↦ refl
+      | false ↦ is_some-compared name rest
+    ]
+
+pub is_some-copied : {X : Type 0} (o : Option (Bor X)) → is_some o ≡ is_some (option_copied o)
+is_some-copied None = refl
+is_some-copied (Some x) = refl
+
+-- ---- what stands behind references
+
+pub list_any-map : {X Y : Type 0} (test : Y → Bool) (f : X → Y) (xs : List X) → list_any (λ x. test (f x)) xs ≡ list_any test (map f xs)
+list_any-map test f [] = refl
+list_any-map test f (x ∷ xs) = ap (λ b. test (f x) || b) (list_any-map test f xs)
+
+-- what stands behind references, of which one more is pushed
+pub seen_push : {X : Type 0} (old new : List (Bor X)) (x : Bor X) → new ≡ old ++ x ∷ [] → map (λ (y : Bor X). y.now) new ≡ map (λ (y : Bor X). y.now) old ++ x.now ∷ []
+seen_push {X} old new x pushed = ap (map (λ (y : Bor X). y.now)) pushed ∙ map_push (λ (y : Bor X). y.now) old x
+
+-- ---- the things of a list that pass
+
+module _ {Thing : Type 0} (test : Thing → Bool) (before xs : List Thing) (i : ℕ) (x : Thing) (within : i < length xs) (at : x ≡ get_or xs i x) (old : List Thing) (so_far : old ≡ before ++ filter test (take i xs)) where
+  one_more : before ++ filter test (take (i + 1) xs) ≡ old ++ cond (test x) (x ∷ []) []
+  one_more =
+      ap (λ ys. before ++ ys) (filter_more test xs i x within) ∙ ap (λ y. before ++ (filter test (take i xs) ++ cond (test y) (y ∷ []) [])) (sym at) ∙ sym (append_assoc before (filter test (take i xs)) (cond (test x) (x ∷ []) [])) ∙ ap (λ ys. ys ++ cond (test x) (x ∷ []) []) (sym so_far)
+
+  -- one more thing passes, or fails
+  pub filter_more_passes : (new : List Thing) → test x ≡ true → new ≡ old ++ x ∷ [] → new ≡ before ++ filter test (take (i + 1) xs)
+  filter_more_passes new passes pushed = pushed ∙ sym (one_more ∙ ap (λ b. old ++ cond b (x ∷ []) []) passes)
+
+  pub filter_more_fails : test x ≡ false → old ≡ before ++ filter test (take (i + 1) xs)
+  filter_more_fails fails = sym (one_more ∙ ap (λ b. old ++ cond b (x ∷ []) []) fails ∙ append-nil old)
+
+-- all things were tested
+pub filter_all : {Thing : Type 0} (test : Thing → Bool) (before xs ys : List Thing) (i : ℕ) (old : List Thing) → length xs ≤ i → xs ≡ ys → old ≡ before ++ filter test (take i xs) → old ≡ before ++ filter test ys
+filter_all test before xs ys i old past same so_far = so_far ∙ ap (λ zs. before ++ filter test zs) (take_all i xs past ∙ same)
+
+-- ---- the patterns of a list of mappings
+
+patterns_in_push : (ms : List Mapping) (m : Mapping) → patterns_in (ms ++ m ∷ []) ≡ patterns_in ms ++ m.patterns
+patterns_in_push ms m = sym (flat_map_more (λ (n : Mapping). n.patterns) [] ms m)
+
+-- the patterns that pass, of one more mapping
+pub patterns_in_more : (test : Pairs → Bool) (ms : List Mapping) (m : Mapping) (old new : List Pairs) → old ≡ filter test (patterns_in ms) → new ≡ old ++ filter test m.patterns → new ≡ filter test (patterns_in (ms ++ m ∷ []))
+patterns_in_more test ms m old new so_far added =
+    added ∙ ap (λ ps. ps ++ filter test m.patterns) so_far ∙ sym (ap (filter test) (patterns_in_push ms m) ∙ filter-append test (patterns_in ms) m.patterns)

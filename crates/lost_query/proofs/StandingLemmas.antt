@@ -1,0 +1,70 @@
+-- The mappings at some positions of a list.
+use Rattle.std.proofs.Common.{◌≡◌, ℕ, zero, suc, ◌+◌, ◌<◌, ◌≤◌, Bool, true, false, cond, List, map, [], ◌∷◌, ◌++◌, length, take, get_or, filter, filter_map, Option, Some, refl, sym, ap, subst, ◌∙◌, arith}
+use Rattle.std.specs.List.{AllByRecursion, cons_option, slice_get}
+use Rattle.std.proofs.lemmas.List.{take_all, take_more}
+use Rattle.std.proofs.lemmas.List.Elements.{filter_map-append}
+use Rattle.lost_spec.specs.Mapping.{Mapping}
+use Rattle.lost_spec.specs.Positions.{positions_from, positions}
+use Rattle.lost_spec.proofs.PositionLemmas.{positions_are_where_it_passes_lem}
+
+-- the mappings of a list that stand at some positions
+abbrev pub mappings_at : List Mapping → List ℕ → List Mapping
+mappings_at ms positions = filter_map (slice_get ms) positions
+
+-- a filter of things that are looked up first
+filter_map-map : {A B C : Type 0} (f : A → B) (h : B → Option C) (xs : List A) → filter_map (λ x. h (f x)) xs ≡ filter_map h (map f xs)
+filter_map-map f h [] = refl
+filter_map-map f h (x ∷ xs) = ap (cons_option (h (f x))) (filter_map-map f h xs)
+
+filter_map-some : {A : Type 0} (xs : List A) → filter_map (λ o. o) (map Some xs) ≡ xs
+filter_map-some [] = refl
+filter_map-some (x ∷ xs) = ap (λ rest. x ∷ rest) (filter_map-some xs)
+
+-- at the positions of what passes stands what passes
+pub mappings_at-positions : (test : Mapping → Bool) (ms : List Mapping) → mappings_at ms (positions test ms) ≡ filter test ms
+mappings_at-positions test ms =
+    filter_map-map (slice_get ms) (λ o. o) (positions test ms) ∙ ap (filter_map (λ o. o)) (positions_are_where_it_passes_lem test ms).mappings ∙ filter_map-some (filter test ms)
+
+-- no position is past the end
+positions_from-below : (test : Mapping → Bool) (n : ℕ) (ms : List Mapping) → AllByRecursion (λ i. i < n + length ms) (positions_from test n ms)
+positions_from-below test n [] = tt
+positions_from-below test n (m ∷ ms) =
+    let next : suc n + length ms ≡ n + suc (length ms) = omega arith in
+    let later = subst (λ k. AllByRecursion (λ i. i < k) (positions_from test (suc n) ms)) next (positions_from-below test (suc n) ms) in
+    elim (test m) as (λ b. AllByRecursion (λ i. i < n + suc (length ms)) (cond b (n ∷ positions_from test (suc n) ms) (positions_from test (suc n) ms))) [
+      | true ↦ (omega arith, later)
+      | false ↦ later
+    ]
+
+-- what holds of each thing holds of one behind others
+at_middle : {Thing : Type 0} (P : Thing → Type 0) (front : List Thing) (x : Thing) (done : List Thing) → AllByRecursion P ((front ++ x ∷ []) ++ done) → P x
+at_middle P [] x done all = all.0
+at_middle P (y ∷ front) x done all = at_middle P front x done all.1
+
+at_index : {Thing : Type 0} (P : Thing → Type 0) (xs : List Thing) (i : ℕ) (d : Thing) → i < length xs → AllByRecursion P xs → P (get_or xs i d)
+at_index P [] i d within all = absurd (omega arith)
+at_index P (x ∷ xs) zero d within all = all.0
+at_index P (x ∷ xs) (suc i) d within all = at_index P xs i d (omega arith) all.1
+
+-- the next position is one of the list
+pub position-below : (test : Mapping → Bool) (ms : List Mapping) (rest front done : List ℕ) (i : ℕ) → rest ++ done ≡ positions test ms → rest ≡ front ++ i ∷ [] → i < length ms
+position-below test ms rest front done i is next =
+    let all : AllByRecursion (λ k. k < 0 + length ms) ((front ++ i ∷ []) ++ done) = subst (AllByRecursion (λ k. k < 0 + length ms)) (sym is ∙ ap (λ xs. xs ++ done) next) (positions_from-below test 0 ms) in
+    let below : i < 0 + length ms = at_middle (λ k. k < 0 + length ms) front i done all in
+    omega arith
+
+-- nor is one that is read by its index
+pub get_or-below : (test : Mapping → Bool) (ms : List Mapping) (ps : List ℕ) (i : ℕ) → ps ≡ positions test ms → i < length ps → get_or ps i 0 < length ms
+get_or-below test ms ps i is within =
+    let all : AllByRecursion (λ k. k < 0 + length ms) ps = subst (AllByRecursion (λ k. k < 0 + length ms)) (sym is) (positions_from-below test 0 ms) in
+    let below : get_or ps i 0 < 0 + length ms = at_index (λ k. k < 0 + length ms) ps i 0 within all in
+    omega arith
+
+-- one more position
+pub mappings_at_more : (ms : List Mapping) (ps : List ℕ) (i : ℕ) (m : Mapping) → i < length ps → slice_get ms (get_or ps i 0) ≡ Some m → mappings_at ms (take (i + 1) ps) ≡ mappings_at ms (take i ps) ++ m ∷ []
+mappings_at_more ms ps i m within is =
+    ap (mappings_at ms) (take_more ps i 0 within) ∙ filter_map-append (slice_get ms) (take i ps) (get_or ps i 0 ∷ []) ∙ ap (λ o. mappings_at ms (take i ps) ++ cons_option o []) is
+
+-- and all of them
+pub mappings_at_all : (test : Mapping → Bool) (ms : List Mapping) (ps : List ℕ) (i : ℕ) → ps ≡ positions test ms → length ps ≤ i → mappings_at ms (take i ps) ≡ filter test ms
+mappings_at_all test ms ps i is past = ap (mappings_at ms) (take_all i ps past ∙ is) ∙ mappings_at-positions test ms

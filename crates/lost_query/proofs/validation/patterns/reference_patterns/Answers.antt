@@ -1,0 +1,34 @@
+use Rattle.std.proofs.Common.{◌∙◌, Bor, map, take, filter, sym, ap, rules, tests}
+use Rattle.lost_spec.specs.Civic.{Pairs}
+use Rattle.lost_spec.specs.Find.{serves}
+use Rattle.lost_spec.specs.Mapping.{Mapping}
+use Rattle.lost_spec.specs.Validation.{patterns_in}
+use Rattle.lost_query.specs.Judged.{is_reference}
+use Rattle.lost_query.proofs.PatternLemmas.{patterns_in_more}
+use Rattle.lost_query.proofs.StandingLemmas.{mappings_at, get_or-below, mappings_at_more, mappings_at_all}
+use Rattle.lost_query.proofs.validation.patterns.reference_patterns.Goals as goal
+
+pub mapping-requires : goal.mapping-requires
+mapping-requires g c =
+    let serving = λ (m : Mapping). serves m c.args.moment.now c.args.service.now in
+    get_or-below serving (g.H.Holdings.book c.args.holdings.now).mappings c.deref-position-items.result.now c.loop-position.position-index (c.deref-position-items.ensures.value ∙ c.in_ok-positions.ensures) c.loop-position-test.true
+
+pub loop-position-preserved : goal.loop-position-preserved
+loop-position-preserved g c =
+    let seen = map (λ (p : Bor Pairs). p.now) in
+    let ms = (g.H.Holdings.book c.args.holdings.now).mappings in
+    let ps = c.deref-position-items.result.now in
+    let i = c.loop-position.position-index in
+    let m = c.mapping.result.now in
+    let test = is_reference c.args.valid.now c.args.address.now in
+    let added = c.in_ok-add_patterns.ensures.added test (λ p r k. search (rules, tests)) in
+    patterns_in_more test (mappings_at ms (take i ps)) m (seen c.loop-position.patterns.items) (seen c.add_patterns.new.patterns.items) c.loop-position.invariant added
+    ∙ sym (ap (λ ns. filter test (patterns_in ns)) (mappings_at_more ms ps i m c.loop-position-test.true c.mapping.ensures))
+
+pub returns : goal.returns
+returns g c =
+    let serving = λ (m : Mapping). serves m c.args.moment.now c.args.service.now in
+    let ms = (g.H.Holdings.book c.args.holdings.now).mappings in
+    let ps = c.deref-position-items.result.now in
+    let all = mappings_at_all serving ms ps c.loop-position.position-index (c.deref-position-items.ensures.value ∙ c.in_ok-positions.ensures) c.loop-position-test.false in
+    c.loop-position.invariant ∙ ap (λ ns. filter (is_reference c.args.valid.now c.args.address.now) (patterns_in ns)) all

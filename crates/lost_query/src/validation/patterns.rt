@@ -1,0 +1,132 @@
+//! What patterns say of the elements of an address.
+ghost use Rattle.std.specs.Prelude.{◌≡◌, ◌++◌, None, Bool, IfOk, OnOk, filter, map};
+ghost use Rattle.std.specs.List.{AllByRecursion};
+ghost use Rattle.std.specs.Fn.{FnReturnsAt};
+ghost use Rattle.lost_spec.specs.Civic.{Pairs, pattern_fault, matches};
+ghost use Rattle.lost_spec.specs.Validation.{names_it, agrees, patterns_in, of_service};
+ghost use Rattle.lost_civic.specs.Element.{element_name};
+ghost use Rattle.lost_query.specs.Judged.{is_named, is_agreed, is_contradicted, is_reference};
+
+use crate::holdings::Holdings;
+use lost_civic::{CivicAddress, CivicPattern, Element};
+use lost_mapping::{Mapping, Moment};
+use lost_urn::ServiceUrn;
+use std::alloc::{AllocError, Global};
+
+/// Whether a pattern names an element.
+fn names_it(pattern: &CivicPattern, element: Element) -> bool
+    ensures { result ≡ names_it (element_name element) pattern.now }
+{
+    pattern.text(element).is_some()
+}
+
+/// Whether a pattern names an element with the address's comparison text.
+fn agrees(pattern: &CivicPattern, address: &CivicAddress, element: Element) -> bool
+    ensures { result ≡ agrees address.now (element_name element) pattern.now }
+{
+    match (pattern.text(element), address.text(element)) {
+        (Some(own), Some(given)) => own == given,
+        _ => false,
+    }
+}
+
+/// Whether some pattern names an element.
+pub(super) fn is_named(patterns: &[&CivicPattern], element: Element) -> bool
+    ensures { result ≡ is_named (map (λ p. p.now) patterns.now) element }
+{
+    patterns.iter().any(|pattern| names_it(pattern, element))
+}
+
+/// Whether some pattern names an element with the address's comparison text.
+fn is_agreed(patterns: &[&CivicPattern], address: &CivicAddress, element: Element) -> bool
+    ensures { result ≡ is_agreed (map (λ p. p.now) patterns.now) address.now element }
+{
+    patterns
+        .iter()
+        .any(|pattern| agrees(pattern, address, element))
+}
+
+/// Whether some reference pattern names an element, and none with the address's comparison text (own policy).
+pub(super) fn is_contradicted(
+    references: &[&CivicPattern],
+    address: &CivicAddress,
+    element: Element,
+) -> bool
+    ensures { result ≡ is_contradicted (map (λ p. p.now) references.now) address.now element }
+{
+    is_named(references, element) && !is_agreed(references, address, element)
+}
+
+/// Whether a pattern names each of these elements with the address's comparison text (own policy).
+fn is_reference(pattern: &CivicPattern, address: &CivicAddress, valid: &[Element]) -> bool
+    ensures { result ≡ is_reference valid.now address.now pattern.now }
+{
+    valid
+        .iter()
+        .all(|element| agrees(pattern, address, *element))
+}
+
+/// Puts the patterns of a mapping that pass a test behind others, or gives want of memory.
+fn add_patterns<'a, F: Fn(&CivicPattern) -> bool>(
+    patterns: &mut Vec<&'a CivicPattern>,
+    mapping: &'a Mapping,
+    passes: F,
+) -> Result<(), AllocError>
+    requires { F.IsAlwaysCallable passes }
+    ensures added { (test : Pairs → Bool) → ((p : Pairs) (r : Bool) → FnReturnsAt F.Fn passes p r → r ≡ test p)
+        → OnOk result (map (λ p. p.now) patterns.new.items ≡ map (λ p. p.now) patterns.old.items ++ filter test mapping.now.patterns) }
+    ensures lawful { OnOk result (AllByRecursion (λ p. pattern_fault p ≡ None) (map (λ p. p.now) patterns.old.items)
+        → AllByRecursion (λ p. pattern_fault p ≡ None) (map (λ p. p.now) patterns.new.items)) }
+{
+    for pattern in mapping.patterns() {
+        // Shows to the proof that the pattern names only known elements.
+        let _pairs = pattern.pairs();
+        if passes(pattern) {
+            patterns.push(pattern)?;
+        }
+    }
+    Ok(())
+}
+
+/// The patterns of found mappings that match an address (RFC 5222, section 8.4.2), or want of memory.
+pub(super) fn matching_patterns<'a>(
+    alloc: Global,
+    found: &'a [Mapping],
+    address: &CivicAddress,
+) -> Result<Vec<&'a CivicPattern>, AllocError>
+    ensures matching { IfOk result (λ patterns.
+        map (λ p. p.now) patterns.items ≡ filter (λ p. matches p address.now) (patterns_in found.now)) }
+    ensures lawful { IfOk result (λ patterns. AllByRecursion (λ p. pattern_fault p ≡ None) (map (λ p. p.now) patterns.items)) }
+{
+    let mut patterns = Vec::new(alloc);
+    for mapping in found {
+        add_patterns(&mut patterns, mapping, |pattern| pattern.matches(address))?;
+    }
+    Ok(patterns)
+}
+
+/// The patterns of the live mappings of a service, defaults too, that name each valid element with the address's
+/// comparison text (own policy), or want of memory.
+pub(super) fn reference_patterns<'a, H: Holdings>(
+    alloc: Global,
+    holdings: &'a H,
+    moment: &Moment,
+    service: &ServiceUrn,
+    address: &CivicAddress,
+    valid: &[Element],
+) -> Result<Vec<&'a CivicPattern>, AllocError>
+    ensures { IfOk result (λ patterns.
+        map (λ p. p.now) patterns.items
+        ≡ filter (is_reference valid.now address.now) (patterns_in (of_service (H.book holdings.now) moment.now service.now))) }
+{
+    let positions = holdings.of_service(moment, service)?;
+    let mut patterns = Vec::new(alloc);
+    for position in &positions {
+        add_patterns(
+            &mut patterns,
+            holdings.mapping(*position),
+            |pattern| is_reference(pattern, address, valid),
+        )?;
+    }
+    Ok(patterns)
+}
