@@ -1,1 +1,5 @@
 //! Answers over the plain book.
+mod asks;
+mod made;
+mod orders;
+mod rows;
