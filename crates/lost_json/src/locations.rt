@@ -138,11 +138,7 @@ fn names_known_system(value: &Value) -> bool
 }
 
 /// The content of a location. That of another profile is not looked at.
-fn read_body(
-    alloc: Global,
-    profile: &str,
-    members: &Map<String, Value>,
-) -> Result<Body, ReadError>
+fn read_body(alloc: Global, profile: &str, members: &Map<String, Value>) -> Result<Body, ReadError>
     ensures { Gives body_of result (Some (body_in profile.now (members_view members.now.entries))) }
 {
     if profile == GEODETIC {

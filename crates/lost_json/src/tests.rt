@@ -1,1 +1,4 @@
-//! Lines and trees.
+//! Lines that are read, and lines that are not.
+mod desk_lines;
+mod request_lines;
+mod shown;

@@ -1,8 +1,7 @@
-use Rattle.std.proofs.Common.{◌≡◌, [], ◌∷◌, ◌++◌, map, sym, ap, ◌∙◌}
+use Rattle.std.proofs.Common.{◌≡◌, [], ◌∷◌, ◌++◌, sym, ap, ◌∙◌}
 use Rattle.std.proofs.lemmas.Result.{err_from_is_err_and}
 use Rattle.std.proofs.lemmas.List.{map-append}
-use Rattle.serde_json.specs.View.{view, items_view}
-use Rattle.lost_json.specs.Members.{each_of}
+use Rattle.serde_json.specs.View.{view}
 use Rattle.lost_json.proofs.EachLemmas.{Refuses-whole, each_of-more, each_of-None}
 use Rattle.lost_json.proofs.kinds.read_each.Goals as goal
 
