@@ -38,7 +38,10 @@ fn add(gathered: &mut Vec<u8>, text: &[u8]) -> bool
 }
 
 /// Sends what is gathered, and flushes the output.
-pub(crate) fn settle<W: Write>(gathered: &mut Vec<u8>, output: &mut Watched<W>) -> Result<(), ServeError>
+pub(crate) fn settle<W: Write>(
+    gathered: &mut Vec<u8>,
+    output: &mut Watched<W>,
+) -> Result<(), ServeError>
     ensures ok { OnOk result (Appends (W.contents (inner_of output.old)) (W.contents (inner_of output.new)) gathered.old.items) }
     ensures empty { OnOk result (gathered.new.items ≡ []) }
     ensures err { OnErr result (AppendsFront (W.contents (inner_of output.old)) (W.contents (inner_of output.new)) gathered.old.items) }
