@@ -38,10 +38,16 @@ fn failing_flush(alloc: Global, failing: u64) -> Result<Outcome, AllocError> {
 
 #[test]
 fn a_failed_read_ends_the_stream(rt: HostRuntime) -> Result<(), Fail> {
-    let texts: [&[u8]; 7] = [b"", b"", b"", b"2\n", b"2\n", b"2\n1\n", b"2\n1\n"];
-    let mut failing = 0;
-    for text in texts {
-        failing += 1;
+    let rows: [(u64, &[u8]); 7] = [
+        (1, b""),
+        (2, b""),
+        (3, b""),
+        (4, b"2\n"),
+        (5, b"2\n"),
+        (6, b"2\n1\n"),
+        (7, b"2\n1\n"),
+    ];
+    for (failing, text) in rows {
         let outcome = failing_read(rt.alloc(), failing, io::ErrorKind::ConnectionReset)?;
         assert_fault(&rt, &outcome, ServeError::Read, text);
         assert_eq!(rt; outcome.reads, failing);
@@ -61,10 +67,8 @@ fn an_interrupted_read_fails(rt: HostRuntime) -> Result<(), Fail> {
 #[test]
 fn a_failed_write_ends_the_stream(rt: HostRuntime) -> Result<(), Fail> {
     for takes_none in [false, true] {
-        let texts: [&[u8]; 3] = [b"", b"2\n", b"2\n1\n"];
-        let mut failing = 0;
-        for text in texts {
-            failing += 1;
+        let rows: [(u64, &[u8]); 3] = [(1, b""), (2, b"2\n"), (3, b"2\n1\n")];
+        for (failing, text) in rows {
             let outcome = failing_write(rt.alloc(), failing, takes_none)?;
             assert_eq!(rt; outcome.result, Err(ServeError::Write));
             assert_eq!(rt; outcome.text.as_slice(), text);
@@ -78,10 +82,16 @@ fn a_failed_write_ends_the_stream(rt: HostRuntime) -> Result<(), Fail> {
 
 #[test]
 fn a_failed_flush_ends_the_stream(rt: HostRuntime) -> Result<(), Fail> {
-    let texts: [&[u8]; 7] = [b"", b"", b"2\n", b"2\n", b"2\n1\n", b"2\n1\n", b"2\n1\n1\n"];
-    let mut failing = 0;
-    for text in texts {
-        failing += 1;
+    let rows: [(u64, &[u8]); 7] = [
+        (1, b""),
+        (2, b""),
+        (3, b"2\n"),
+        (4, b"2\n"),
+        (5, b"2\n1\n"),
+        (6, b"2\n1\n"),
+        (7, b"2\n1\n1\n"),
+    ];
+    for (failing, text) in rows {
         let outcome = failing_flush(rt.alloc(), failing)?;
         assert_eq!(rt; outcome.result, Err(ServeError::Write));
         assert_eq!(rt; outcome.text.as_slice(), text);
