@@ -20,7 +20,7 @@ with_byte-append b (l ∷ ls) last g e = refl
 
 cut-cons : (b : ℕ) (x g : Text) (t : Bool) → (b == newline) ≡ t → cut (x ++ g) ≡ With g (cut x)
     → cond t ([] ∷ ended_lines (x ++ g), last_piece (x ++ g)) (with_byte b (ended_lines (x ++ g)) (last_piece (x ++ g)))
-      ≡ With g (cond t ([] ∷ ended_lines x, last_piece x) (with_byte b (ended_lines x) (last_piece x)))
+    ≡ With g (cond t ([] ∷ ended_lines x, last_piece x) (with_byte b (ended_lines x) (last_piece x)))
 cut-cons b x g true e h = let f : List Text × Text → List Text × Text = λ p. ([] ∷ p.0, p.1) in ap f h
 cut-cons b x g false e h = let f : List Text × Text → List Text × Text = λ p. with_byte b p.0 p.1 in ap f h ∙ with_byte-append b (ended_lines x) (last_piece x) g e
 

@@ -20,7 +20,7 @@ pub Writes-more : (a b c : Option Text) (bytes rest : Text) (count : ℕ) → Wr
 Writes-more a b c bytes rest count w more = record {
   front = w.front ++ take count rest;
   splits = w.splits ∙ ap (λ l. w.front ++ l) (sym (take-append-drop count rest)) ∙ sym (append_assoc w.front (take count rest) (drop count rest));
-  appended = Appends-trans a b c w.front (take count rest) w.appended more
+  appended = Appends-trans a b c w.front (take count rest) w.appended more;
 }
 
 -- nothing is left
@@ -36,7 +36,7 @@ pub Sends-from_writes : (a b c : Option Text) (gathered left text : Text) → Ap
 Sends-from_writes a b c gathered left text first none second = record {
   sent = gathered ++ text;
   appended = Appends-trans a b c gathered text first second;
-  whole = sym (ap (λ l. (gathered ++ text) ++ l) none ∙ append-nil (gathered ++ text))
+  whole = sym (ap (λ l. (gathered ++ text) ++ l) none ∙ append-nil (gathered ++ text));
 }
 
 -- a front of what is gathered was written

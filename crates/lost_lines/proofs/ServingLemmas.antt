@@ -19,7 +19,7 @@ Sends-append : (a b c : Option Text) (ag bg cg : Text) (s t : Text) → Sends a 
 Sends-append a b c ag bg cg s t first second = record {
   sent = first.sent ++ second.sent;
   appended = Appends-trans a b c first.sent second.sent first.appended second.appended;
-  whole = sym (append_assoc ag s t) ∙ ap (λ l. l ++ t) first.whole ∙ append_assoc first.sent bg t ∙ ap (λ l. first.sent ++ l) second.whole ∙ sym (append_assoc first.sent second.sent cg)
+  whole = sym (append_assoc ag s t) ∙ ap (λ l. l ++ t) first.whole ∙ append_assoc first.sent bg t ∙ ap (λ l. first.sent ++ l) second.whole ∙ sym (append_assoc first.sent second.sent cg);
 }
 
 AppendsFront-append : (a b c : Option Text) (ag bg : Text) (s t : Text) → Sends a ag b bg s → AppendsFront b c (bg ++ t) → AppendsFront a c (ag ++ (s ++ t))
@@ -35,7 +35,7 @@ Adds-append a b c ls ms rs ss first second = record {
   lines_answered = let p = first.lines_answered in let q = second.lines_answered in omega (arith, length-append ls ms);
   long_lines = let p = first.long_lines in let q = second.long_lines in omega (arith, long_count-append ls ms);
   memory = let p = first.memory in let q = second.memory in omega (arith, memory_count-append rs ss);
-  faults = second.faults ∙ first.faults
+  faults = second.faults ∙ first.faults;
 }
 
 Adds-one : (a b : Counts) (line : Text) (reply : Reply) (is_long is_memory : Bool) → is_long ≡ is_line_long line → is_memory ≡ reply.is_memory → Counted a b is_long is_memory → Adds a b (line ∷ []) (reply ∷ [])
@@ -43,7 +43,7 @@ Adds-one a b line reply is_long is_memory long unread counted = record {
   lines_answered = counted.lines;
   long_lines = counted.long_lines ∙ ap (λ t. a.long_lines + cond t 1 0) long ∙ ap (λ n. a.long_lines + n) (sym (zero-add (cond (is_line_long line) 1 0)));
   memory = counted.memory ∙ ap (λ t. a.memory + cond t 1 0) unread ∙ ap (λ n. a.memory + n) (sym (zero-add (cond (reply.is_memory) 1 0)));
-  faults = counted.faults
+  faults = counted.faults;
 }
 
 module _ {State : Type 0} (step : State → Cut → Reply → State → Type 0) where
@@ -52,38 +52,38 @@ module _ {State : Type 0} (step : State → Cut → Reply → State → Type 0) 
     replies = first.replies ++ second.replies;
     run = Run-append step a.answerer b.answerer c.answerer ls ms first.replies second.replies first.run second.run;
     sending = rw text_of-append (Sends-append a.contents b.contents c.contents (gathered_of a.server) (gathered_of b.server) (gathered_of c.server) (text_of first.replies) (text_of second.replies) first.sending second.sending);
-    counted = Adds-append (server_counts a.server) (server_counts b.server) (server_counts c.server) ls ms first.replies second.replies first.counted second.counted
+    counted = Adds-append (server_counts a.server) (server_counts b.server) (server_counts c.server) ls ms first.replies second.replies first.counted second.counted;
   }
 
   pub Breaks-after : (a b c : Point State) (ls ms : List Text) → Serves step a b ls → Breaks step b c ms → Breaks step a c (ls ++ ms)
   Breaks-after a b c ls ms first second = record {
     replies = first.replies ++ second.replies;
     run = Run-append step a.answerer b.answerer c.answerer ls ms first.replies second.replies first.run second.run;
-    written = rw text_of-append (AppendsFront-append a.contents b.contents c.contents (gathered_of a.server) (gathered_of b.server) (text_of first.replies) (text_of second.replies) first.sending second.written)
+    written = rw text_of-append (AppendsFront-append a.contents b.contents c.contents (gathered_of a.server) (gathered_of b.server) (text_of first.replies) (text_of second.replies) first.sending second.written);
   }
 
   -- further bytes are taken
   pub Moves-append : (a b c : Point State) (piece f g : Text) → Moves step a b piece f → Advances step b c g → Moves step a c piece (f ++ g)
   Moves-append a b c piece f g m second =
-    let n = second m.rest m.held in
-    record {
-      lines = m.lines ++ n.lines;
-      rest = n.rest;
-      cuts = rw (← append_assoc piece f g) (cut-join (piece ++ f) g m.lines n.lines m.rest n.rest m.cuts n.cuts);
-      held = n.held;
-      serves = Serves-append a b c m.lines n.lines m.serves n.serves
-    }
+      let n = second m.rest m.held in
+      record {
+        lines = m.lines ++ n.lines;
+        rest = n.rest;
+        cuts = rw (← append_assoc piece f g) (cut-join (piece ++ f) g m.lines n.lines m.rest n.rest m.cuts n.cuts);
+        held = n.held;
+        serves = Serves-append a b c m.lines n.lines m.serves n.serves;
+      }
 
   -- a fault comes among further bytes
   pub Stops-after : (a b c : Point State) (piece f g : Text) → Moves step a b piece f → Fails step b c g → Stops step a c piece (f ++ g)
   Stops-after a b c piece f g m second =
-    let n = second m.rest m.held in
-    record {
-      lines = m.lines ++ n.lines;
-      others = n.others;
-      begins = rw (← append_assoc piece f g) (ended_lines-append (piece ++ f) g m.lines m.rest m.cuts ∙ ap (λ l. m.lines ++ l) n.begins ∙ sym (append_assoc m.lines n.lines n.others));
-      breaks = Breaks-after a b c m.lines n.lines m.serves n.breaks
-    }
+      let n = second m.rest m.held in
+      record {
+        lines = m.lines ++ n.lines;
+        others = n.others;
+        begins = rw (← append_assoc piece f g) (ended_lines-append (piece ++ f) g m.lines m.rest m.cuts ∙ ap (λ l. m.lines ++ l) n.begins ∙ sym (append_assoc m.lines n.lines n.others));
+        breaks = Breaks-after a b c m.lines n.lines m.serves n.breaks;
+      }
 
   pub Advances-append : (a b c : Point State) (f g : Text) → Advances step a b f → Advances step b c g → Advances step a c (f ++ g)
   Advances-append a b c f g first second piece held = Moves-append a b c piece f g (first piece held) second
@@ -94,14 +94,14 @@ module _ {State : Type 0} (step : State → Cut → Reply → State → Type 0) 
   -- a fault among bytes is one among more bytes
   pub Fails-more : (a b : Point State) (f g : Text) → Fails step a b f → Fails step a b (f ++ g)
   Fails-more a b f g h piece held =
-    let s = h piece held in
-    let e = ended_lines-append (piece ++ f) g (ended_lines (piece ++ f)) (cut (piece ++ f)).1 refl in
-    record {
-      lines = s.lines;
-      others = s.others ++ ended_lines ((cut (piece ++ f)).1 ++ g);
-      begins = rw (← append_assoc piece f g) (e ∙ ap (λ l. l ++ ended_lines ((cut (piece ++ f)).1 ++ g)) s.begins ∙ append_assoc s.lines s.others (ended_lines ((cut (piece ++ f)).1 ++ g)));
-      breaks = s.breaks
-    }
+      let s = h piece held in
+      let e = ended_lines-append (piece ++ f) g (ended_lines (piece ++ f)) (cut (piece ++ f)).1 refl in
+      record {
+        lines = s.lines;
+        others = s.others ++ ended_lines ((cut (piece ++ f)).1 ++ g);
+        begins = rw (← append_assoc piece f g) (e ∙ ap (λ l. l ++ ended_lines ((cut (piece ++ f)).1 ++ g)) s.begins ∙ append_assoc s.lines s.others (ended_lines ((cut (piece ++ f)).1 ++ g)));
+        breaks = s.breaks;
+      }
 
   -- the line is answered and counted, and the reply gathered
   pub Serves-line : (a b : Point State) (line : Text) (reply : Reply) (text : Text) → text ≡ reply.text → Answers step a.answerer line reply b.answerer → (is_long is_memory : Bool) → is_long ≡ is_line_long line → is_memory ≡ reply.is_memory
@@ -110,7 +110,7 @@ module _ {State : Type 0} (step : State → Cut → Reply → State → Type 0) 
     replies = reply ∷ [];
     run = Run-one step a.answerer b.answerer line reply answers;
     sending = rw append-nil (rw (← same) sends);
-    counted = Adds-one (server_counts a.server) (server_counts b.server) line reply is_long is_memory long unread counted
+    counted = Adds-one (server_counts a.server) (server_counts b.server) line reply is_long is_memory long unread counted;
   }
 
   pub Breaks-line : (a b : Point State) (line : Text) (reply : Reply) (text : Text) → text ≡ reply.text → Answers step a.answerer line reply b.answerer
@@ -118,7 +118,7 @@ module _ {State : Type 0} (step : State → Cut → Reply → State → Type 0) 
   Breaks-line a b line reply text same answers written = record {
     replies = reply ∷ [];
     run = Run-one step a.answerer b.answerer line reply answers;
-    written = rw append-nil (rw (← same) written)
+    written = rw append-nil (rw (← same) written);
   }
 
 Adds-none : (a b : Counts) → b ≡ a → Adds a b [] []
@@ -126,7 +126,7 @@ Adds-none a b same = record {
   lines_answered = ap (λ (c : Counts). c.lines) same ∙ sym (add-zero a.lines);
   long_lines = ap (λ (c : Counts). c.long_lines) same ∙ sym (add-zero a.long_lines);
   memory = ap (λ (c : Counts). c.memory) same ∙ sym (add-zero a.memory);
-  faults = ap (λ (c : Counts). c.faults) same
+  faults = ap (λ (c : Counts). c.faults) same;
 }
 
 module _ {State : Type 0} (step : State → Cut → Reply → State → Type 0) where
@@ -138,9 +138,9 @@ module _ {State : Type 0} (step : State → Cut → Reply → State → Type 0) 
     sending = record {
       sent = [];
       appended = rw contents (Appends-nil a.contents);
-      whole = append-nil (gathered_of a.server) ∙ sym gathered
+      whole = append-nil (gathered_of a.server) ∙ sym gathered;
     };
-    counted = Adds-none (server_counts a.server) (server_counts b.server) counts
+    counted = Adds-none (server_counts a.server) (server_counts b.server) counts;
   }
 
   -- what is gathered was sent
@@ -151,9 +151,9 @@ module _ {State : Type 0} (step : State → Cut → Reply → State → Type 0) 
     sending = record {
       sent = gathered_of a.server;
       appended = appended;
-      whole = ap (λ l. gathered_of a.server ++ l) (sym empty)
+      whole = ap (λ l. gathered_of a.server ++ l) (sym empty);
     };
-    counted = Adds-none (server_counts a.server) (server_counts b.server) counts
+    counted = Adds-none (server_counts a.server) (server_counts b.server) counts;
   }
 
   -- a front of what is gathered was sent
@@ -161,7 +161,7 @@ module _ {State : Type 0} (step : State → Cut → Reply → State → Type 0) 
   Breaks-sent a b answerer written = record {
     replies = [];
     run = answerer;
-    written = rw append-nil written
+    written = rw append-nil written;
   }
 
   pub Advances-none : (a : Point State) → Advances step a a []
@@ -170,20 +170,20 @@ module _ {State : Type 0} (step : State → Cut → Reply → State → Type 0) 
     rest = piece;
     cuts = rw append-nil (cut-piece piece held.is_open);
     held = held;
-    serves = Serves-none a a refl refl refl refl
+    serves = Serves-none a a refl refl refl refl;
   }
 
   -- a run of bytes without byte 10 was taken
   pub Advances-run : (a b : Point State) (run : Text) → Serves step a b [] → ((piece : Text) → IsHolding (cutter_of a.server) piece → IsHolding (cutter_of b.server) (piece ++ run)) → Advances step a b run
   Advances-run a b run serves takes piece held =
-    let after = takes piece held in
-    record {
-      lines = [];
-      rest = piece ++ run;
-      cuts = cut-piece (piece ++ run) after.is_open;
-      held = after;
-      serves = serves
-    }
+      let after = takes piece held in
+      record {
+        lines = [];
+        rest = piece ++ run;
+        cuts = cut-piece (piece ++ run) after.is_open;
+        held = after;
+        serves = serves;
+      }
 
   -- byte 10 was taken, and ends a line
   pub Advances-line : (a b : Point State) → ((piece : Text) → IsHolding (cutter_of a.server) piece → Serves step a b (piece ∷ [])) → IsHolding (cutter_of b.server) [] → Advances step a b (newline ∷ [])
@@ -192,7 +192,7 @@ module _ {State : Type 0} (step : State → Cut → Reply → State → Type 0) 
     rest = [];
     cuts = cut-line piece held.is_open;
     held = cleared;
-    serves = answers piece held
+    serves = answers piece held;
   }
 
   pub Fails-line : (a b : Point State) → ((piece : Text) → IsHolding (cutter_of a.server) piece → Breaks step a b (piece ∷ [])) → Fails step a b (newline ∷ [])
@@ -200,30 +200,30 @@ module _ {State : Type 0} (step : State → Cut → Reply → State → Type 0) 
     lines = piece ∷ [];
     others = [];
     begins = ap (λ (c : List Text × Text). c.0) (cut-line piece held.is_open);
-    breaks = breaks piece held
+    breaks = breaks piece held;
   }
 
   -- what is gathered was sent, and no byte taken
   pub Advances-sent : (a b c : Point State) (f : Text) → Advances step a b f → Serves step b c [] → cutter_of c.server ≡ cutter_of b.server → Advances step a c f
   Advances-sent a b c f first serves same piece held =
-    let m = first piece held in
-    record {
-      lines = m.lines;
-      rest = m.rest;
-      cuts = m.cuts;
-      held = rw same m.held;
-      serves = rw append-nil at (Serves-append step a b c m.lines [] m.serves serves)
-    }
+      let m = first piece held in
+      record {
+        lines = m.lines;
+        rest = m.rest;
+        cuts = m.cuts;
+        held = rw same m.held;
+        serves = rw append-nil at (Serves-append step a b c m.lines [] m.serves serves);
+      }
 
   pub Fails-sent : (a b c : Point State) (f : Text) → Advances step a b f → Breaks step b c [] → Fails step a c f
   Fails-sent a b c f first breaks piece held =
-    let m = first piece held in
-    record {
-      lines = m.lines;
-      others = [];
-      begins = ap (λ (d : List Text × Text). d.0) m.cuts ∙ sym (append-nil m.lines);
-      breaks = rw append-nil at (Breaks-after step a b c m.lines [] m.serves breaks)
-    }
+      let m = first piece held in
+      record {
+        lines = m.lines;
+        others = [];
+        begins = ap (λ (d : List Text × Text). d.0) m.cuts ∙ sym (append-nil m.lines);
+        breaks = rw append-nil at (Breaks-after step a b c m.lines [] m.serves breaks);
+      }
 
   pub Serves-then_sent : (a b c : Point State) (ls : List Text) → Serves step a b ls → Serves step b c [] → Serves step a c ls
   Serves-then_sent a b c ls first second = rw append-nil at (Serves-append step a b c ls [] first second)
@@ -238,7 +238,7 @@ module _ {State : Type 0} (step : State → Cut → Reply → State → Type 0) 
   TakesFront-more a b c bytes rest left first second = record {
     front = first.front ++ second.front;
     splits = first.splits ∙ ap (λ l. first.front ++ l) second.splits ∙ sym (append_assoc first.front second.front left);
-    advances = Advances-append step a b c first.front second.front first.advances second.advances
+    advances = Advances-append step a b c first.front second.front first.advances second.advances;
   }
 
   pub Fails-after_front : (a b c : Point State) (bytes rest : Text) → TakesFront step a b bytes rest → Fails step b c rest → Fails step a c bytes
@@ -247,5 +247,5 @@ module _ {State : Type 0} (step : State → Cut → Reply → State → Type 0) 
   -- all the bytes were taken
   pub Advances-whole : (a b : Point State) (bytes rest : Text) → TakesFront step a b bytes rest → length rest ≡ 0 → Advances step a b bytes
   Advances-whole a b bytes rest t none =
-    let whole : bytes ≡ t.front = t.splits ∙ ap (λ l. t.front ++ l) (nil_from_length rest none) ∙ append-nil t.front in
-    rw whole t.advances
+      let whole : bytes ≡ t.front = t.splits ∙ ap (λ l. t.front ++ l) (nil_from_length rest none) ∙ append-nil t.front in
+      rw whole t.advances

@@ -45,7 +45,7 @@ AreCounts-from_adds old new lines replies none adds =
       lines_answered = omega arith;
       long_lines = omega arith;
       memory = omega arith;
-      faults = adds.faults ∙ ap (λ (c : Counts). c.faults) none
+      faults = adds.faults ∙ ap (λ (c : Counts). c.faults) none;
     }
 
 Appends-from_sends : (a b : Option Text) (ag bg text : Text) → ag ≡ [] → bg ≡ [] → Sends a ag b bg text → Appends a b text
@@ -101,7 +101,7 @@ StandsPast-from_rest most lines consumed front chunk (byte ∷ rest) splits some
   rest = rest;
   spent = full;
   ended = ended;
-  past = ap (λ l. consumed ++ l) splits ∙ sym (append_assoc consumed front (byte ∷ rest))
+  past = ap (λ l. consumed ++ l) splits ∙ sym (append_assoc consumed front (byte ∷ rest));
 }
 
 module _ {State : Type 0} (step : State → Cut → Reply → State → Type 0) where
@@ -110,7 +110,7 @@ module _ {State : Type 0} (step : State → Cut → Reply → State → Type 0) 
     consumed = [];
     read = Consumes-nil unread;
     moves = Advances-none step a [] start.held;
-    settled = start.settled
+    settled = start.settled;
   }
 
   pub Reads-kept : (a b : Point State) (unread left now : Option Text) → Reads step a b unread left → Keeps left now → Reads step a b unread now
@@ -118,7 +118,7 @@ module _ {State : Type 0} (step : State → Cut → Reply → State → Type 0) 
     consumed = r.consumed;
     read = Consumes-kept unread left now r.consumed r.read kept;
     moves = r.moves;
-    settled = r.settled
+    settled = r.settled;
   }
 
   pub Reads-more : (a b c : Point State) (unread left now : Option Text) (chunk : Text) → Reads step a b unread left → Consumes left now chunk → Advances step b c chunk → gathered_of c.server ≡ [] → Reads step a c unread now
@@ -126,7 +126,7 @@ module _ {State : Type 0} (step : State → Cut → Reply → State → Type 0) 
     consumed = r.consumed ++ chunk;
     read = Consumes-trans unread left now r.consumed chunk r.read read;
     moves = Moves-append step a b c [] r.consumed chunk r.moves advances;
-    settled = settled
+    settled = settled;
   }
 
   pub IsCutOff-from_reads : (a b : Point State) (unread left : Option Text) → IsStart a.server → Reads step a b unread left → IsCutOff step a.answerer b.answerer unread a.contents b.contents
@@ -135,31 +135,31 @@ module _ {State : Type 0} (step : State → Cut → Reply → State → Type 0) 
     replies = r.moves.serves.replies;
     run = r.moves.serves.run;
     read = begins-front unread left r.consumed r.moves.lines r.moves.rest r.read r.moves.cuts;
-    written = AppendsFront-from_appends a.contents b.contents (text_of r.moves.serves.replies) (Appends-from_sends a.contents b.contents (gathered_of a.server) (gathered_of b.server) (text_of r.moves.serves.replies) start.settled r.settled r.moves.serves.sending)
+    written = AppendsFront-from_appends a.contents b.contents (text_of r.moves.serves.replies) (Appends-from_sends a.contents b.contents (gathered_of a.server) (gathered_of b.server) (text_of r.moves.serves.replies) start.settled r.settled r.moves.serves.sending);
   }
 
   pub IsWholeSoFar-from_reads : (a b : Point State) (most : ℕ) (unread left : Option Text) → IsStart a.server → Reads step a b unread left → (server_counts b.server).lines ≤ most
       → IsWholeSoFar step a.answerer b.answerer most unread left a.contents b.contents
   IsWholeSoFar-from_reads a b most unread left start r within =
-    let lines = r.moves.lines in
-    let replies = r.moves.serves.replies in
-    let counted = (AreCounts-from_adds (server_counts a.server) (server_counts b.server) lines replies start.counts r.moves.serves.counted).lines_answered in
-    record {
-      lines = lines;
-      replies = replies;
-      consumed = r.consumed;
-      run = r.moves.serves.run;
-      read = r.read;
-      ended = sym (ap (λ (c : List Text × Text). take most c.0) r.moves.cuts ∙ take_all most lines (omega arith));
-      written = Appends-from_sends a.contents b.contents (gathered_of a.server) (gathered_of b.server) (text_of replies) start.settled r.settled r.moves.serves.sending
-    }
+      let lines = r.moves.lines in
+      let replies = r.moves.serves.replies in
+      let counted = (AreCounts-from_adds (server_counts a.server) (server_counts b.server) lines replies start.counts r.moves.serves.counted).lines_answered in
+      record {
+        lines = lines;
+        replies = replies;
+        consumed = r.consumed;
+        run = r.moves.serves.run;
+        read = r.read;
+        ended = sym (ap (λ (c : List Text × Text). take most c.0) r.moves.cuts ∙ take_all most lines (omega arith));
+        written = Appends-from_sends a.contents b.contents (gathered_of a.server) (gathered_of b.server) (text_of replies) start.settled r.settled r.moves.serves.sending;
+      }
 
   -- as many reads as may be were made
   pub IsSpent-from_reads : (a b : Point State) (turns : Turns) (unread left : Option Text) (reads : ℕ) (has_ended : Bool) → IsStart a.server → Reads step a b unread left → (server_counts b.server).lines ≤ turns.lines → reads ≡ turns.reads → has_ended ≡ false
       → IsSpent step a.answerer b.answerer turns unread left a.contents b.contents reads has_ended
   IsSpent-from_reads a b turns unread left reads has_ended start r within made not_ended = record {
     whole = IsWholeSoFar-from_reads a b turns.lines unread left start r within;
-    spent = inr (made, not_ended)
+    spent = inr (made, not_ended);
   }
 
   -- the end of the stream is read
@@ -168,79 +168,79 @@ module _ {State : Type 0} (step : State → Cut → Reply → State → Type 0) 
     consumed = r.consumed;
     read = rw append-nil at (Consumes-trans unread left now r.consumed [] r.read read);
     moves = r.moves;
-    settled = r.settled
+    settled = r.settled;
   }
 
   pub IsServed-from_end : (a b c : Point State) (unread left : Option Text) → IsStart a.server → (r : Reads step a b unread left) → IsAtEnd left → Serves step b c (piece_lines r.moves.rest) → gathered_of c.server ≡ []
       → IsServed step a.answerer c.answerer unread a.contents c.contents (server_counts c.server)
   IsServed-from_end a b c unread left start r end last settled =
-    let s = Serves-append step a b c r.moves.lines (piece_lines r.moves.rest) r.moves.serves last in
-    let lines = r.moves.lines ++ piece_lines r.moves.rest in
-    record {
-      lines = lines;
-      replies = s.replies;
-      run = s.run;
-      read = lines_of-whole unread left r.consumed r.moves.lines r.moves.rest r.read end r.moves.cuts;
-      written = Appends-from_sends a.contents c.contents (gathered_of a.server) (gathered_of c.server) (text_of s.replies) start.settled settled s.sending;
-      counted = AreCounts-from_adds (server_counts a.server) (server_counts c.server) lines s.replies start.counts s.counted
-    }
+      let s = Serves-append step a b c r.moves.lines (piece_lines r.moves.rest) r.moves.serves last in
+      let lines = r.moves.lines ++ piece_lines r.moves.rest in
+      record {
+        lines = lines;
+        replies = s.replies;
+        run = s.run;
+        read = lines_of-whole unread left r.consumed r.moves.lines r.moves.rest r.read end r.moves.cuts;
+        written = Appends-from_sends a.contents c.contents (gathered_of a.server) (gathered_of c.server) (text_of s.replies) start.settled settled s.sending;
+        counted = AreCounts-from_adds (server_counts a.server) (server_counts c.server) lines s.replies start.counts s.counted;
+      }
 
   pub IsCutOff-from_end : (a b c : Point State) (unread left : Option Text) → IsStart a.server → (r : Reads step a b unread left) → IsAtEnd left → Breaks step b c (piece_lines r.moves.rest)
       → IsCutOff step a.answerer c.answerer unread a.contents c.contents
   IsCutOff-from_end a b c unread left start r end last =
-    let s = Breaks-after step a b c r.moves.lines (piece_lines r.moves.rest) r.moves.serves last in
-    let lines = r.moves.lines ++ piece_lines r.moves.rest in
-    record {
-      lines = lines;
-      replies = s.replies;
-      run = s.run;
-      read = begins-whole unread lines (lines_of-whole unread left r.consumed r.moves.lines r.moves.rest r.read end r.moves.cuts);
-      written = AppendsFront-from_start a.contents c.contents (gathered_of a.server) (text_of s.replies) start.settled s.written
-    }
+      let s = Breaks-after step a b c r.moves.lines (piece_lines r.moves.rest) r.moves.serves last in
+      let lines = r.moves.lines ++ piece_lines r.moves.rest in
+      record {
+        lines = lines;
+        replies = s.replies;
+        run = s.run;
+        read = begins-whole unread lines (lines_of-whole unread left r.consumed r.moves.lines r.moves.rest r.read end r.moves.cuts);
+        written = AppendsFront-from_start a.contents c.contents (gathered_of a.server) (text_of s.replies) start.settled s.written;
+      }
 
   pub IsCutOff-from_stops : (a b c : Point State) (unread left now : Option Text) (chunk : Text) → IsStart a.server → Reads step a b unread left → Consumes left now chunk → Fails step b c chunk
       → IsCutOff step a.answerer c.answerer unread a.contents c.contents
   IsCutOff-from_stops a b c unread left now chunk start r read fails =
-    let s = Stops-after step a b c [] r.consumed chunk r.moves fails in
-    record {
-      lines = s.lines;
-      replies = s.breaks.replies;
-      run = s.breaks.run;
-      read = begins-ended unread now (r.consumed ++ chunk) s.lines s.others (Consumes-trans unread left now r.consumed chunk r.read read) s.begins;
-      written = AppendsFront-from_start a.contents c.contents (gathered_of a.server) (text_of s.breaks.replies) start.settled s.breaks.written
-    }
+      let s = Stops-after step a b c [] r.consumed chunk r.moves fails in
+      record {
+        lines = s.lines;
+        replies = s.breaks.replies;
+        run = s.breaks.run;
+        read = begins-ended unread now (r.consumed ++ chunk) s.lines s.others (Consumes-trans unread left now r.consumed chunk r.read read) s.begins;
+        written = AppendsFront-from_start a.contents c.contents (gathered_of a.server) (text_of s.breaks.replies) start.settled s.breaks.written;
+      }
 
   -- a byte stands past the last line that may be answered
   pub IsSpent-from_rest : (a b c : Point State) (turns : Turns) (unread left now : Option Text) (chunk rest : Text) (reads : ℕ) (has_ended : Bool) → IsStart a.server → Reads step a b unread left → Consumes left now chunk → TakesUpTo step b c chunk rest
       → 0 < length rest → gathered_of c.server ≡ [] → server_most c.server ≡ turns.lines → IsSpent step a.answerer c.answerer turns unread now a.contents c.contents reads has_ended
   IsSpent-from_rest a b c turns unread left now chunk rest reads has_ended start r read takes some settled most =
-    let front = takes.taken.front in
-    let m = Moves-append step a b c [] r.consumed front r.moves takes.taken.advances in
-    let counted = (AreCounts-from_adds (server_counts a.server) (server_counts c.server) m.lines m.serves.replies start.counts m.serves.counted).lines_answered in
-    let full : length m.lines ≡ turns.lines = sym counted ∙ takes.spent some ∙ most in
-    let begins = ended_lines-front r.consumed front chunk rest m.lines m.rest takes.taken.splits m.cuts in
-    record {
-      whole = record {
-        lines = m.lines;
-        replies = m.serves.replies;
-        consumed = r.consumed ++ chunk;
-        run = m.serves.run;
-        read = Consumes-trans unread left now r.consumed chunk r.read read;
-        ended = sym (ap (take turns.lines) begins ∙ take_at m.lines (ended_lines (m.rest ++ rest)) turns.lines full);
-        written = Appends-from_sends a.contents c.contents (gathered_of a.server) (gathered_of c.server) (text_of m.serves.replies) start.settled settled m.serves.sending
-      };
-      spent = inl (StandsPast-from_rest turns.lines m.lines r.consumed front chunk rest takes.taken.splits some full (ap (λ (d : List Text × Text). d.0) m.cuts))
-    }
+      let front = takes.taken.front in
+      let m = Moves-append step a b c [] r.consumed front r.moves takes.taken.advances in
+      let counted = (AreCounts-from_adds (server_counts a.server) (server_counts c.server) m.lines m.serves.replies start.counts m.serves.counted).lines_answered in
+      let full : length m.lines ≡ turns.lines = sym counted ∙ takes.spent some ∙ most in
+      let begins = ended_lines-front r.consumed front chunk rest m.lines m.rest takes.taken.splits m.cuts in
+      record {
+        whole = record {
+          lines = m.lines;
+          replies = m.serves.replies;
+          consumed = r.consumed ++ chunk;
+          run = m.serves.run;
+          read = Consumes-trans unread left now r.consumed chunk r.read read;
+          ended = sym (ap (take turns.lines) begins ∙ take_at m.lines (ended_lines (m.rest ++ rest)) turns.lines full);
+          written = Appends-from_sends a.contents c.contents (gathered_of a.server) (gathered_of c.server) (text_of m.serves.replies) start.settled settled m.serves.sending;
+        };
+        spent = inl (StandsPast-from_rest turns.lines m.lines r.consumed front chunk rest takes.taken.splits some full (ap (λ (d : List Text × Text). d.0) m.cuts));
+      }
 
   pub IsCutOff-from_rest : (a b c : Point State) (unread left now : Option Text) (chunk rest : Text) → IsStart a.server → Reads step a b unread left → Consumes left now chunk → TakesUpTo step b c chunk rest
       → gathered_of c.server ≡ [] → IsCutOff step a.answerer c.answerer unread a.contents c.contents
   IsCutOff-from_rest a b c unread left now chunk rest start r read takes settled =
-    let front = takes.taken.front in
-    let m = Moves-append step a b c [] r.consumed front r.moves takes.taken.advances in
-    record {
-      lines = m.lines;
-      replies = m.serves.replies;
-      run = m.serves.run;
-      read = begins-ended unread now (r.consumed ++ chunk) m.lines (ended_lines (m.rest ++ rest)) (Consumes-trans unread left now r.consumed chunk r.read read) (ended_lines-front r.consumed front chunk rest m.lines m.rest takes.taken.splits m.cuts);
-      written = AppendsFront-from_appends a.contents c.contents (text_of m.serves.replies) (Appends-from_sends a.contents c.contents (gathered_of a.server) (gathered_of c.server) (text_of m.serves.replies) start.settled settled m.serves.sending)
-    }
+      let front = takes.taken.front in
+      let m = Moves-append step a b c [] r.consumed front r.moves takes.taken.advances in
+      record {
+        lines = m.lines;
+        replies = m.serves.replies;
+        run = m.serves.run;
+        read = begins-ended unread now (r.consumed ++ chunk) m.lines (ended_lines (m.rest ++ rest)) (Consumes-trans unread left now r.consumed chunk r.read read) (ended_lines-front r.consumed front chunk rest m.lines m.rest takes.taken.splits m.cuts);
+        written = AppendsFront-from_appends a.contents c.contents (text_of m.serves.replies) (Appends-from_sends a.contents c.contents (gathered_of a.server) (gathered_of c.server) (text_of m.serves.replies) start.settled settled m.serves.sending);
+      }

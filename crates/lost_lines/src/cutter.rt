@@ -72,7 +72,8 @@ impl Cutter {
 
     /// The answer to the line.
     pub(crate) fn answer<A: Answerer>(&self, alloc: Global, answerer: &mut A) -> Answer
-        ensures { (piece : List ℕ) → IsHolding self.now piece → Answers A.step answerer.old piece (reply_of result) answerer.new }
+        ensures { (piece : List ℕ) → IsHolding self.now piece
+            → Answers A.step answerer.old piece (reply_of result) answerer.new }
     {
         if self.is_refused {
             answerer.answer_unread()

@@ -38,7 +38,8 @@ pub fn run_lines<R: Read, W: Write, A: Answerer>(
     requires input_sound { has_failed input.old ≡ false }
     requires output_sound { has_failed output.old ≡ false }
     ensures served { IfOk result (λ counts. IsServed A.step answerer.old answerer.new
-        (R.remaining (inner_of input.old)) (W.contents (inner_of output.old)) (W.contents (inner_of output.new)) counts) }
+        (R.remaining (inner_of input.old)) (W.contents (inner_of output.old))
+        (W.contents (inner_of output.new)) counts) }
     ensures within { IfOk result (λ counts. counts.lines ≤ turns.lines) }
 
     // Ok comes only where the input ended and neither flag is set.
@@ -48,16 +49,17 @@ pub fn run_lines<R: Read, W: Write, A: Answerer>(
 
     // Each fault comes only for its cause, and leaves a front of the replies.
     ensures cut_off { OnErr result (IsCutOff A.step answerer.old answerer.new
-        (R.remaining (inner_of input.old)) (W.contents (inner_of output.old)) (W.contents (inner_of output.new))) }
+        (R.remaining (inner_of input.old)) (W.contents (inner_of output.old))
+        (W.contents (inner_of output.new))) }
     ensures read { IsErrOf result ServeError.Read → has_failed input.new ≡ true }
     ensures write { IsErrOf result ServeError.Write → has_failed output.new ≡ true }
     ensures turns { IsErrOf result ServeError.TurnsSpent → IsSpent A.step answerer.old answerer.new turns
-        (R.remaining (inner_of input.old)) (R.remaining (inner_of input.new)) (W.contents (inner_of output.old))
-        (W.contents (inner_of output.new)) (reads_of input.new) (has_ended input.new) }
+        (R.remaining (inner_of input.old)) (R.remaining (inner_of input.new))
+        (W.contents (inner_of output.old)) (W.contents (inner_of output.new)) (reads_of input.new) (has_ended input.new) }
     ensures memory { result ≢ Err ServeError.Memory }
     ensures whole { IsErrOf result ServeError.Read → IsWholeSoFar A.step answerer.old answerer.new turns.lines
-        (R.remaining (inner_of input.old)) (R.remaining (inner_of input.new)) (W.contents (inner_of output.old))
-        (W.contents (inner_of output.new)) }
+        (R.remaining (inner_of input.old)) (R.remaining (inner_of input.new))
+        (W.contents (inner_of output.old)) (W.contents (inner_of output.new)) }
     ensures reads { reads_of input.new ≤ turns.reads }
 {
     let mut server = LineServer::new(alloc, turns.lines);

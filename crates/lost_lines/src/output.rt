@@ -18,8 +18,10 @@ pub(crate) fn gather<W: Write>(
     output: &mut Watched<W>,
     text: &[u8],
 ) -> Result<(), ServeError>
-    ensures ok { OnOk result (Sends (W.contents (inner_of output.old)) gathered.old.items (W.contents (inner_of output.new)) gathered.new.items text.now) }
-    ensures err { OnErr result (AppendsFront (W.contents (inner_of output.old)) (W.contents (inner_of output.new)) (gathered.old.items ++ text.now)) }
+    ensures ok { OnOk result (Sends (W.contents (inner_of output.old)) gathered.old.items
+        (W.contents (inner_of output.new)) gathered.new.items text.now) }
+    ensures err { OnErr result (AppendsFront (W.contents (inner_of output.old)) (W.contents (inner_of output.new))
+        (gathered.old.items ++ text.now)) }
     ensures flag { SetsFlag output.old output.new result }
 {
     if add(gathered, text) {
@@ -31,17 +33,23 @@ pub(crate) fn gather<W: Write>(
 
 /// Adds a text to what is gathered, where there is room for it; says whether it did.
 fn add(gathered: &mut Vec<u8>, text: &[u8]) -> bool
-    ensures { gathered.new.items ≡ (if result then gathered.old.items ++ text.now else gathered.old.items) }
+    ensures { gathered.new.items
+        ≡ (if result then gathered.old.items ++ text.now else gathered.old.items) }
 {
     gathered.len().saturating_add(text.len()) <= GATHERED_LIMIT
         && gathered.extend_from_slice(text).is_ok()
 }
 
 /// Sends what is gathered, and flushes the output.
-pub(crate) fn settle<W: Write>(gathered: &mut Vec<u8>, output: &mut Watched<W>) -> Result<(), ServeError>
-    ensures ok { OnOk result (Appends (W.contents (inner_of output.old)) (W.contents (inner_of output.new)) gathered.old.items) }
+pub(crate) fn settle<W: Write>(
+    gathered: &mut Vec<u8>,
+    output: &mut Watched<W>,
+) -> Result<(), ServeError>
+    ensures ok { OnOk result (Appends (W.contents (inner_of output.old)) (W.contents (inner_of output.new))
+        gathered.old.items) }
     ensures empty { OnOk result (gathered.new.items ≡ []) }
-    ensures err { OnErr result (AppendsFront (W.contents (inner_of output.old)) (W.contents (inner_of output.new)) gathered.old.items) }
+    ensures err { OnErr result (AppendsFront (W.contents (inner_of output.old)) (W.contents (inner_of output.new))
+        gathered.old.items) }
     ensures flag { SetsFlag output.old output.new result }
 {
     release(gathered, output)?;
@@ -50,9 +58,11 @@ pub(crate) fn settle<W: Write>(gathered: &mut Vec<u8>, output: &mut Watched<W>) 
 
 /// Sends what is gathered.
 fn release<W: Write>(gathered: &mut Vec<u8>, output: &mut Watched<W>) -> Result<(), ServeError>
-    ensures ok { OnOk result (Appends (W.contents (inner_of output.old)) (W.contents (inner_of output.new)) gathered.old.items) }
+    ensures ok { OnOk result (Appends (W.contents (inner_of output.old)) (W.contents (inner_of output.new))
+        gathered.old.items) }
     ensures empty { OnOk result (gathered.new.items ≡ []) }
-    ensures err { OnErr result (AppendsFront (W.contents (inner_of output.old)) (W.contents (inner_of output.new)) gathered.old.items) }
+    ensures err { OnErr result (AppendsFront (W.contents (inner_of output.old)) (W.contents (inner_of output.new))
+        gathered.old.items) }
     ensures flag { SetsFlag output.old output.new result }
 {
     send(output, gathered.as_slice())?;
@@ -62,8 +72,10 @@ fn release<W: Write>(gathered: &mut Vec<u8>, output: &mut Watched<W>) -> Result<
 
 /// Writes all the bytes.
 fn send<W: Write>(output: &mut Watched<W>, bytes: &[u8]) -> Result<(), ServeError>
-    ensures ok { OnOk result (Appends (W.contents (inner_of output.old)) (W.contents (inner_of output.new)) bytes.now) }
-    ensures err { OnErr result (AppendsFront (W.contents (inner_of output.old)) (W.contents (inner_of output.new)) bytes.now) }
+    ensures ok { OnOk result (Appends (W.contents (inner_of output.old)) (W.contents (inner_of output.new))
+        bytes.now) }
+    ensures err { OnErr result (AppendsFront (W.contents (inner_of output.old)) (W.contents (inner_of output.new))
+        bytes.now) }
     ensures flag { SetsFlag output.old output.new result }
 {
     let mut rest = bytes;
@@ -79,7 +91,8 @@ fn send_some<W: Write>(output: &mut Watched<W>, bytes: &[u8]) -> Result<usize, S
     requires { 0 < length bytes.now }
     ensures some { IfOk result (λ count. 0 < count) }
     ensures within { IfOk result (λ count. count ≤ length bytes.now) }
-    ensures ok { IfOk result (λ count. Appends (W.contents (inner_of output.old)) (W.contents (inner_of output.new)) (take count bytes.now)) }
+    ensures ok { IfOk result (λ count.
+        Appends (W.contents (inner_of output.old)) (W.contents (inner_of output.new)) (take count bytes.now)) }
     ensures err { OnErr result (Keeps (W.contents (inner_of output.old)) (W.contents (inner_of output.new))) }
     ensures flag { SetsFlag output.old output.new result }
 {

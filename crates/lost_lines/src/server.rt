@@ -30,7 +30,8 @@ impl LineServer {
     pub(crate) fn new(alloc: Global, most: u64) -> LineServer
         ensures cutter { IsHolding (cutter_of result) [] }
         ensures gathered { gathered_of result ≡ [] }
-        ensures counts { server_counts result ≡ record { lines = 0; long_lines = 0; memory = 0; faults = 0 } }
+        ensures counts { server_counts result
+            ≡ record { lines = 0; long_lines = 0; memory = 0; faults = 0 } }
         ensures most { server_most result ≡ most }
     {
         LineServer {
@@ -57,10 +58,14 @@ impl LineServer {
         answerer: &mut A,
     ) -> Result<&'c [u8], ServeError>
         requires { MayEnd self.old }
-        ensures ok { IfOk result (λ rest. TakesUpTo A.step (point_of answerer.old (W.contents (inner_of output.old)) self.old) (point_of answerer.new (W.contents (inner_of output.new)) self.new) chunk.now rest.now) }
+        ensures ok { IfOk result (λ rest. TakesUpTo A.step
+            (point_of answerer.old (W.contents (inner_of output.old)) self.old)
+            (point_of answerer.new (W.contents (inner_of output.new)) self.new) chunk.now rest.now) }
         ensures settled { OnOk result (gathered_of self.new ≡ []) }
         ensures may_end { OnOk result (MayEnd self.new) }
-        ensures err { OnErr result (Fails A.step (point_of answerer.old (W.contents (inner_of output.old)) self.old) (point_of answerer.new (W.contents (inner_of output.new)) self.new) chunk.now) }
+        ensures err { OnErr result (Fails A.step
+            (point_of answerer.old (W.contents (inner_of output.old)) self.old)
+            (point_of answerer.new (W.contents (inner_of output.new)) self.new) chunk.now) }
         ensures most { server_most self.new ≡ server_most self.old }
         ensures flag { SetsFlag output.old output.new result }
     {
@@ -78,9 +83,13 @@ impl LineServer {
         answerer: &mut A,
     ) -> Result<&'c [u8], ServeError>
         requires { MayEnd self.old }
-        ensures ok { IfOk result (λ rest. TakesUpTo A.step (point_of answerer.old (W.contents (inner_of output.old)) self.old) (point_of answerer.new (W.contents (inner_of output.new)) self.new) chunk.now rest.now) }
+        ensures ok { IfOk result (λ rest. TakesUpTo A.step
+            (point_of answerer.old (W.contents (inner_of output.old)) self.old)
+            (point_of answerer.new (W.contents (inner_of output.new)) self.new) chunk.now rest.now) }
         ensures may_end { OnOk result (MayEnd self.new) }
-        ensures err { OnErr result (Fails A.step (point_of answerer.old (W.contents (inner_of output.old)) self.old) (point_of answerer.new (W.contents (inner_of output.new)) self.new) chunk.now) }
+        ensures err { OnErr result (Fails A.step
+            (point_of answerer.old (W.contents (inner_of output.old)) self.old)
+            (point_of answerer.new (W.contents (inner_of output.new)) self.new) chunk.now) }
         ensures most { server_most self.new ≡ server_most self.old }
         ensures flag { SetsFlag output.old output.new result }
     {
@@ -104,10 +113,14 @@ impl LineServer {
     ) -> Result<&'c [u8], ServeError>
         requires some { 0 < length bytes.now }
         requires room { (server_counts self.old).lines < server_most self.old }
-        ensures ok { IfOk result (λ rest. TakesFront A.step (point_of answerer.old (W.contents (inner_of output.old)) self.old) (point_of answerer.new (W.contents (inner_of output.new)) self.new) bytes.now rest.now) }
+        ensures ok { IfOk result (λ rest. TakesFront A.step
+            (point_of answerer.old (W.contents (inner_of output.old)) self.old)
+            (point_of answerer.new (W.contents (inner_of output.new)) self.new) bytes.now rest.now) }
         ensures less { IfOk result (λ rest. length rest.now < length bytes.now) }
         ensures may_end { OnOk result (MayEnd self.new) }
-        ensures err { OnErr result (Fails A.step (point_of answerer.old (W.contents (inner_of output.old)) self.old) (point_of answerer.new (W.contents (inner_of output.new)) self.new) bytes.now) }
+        ensures err { OnErr result (Fails A.step
+            (point_of answerer.old (W.contents (inner_of output.old)) self.old)
+            (point_of answerer.new (W.contents (inner_of output.new)) self.new) bytes.now) }
         ensures most { server_most self.new ≡ server_most self.old }
         ensures flag { SetsFlag output.old output.new result }
     {
@@ -128,9 +141,15 @@ impl LineServer {
         answerer: &mut A,
     ) -> Result<(), ServeError>
         requires { MayEnd self.old }
-        ensures ok { (piece : List ℕ) → IsHolding (cutter_of self.old) piece → OnOk result (Serves A.step (point_of answerer.old (W.contents (inner_of output.old)) self.old) (point_of answerer.new (W.contents (inner_of output.new)) self.new) (piece_lines piece)) }
+        ensures ok { (piece : List ℕ) → IsHolding (cutter_of self.old) piece
+            → OnOk result (Serves A.step
+            (point_of answerer.old (W.contents (inner_of output.old)) self.old)
+            (point_of answerer.new (W.contents (inner_of output.new)) self.new) (piece_lines piece)) }
         ensures settled { OnOk result (gathered_of self.new ≡ []) }
-        ensures err { (piece : List ℕ) → IsHolding (cutter_of self.old) piece → OnErr result (Breaks A.step (point_of answerer.old (W.contents (inner_of output.old)) self.old) (point_of answerer.new (W.contents (inner_of output.new)) self.new) (piece_lines piece)) }
+        ensures err { (piece : List ℕ) → IsHolding (cutter_of self.old) piece
+            → OnErr result (Breaks A.step
+            (point_of answerer.old (W.contents (inner_of output.old)) self.old)
+            (point_of answerer.new (W.contents (inner_of output.new)) self.new) (piece_lines piece)) }
         ensures most { server_most self.new ≡ server_most self.old }
         ensures flag { SetsFlag output.old output.new result }
     {
@@ -146,8 +165,14 @@ impl LineServer {
         answerer: &mut A,
     ) -> Result<(), ServeError>
         requires { MayEnd self.old }
-        ensures ok { (piece : List ℕ) → IsHolding (cutter_of self.old) piece → OnOk result (Serves A.step (point_of answerer.old (W.contents (inner_of output.old)) self.old) (point_of answerer.new (W.contents (inner_of output.new)) self.new) (piece_lines piece)) }
-        ensures err { (piece : List ℕ) → IsHolding (cutter_of self.old) piece → OnErr result (Breaks A.step (point_of answerer.old (W.contents (inner_of output.old)) self.old) (point_of answerer.new (W.contents (inner_of output.new)) self.new) (piece_lines piece)) }
+        ensures ok { (piece : List ℕ) → IsHolding (cutter_of self.old) piece
+            → OnOk result (Serves A.step
+            (point_of answerer.old (W.contents (inner_of output.old)) self.old)
+            (point_of answerer.new (W.contents (inner_of output.new)) self.new) (piece_lines piece)) }
+        ensures err { (piece : List ℕ) → IsHolding (cutter_of self.old) piece
+            → OnErr result (Breaks A.step
+            (point_of answerer.old (W.contents (inner_of output.old)) self.old)
+            (point_of answerer.new (W.contents (inner_of output.new)) self.new) (piece_lines piece)) }
         ensures most { server_most self.new ≡ server_most self.old }
         ensures flag { SetsFlag output.old output.new result }
     {
@@ -165,8 +190,14 @@ impl LineServer {
         answerer: &mut A,
     ) -> Result<(), ServeError>
         requires { (server_counts self.old).lines < server_most self.old }
-        ensures ok { (piece : List ℕ) → IsHolding (cutter_of self.old) piece → OnOk result (Serves A.step (point_of answerer.old (W.contents (inner_of output.old)) self.old) (point_of answerer.new (W.contents (inner_of output.new)) self.new) (piece ∷ [])) }
-        ensures err { (piece : List ℕ) → IsHolding (cutter_of self.old) piece → OnErr result (Breaks A.step (point_of answerer.old (W.contents (inner_of output.old)) self.old) (point_of answerer.new (W.contents (inner_of output.new)) self.new) (piece ∷ [])) }
+        ensures ok { (piece : List ℕ) → IsHolding (cutter_of self.old) piece
+            → OnOk result (Serves A.step
+            (point_of answerer.old (W.contents (inner_of output.old)) self.old)
+            (point_of answerer.new (W.contents (inner_of output.new)) self.new) (piece ∷ [])) }
+        ensures err { (piece : List ℕ) → IsHolding (cutter_of self.old) piece
+            → OnErr result (Breaks A.step
+            (point_of answerer.old (W.contents (inner_of output.old)) self.old)
+            (point_of answerer.new (W.contents (inner_of output.new)) self.new) (piece ∷ [])) }
         ensures cutter { IsHolding (cutter_of self.new) [] }
         ensures most { server_most self.new ≡ server_most self.old }
         ensures flag { SetsFlag output.old output.new result }

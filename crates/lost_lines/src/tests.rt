@@ -1,0 +1,5 @@
+mod fakes;
+mod faults;
+mod parts;
+mod streams;
+mod turns;

@@ -81,7 +81,8 @@ impl<T: Read> Read for Watched<T> {
 
     fn read(&mut self, buf: &mut [u8]) -> io::Result<usize>
         ensures bound { ReadsAtMost result buf.new }
-        ensures bytes { ReadConsumes (T.remaining (inner_of self.old)) (T.remaining (inner_of self.new)) result buf.new }
+        ensures bytes { ReadConsumes (T.remaining (inner_of self.old)) (T.remaining (inner_of self.new))
+            result buf.new }
         ensures failed { has_failed self.new ≡ (has_failed self.old || is_err result) }
         ensures ended { has_ended self.new ≡ (has_ended self.old || gives_none result (length buf.old)) }
         ensures reads { reads_of self.new ≡ min (reads_of self.old + 1) (2 ^ 64 - 1) }
@@ -99,8 +100,10 @@ impl<T: Write> Write for Watched<T> {
 
     fn write(&mut self, buf: &[u8]) -> io::Result<usize>
         ensures bound { WritesAtMost result buf.now }
-        ensures bytes { WriteAppends (T.contents (inner_of self.old)) (T.contents (inner_of self.new)) result buf.now }
-        ensures failed { has_failed self.new ≡ (has_failed self.old || (is_err result || gives_none result (length buf.now))) }
+        ensures bytes { WriteAppends (T.contents (inner_of self.old)) (T.contents (inner_of self.new))
+            result buf.now }
+        ensures failed { has_failed self.new
+            ≡ (has_failed self.old || (is_err result || gives_none result (length buf.now))) }
         ensures ended { has_ended self.new ≡ has_ended self.old }
         ensures reads { reads_of self.new ≡ reads_of self.old }
     {

@@ -16,7 +16,7 @@ loop-turn-init g c =
       input_sound = c.requires.input_sound;
       not_ended = c.requires.not_ended;
       made = c.requires.no_read;
-      output_sound = c.requires.output_sound
+      output_sound = c.requires.output_sound;
     }
 
 pub returns-in_default-clause-cut_off : goal.returns-in_default-clause-cut_off
@@ -79,7 +79,7 @@ loop-turn-preserved g c =
       input_sound = search rules;
       not_ended = search (rules, tests);
       made = search rules;
-      output_sound = search rules
+      output_sound = search rules;
     }
 
 pub returns-clause-cut_off : goal.returns-clause-cut_off

@@ -14,5 +14,5 @@ invariant-loop-turn g l = record {
   input_sound : has_failed l.input ≡ false;
   not_ended : has_ended l.input ≡ false;
   made : reads_of l.input ≡ l._turn;
-  output_sound : has_failed l.output ≡ false
+  output_sound : has_failed l.output ≡ false;
 }

@@ -18,7 +18,7 @@ returns-clause-ok g c =
       taken = record {
         front = takes.front;
         splits = takes.splits;
-        advances = Advances-sent step _ _ _ _ takes.advances (Serves-sent step _ _ refl refl c.in_ok-settle.ensures.ok c.in_ok-settle.ensures.empty) refl
+        advances = Advances-sent step _ _ _ _ takes.advances (Serves-sent step _ _ refl refl c.in_ok-settle.ensures.ok c.in_ok-settle.ensures.empty) refl;
       };
-      spent = c.in_ok-rest.ensures.ok.spent
+      spent = c.in_ok-rest.ensures.ok.spent;
     }

@@ -16,5 +16,5 @@ loop-alloc-preserved g c = record {
   takes = TakesFront-more g.A.Answerer.step _ _ _ _ _ _ c.loop-alloc.invariant.takes c.in_ok-rest.ensures.ok;
   may_end = c.in_ok-rest.ensures.may_end;
   most = c.take_piece.ensures.most ∙ c.loop-alloc.invariant.most;
-  flag = search rules
+  flag = search rules;
 }

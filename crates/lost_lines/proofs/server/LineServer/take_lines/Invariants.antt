@@ -8,7 +8,7 @@ invariant-loop-alloc g l = record {
   takes : TakesFront g.A.Answerer.step (point_of l.initial.answerer (g.W.Write.contents (inner_of l.initial.output)) l.initial.self) (point_of l.answerer (g.W.Write.contents (inner_of l.output)) l.self) l.chunk l.rest;
   may_end : MayEnd l.self;
   most : server_most l.self ≡ server_most l.initial.self;
-  flag : has_failed l.output ≡ has_failed l.initial.output
+  flag : has_failed l.output ≡ has_failed l.initial.output;
 }
 
 abbrev pub decreases-loop-alloc : goal.decreases-loop-alloc

@@ -10,7 +10,7 @@ pub returns-in_default-clause-ok : goal.returns-in_default-clause-ok
 returns-in_default-clause-ok g c = record {
   front = c.args.bytes.now;
   splits = rw (take_rest, drop_all (length c.args.bytes.now) c.args.bytes.now (omega arith)) (sym (append-nil c.args.bytes.now));
-  advances = Advances-run g.A.Answerer.step _ _ _ (Serves-none g.A.Answerer.step _ _ refl refl refl refl) c.take.ensures
+  advances = Advances-run g.A.Answerer.step _ _ _ (Serves-none g.A.Answerer.step _ _ refl refl refl refl) c.take.ensures;
 }
 
 pub take-requires-2 : goal.take-requires-2
@@ -33,5 +33,5 @@ returns-clause-ok g c =
     record {
       front = take c.in-Some.end c.args.bytes.now ++ newline ∷ [];
       splits = rw take_rest (split_at_first c.args.bytes.now c.in-Some.end high c.in-Some.ensures.1);
-      advances = Advances-append step _ _ _ _ _ taken (Advances-line step _ _ c.in_ok-end_line.ensures.ok c.end_line.ensures.cutter)
+      advances = Advances-append step _ _ _ _ _ taken (Advances-line step _ _ c.in_ok-end_line.ensures.ok c.end_line.ensures.cutter);
     }
