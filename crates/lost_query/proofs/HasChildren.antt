@@ -18,17 +18,13 @@ pub record HasChildren (q : Option Service) (ms : List Mapping) (services : List
   pub all : AreServices services
   pub are : services ≡ children_in q ms
 
--- over no mapping there are none
-pub HasChildren-none : (q : Option Service) (services : List Service) → services ≡ [] → HasChildren q [] services
-HasChildren-none q services none = record { all = subst AreServices (sym none) tt; are = none }
-
 -- a service that is found comes first
 with_some-ascending_by : (found : Option Service) (services : List Service) → with_some found (ascending_by service_text services) ≡ ascending_by service_text (cons_option found services)
 with_some-ascending_by None services = refl
 with_some-ascending_by (Some s) services = refl
 
 -- one more mapping
-pub HasChildren-more : (q : Option Service) (m : Mapping) (ms : List Mapping) (old new : List Service) → HasChildren q ms old → AreServices new → new ≡ with_some (child q m.service) old → HasChildren q (m ∷ ms) new
+HasChildren-more : (q : Option Service) (m : Mapping) (ms : List Mapping) (old new : List Service) → HasChildren q ms old → AreServices new → new ≡ with_some (child q m.service) old → HasChildren q (m ∷ ms) new
 HasChildren-more q m ms old new before all added =
     let found = child q m.service in
     record {
@@ -37,7 +33,7 @@ HasChildren-more q m ms old new before all added =
     }
 
 -- what stands at a place comes before what follows it
-pub drop-slice_get : {Thing : Type 0} (xs : List Thing) (i : ℕ) (x : Thing) → slice_get xs i ≡ Some x → drop i xs ≡ x ∷ drop (suc i) xs
+drop-slice_get : {Thing : Type 0} (xs : List Thing) (i : ℕ) (x : Thing) → slice_get xs i ≡ Some x → drop i xs ≡ x ∷ drop (suc i) xs
 drop-slice_get [] i x is = absurd (cc)
 drop-slice_get (y ∷ ys) zero x is = ap (λ o. unwrap_or o y ∷ ys) is
 drop-slice_get (y ∷ ys) (suc i) x is = drop-slice_get ys i x is

@@ -6,7 +6,7 @@ ghost use Rattle.lost_query.specs.Place.{place_of};
 
 use crate::holdings::Holdings;
 use crate::place::Place;
-use crate::services::children::{add_child, list};
+use crate::services::children::{add_child, into_list};
 use lost_mapping::Moment;
 use lost_urn::ServiceUrn;
 use std::alloc::{AllocError, Global};
@@ -27,11 +27,13 @@ pub(crate) fn services_at<H: Holdings>(
         found.items ≡ services (H.book holdings.now) moment.now (place_of place.now) (option_copied above.entry)) }
 {
     let positions = holdings.holding(moment, place)?;
+
+    // The set puts them in order, so the order of the search is free: the definition begins with the last one.
     let mut children = BTreeSet::new(alloc);
     for position in positions.iter().rev() {
         add_child(&mut children, above, holdings.mapping(*position))?;
     }
-    list(alloc, children)
+    into_list(alloc, children)
 }
 
 /// The services just below one, or the topmost, of all live mappings, defaults too, in the order of their texts, each
@@ -53,5 +55,8 @@ pub(crate) fn services_anywhere<H: Holdings>(
         }
         add_child(&mut children, above, mapping)?;
     }
-    list(alloc, children)
+    into_list(alloc, children)
 }
+
+#[cfg(test)]
+mod tests;

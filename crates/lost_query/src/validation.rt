@@ -102,3 +102,6 @@ fn make_validation(
         valid: names_of(alloc, valid)?,
     })
 }
+
+#[cfg(test)]
+mod tests;

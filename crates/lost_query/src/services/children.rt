@@ -46,7 +46,7 @@ pub(super) fn add_child(
 }
 
 /// The children that were found, in the order of their texts, or want of memory.
-pub(super) fn list(
+pub(super) fn into_list(
     alloc: Global,
     children: BTreeSet<ServiceUrn>,
 ) -> Result<Vec<ServiceUrn>, AllocError>

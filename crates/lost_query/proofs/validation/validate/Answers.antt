@@ -17,13 +17,13 @@ returns g c =
     let unchecked = c.deref-5.result.now in
     let named = map element_name in
     let whole : ◌≡◌ {A = Validation} (record { invalid = named invalid; unchecked = named unchecked ++ others_of address; valid = named c.deref-6.result.now }) (validation book c.args.moment.now c.args.service.now c.args.found.now address) =
-        validation_is book c.args.moment.now c.args.service.now c.args.found.now address (seen references) valid others invalid unchecked
-        (c.deref.ensures.value ∙ c.in_ok-valid.ensures.valid)
-        (c.deref-3.ensures.value ∙ c.in_ok-valid.ensures.others)
-        c.in_ok-valid.ensures.unknown
-        (ap seen c.deref-2.ensures.value ∙ c.in_ok-references.ensures)
-        (c.deref-4.ensures.value ∙ c.in_ok-invalid.ensures.invalid)
-        (c.deref-5.ensures.value ∙ c.in_ok-invalid.ensures.unchecked)
-        (named invalid) (named unchecked ++ others_of address) (named c.deref-6.result.now)
-        refl refl (ap named (c.deref-6.ensures.value ∙ sym c.deref.ensures.value)) in
+    validation_is book c.args.moment.now c.args.service.now c.args.found.now address (seen references) valid others invalid unchecked
+    (c.deref.ensures.value ∙ c.in_ok-valid.ensures.valid)
+    (c.deref-3.ensures.value ∙ c.in_ok-valid.ensures.others)
+    c.in_ok-valid.ensures.unknown
+    (ap seen c.deref-2.ensures.value ∙ c.in_ok-references.ensures)
+    (c.deref-4.ensures.value ∙ c.in_ok-invalid.ensures.invalid)
+    (c.deref-5.ensures.value ∙ c.in_ok-invalid.ensures.unchecked)
+    (named invalid) (named unchecked ++ others_of address) (named c.deref-6.result.now)
+    refl refl (ap named (c.deref-6.ensures.value ∙ sym c.deref.ensures.value)) in
     search rules
