@@ -8,3 +8,6 @@ mod replies;
 
 pub use replaying::replay;
 pub use lost_lines::{Counts, ServeError, Turns, Watched};
+
+#[cfg(test)]
+mod tests;

@@ -35,3 +35,6 @@ fn run<R: Env + Print + Eprint + Input + AllocGlobal>(rt: &R) -> Result<(), Trou
         Err(error) => trouble::show(rt, &error),
     }
 }
+
+#[cfg(test)]
+mod tests;

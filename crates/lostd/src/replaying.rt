@@ -23,7 +23,7 @@ pub(crate) fn replay_standard_streams<R: Print + Input + AllocGlobal>(
 }
 
 /// The server's name.
-fn name_of(alloc: Global, text: &str) -> Result<Source, Trouble> {
+pub(crate) fn name_of(alloc: Global, text: &str) -> Result<Source, Trouble> {
     match Source::parse(alloc, text.as_bytes()) {
         Ok(name) => Ok(name),
         Err(SourceError::Bad) => Err(Trouble::NAME),
@@ -32,7 +32,7 @@ fn name_of(alloc: Global, text: &str) -> Result<Source, Trouble> {
 }
 
 /// The moment of every answer.
-fn moment_of(alloc: Global, text: &str) -> Result<Moment, Trouble> {
+pub(crate) fn moment_of(alloc: Global, text: &str) -> Result<Moment, Trouble> {
     match Stamp::parse(alloc, text.as_bytes()) {
         Ok(stamp) => Ok(stamp.moment()),
         Err(StampError::Bad) => Err(Trouble::NOW),

@@ -14,7 +14,7 @@ const COMMAND_LINE: u8 = 2;
 #[derive(Drop)]
 pub(crate) struct Trouble {
     text: &'static str,
-    status: u8,
+    pub(crate) status: u8,
 }
 
 impl Trouble {

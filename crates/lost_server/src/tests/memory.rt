@@ -1,0 +1,47 @@
+//! Refused memory: the line that met it is answered so, and counts for nothing else.
+use super::fakes::{REPLIES, ROW, lines, replies, run, sink};
+use crate::{ServeError, Turns};
+use std::alloc::{AllocError, Global};
+use std::test::Fail;
+
+const INTERNAL: &[u8] = b"{\"errors\":{\"error\":\"internalError\"}}";
+
+const MEMORY: &[u8] = b"{\"refused\":{\"code\":20,\"name\":\"Memory\"}}";
+
+/// The lines of a text but one, each with its byte 10.
+fn without(alloc: Global, text: &[u8], left_out: usize) -> Result<Vec<u8>, AllocError> {
+    let mut kept = Vec::new(alloc);
+    for (number, line) in text.split(|byte| *byte == b'\n').enumerate() {
+        if number != left_out && !line.is_empty() {
+            kept.extend_from_slice(line)?;
+            kept.push(b'\n')?;
+        }
+    }
+    Ok(kept)
+}
+
+/// Which line of the replies says that memory was refused.
+fn refused_line(text: &[u8]) -> Option<usize> {
+    text.split(|byte| *byte == b'\n')
+        .position(|line| line == INTERNAL || line == MEMORY)
+}
+
+/// Run with each allocation refused in turn: the replies are those of the row, or those of the row without the line that
+/// met the refusal, which is answered `internalError` or code 20.
+#[test]
+fn a_refused_growth_marks_one_line(rt: HostRuntime) -> Result<(), Fail> {
+    let outcome = run(rt.alloc(), lines(ROW.as_bytes()), sink(rt.alloc())?, Turns::USUAL).ok_or("memory")?;
+    if outcome.result == Err(ServeError::Memory) {
+        assert!(rt; outcome.text.is_empty());
+        return Ok(());
+    }
+    assert!(rt; outcome.result.is_ok());
+    let text = outcome.text.as_slice();
+    let Some(marked) = refused_line(text) else {
+        assert_eq!(rt; text, REPLIES.as_bytes());
+        return Ok(());
+    };
+    let others = replies(rt.alloc(), without(rt.alloc(), ROW.as_bytes(), marked)?.as_slice()).ok_or("a fault")?;
+    assert_eq!(rt; without(rt.alloc(), text, marked)?.as_slice(), others.as_slice());
+    Ok(())
+}
