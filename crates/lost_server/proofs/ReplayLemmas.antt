@@ -35,9 +35,13 @@ module _ (name : Text) (t : Instant) where
   run_of_books [] [] old new named timed run = ap (λ (r : Replayer). r.books) run
   run_of_books [] (reply ∷ replies) old new named timed run = absurd run
   run_of_books (line ∷ lines) [] old new named timed run = absurd run
-  run_of_books (line ∷ lines) (reply ∷ replies) old new named timed (cut, next, is_cut, step, rest) =
-      (cut, next.books, is_cut, step_of_books old next cut reply named timed step,
-        run_of_books lines replies next new (step.name_stays ∙ named) (step.moment_stays ∙ timed) rest)
+  run_of_books (line ∷ lines) (reply ∷ replies) old new named timed (cut, next, is_cut, step, rest) = (
+    cut,
+    next.books,
+    is_cut,
+    step_of_books old next cut reply named timed step,
+    run_of_books lines replies next new (step.name_stays ∙ named) (step.moment_stays ∙ timed) rest,
+  )
 
   module _ (old new : Replayer) (named : old.name.now ≡ name) (timed : old.moment ≡ t) (fresh : old.books ≡ no_books) where
     -- a run from the start is counted

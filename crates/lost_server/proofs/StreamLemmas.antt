@@ -118,7 +118,7 @@ pub books_push : (before : List Line) (line : Line) (edit : Option Edit) (commit
 books_push before line edit commits edit_is commit_is =
     let staged : accepted (before ++ line ∷ []) ≡ keep_some (accepted before) edit = accepted_push before line ∙ ap (keep_some (accepted before)) edit_is in
     let shown : published (before ++ line ∷ []) ≡ cond commits (keep_some (accepted before) edit) (published before) =
-        published_push before line ∙ ap (λ b. cond b (accepted (before ++ line ∷ [])) (published before)) commit_is ∙ ap (λ es. cond commits es (published before)) staged in
+    published_push before line ∙ ap (λ b. cond b (accepted (before ++ line ∷ [])) (published before)) commit_is ∙ ap (λ es. cond commits es (published before)) staged in
     ap (λ es. record { published = book es; staged = book (accepted (before ++ line ∷ [])) }) shown
     ∙ ap (λ es. record { published = book (cond commits (keep_some (accepted before) edit) (published before)); staged = book es }) staged
 

@@ -70,7 +70,9 @@ impl Books {
     fn pending(&self) -> u64
         ensures { result ≡ self.now.staged.edits - self.now.published.edits }
     {
-        self.staged.edition().saturating_sub(self.published.edition())
+        self.staged
+            .edition()
+            .saturating_sub(self.published.edition())
     }
 
     /// Publishes all that is staged, whole, or changes nothing for want of memory.

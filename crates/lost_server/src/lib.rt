@@ -2,12 +2,12 @@
 #![tactic(auto)]
 
 mod books;
-mod replaying;
 mod replayer;
+mod replaying;
 mod replies;
 
-pub use replaying::replay;
 pub use lost_lines::{Counts, ServeError, Turns, Watched};
+pub use replaying::replay;
 
 #[cfg(test)]
 mod tests;

@@ -17,20 +17,27 @@ fn main(rt: HostRuntime) -> ExitCode {
     }
 }
 
-/// Reads the command line, and does what it says.
+/// Reads the words of the command line, and does what they say.
 fn run<R: Env + Print + Eprint + Input + AllocGlobal>(rt: &R) -> Result<(), Trouble> {
     let mut words = Vec::new(rt.alloc());
-    for word in env::args(rt).map_err(|_| Trouble::WORDS)? {
+    for word in env::args(rt).map_err(|_| Trouble::Words)? {
         words.push(word).map_err(|_| Trouble::MEMORY)?;
     }
-    let matches = match arguments::command(rt.alloc()) {
-        Ok(command) => command.try_get_matches_from(words.as_slice()),
-        Err(_) => return Err(Trouble::MEMORY),
+    obey(rt, words.as_slice())
+}
+
+/// Does what the words of the command line say.
+fn obey<'a, R: Print + Eprint + Input + AllocGlobal>(
+    rt: &R,
+    words: &'a [String],
+) -> Result<(), Trouble> {
+    let Ok(command) = arguments::command(rt.alloc()) else {
+        return Err(Trouble::MEMORY);
     };
-    match matches {
+    match command.try_get_matches_from(words) {
         Ok(matches) => match matches.subcommand() {
             Some((_, given)) => replaying::replay_standard_streams(rt, given),
-            None => Err(Trouble::WORDS),
+            None => Err(Trouble::Words),
         },
         Err(error) => trouble::show(rt, &error),
     }

@@ -18,7 +18,7 @@ pub(crate) fn replay_standard_streams<R: Print + Input + AllocGlobal>(
     let mut output = Watched::new(io::writer(rt));
     match replay(alloc, &mut input, &mut output, &name, &moment, Turns::USUAL) {
         Ok(_) => Ok(()),
-        Err(fault) => Err(Trouble::of_run(fault)),
+        Err(fault) => Err(Trouble::Run(fault)),
     }
 }
 
@@ -26,7 +26,7 @@ pub(crate) fn replay_standard_streams<R: Print + Input + AllocGlobal>(
 pub(crate) fn name_of(alloc: Global, text: &str) -> Result<Source, Trouble> {
     match Source::parse(alloc, text.as_bytes()) {
         Ok(name) => Ok(name),
-        Err(SourceError::Bad) => Err(Trouble::NAME),
+        Err(SourceError::Bad) => Err(Trouble::Name),
         Err(SourceError::Memory) => Err(Trouble::MEMORY),
     }
 }
@@ -35,7 +35,7 @@ pub(crate) fn name_of(alloc: Global, text: &str) -> Result<Source, Trouble> {
 pub(crate) fn moment_of(alloc: Global, text: &str) -> Result<Moment, Trouble> {
     match Stamp::parse(alloc, text.as_bytes()) {
         Ok(stamp) => Ok(stamp.moment()),
-        Err(StampError::Bad) => Err(Trouble::NOW),
+        Err(StampError::Bad) => Err(Trouble::Now),
         Err(StampError::Memory) => Err(Trouble::MEMORY),
     }
 }

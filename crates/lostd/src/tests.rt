@@ -18,34 +18,66 @@ fn mistake(alloc: Global, words: &'static [&'static str]) -> Option<ErrorKind> {
 
 #[test]
 fn mistakes_of_the_command_line(rt: HostRuntime) {
-    assert_eq!(rt; mistake(rt.alloc(), &["lostd"]), Some(ErrorKind::MissingSubcommand));
-    assert_eq!(rt; mistake(rt.alloc(), &["lostd", "answer"]), Some(ErrorKind::InvalidSubcommand));
-    assert_eq!(rt; mistake(rt.alloc(), &["lostd", "replay"]), Some(ErrorKind::MissingRequiredArgument));
-    assert_eq!(rt; mistake(rt.alloc(), &["lostd", "--help"]), Some(ErrorKind::DisplayHelp));
-    assert_eq!(rt; mistake(rt.alloc(), &["lostd", "--version"]), Some(ErrorKind::DisplayVersion));
-    assert_eq!(rt; mistake(rt.alloc(), &["lostd", "replay", "--name", "a", "--now", "b"]), None);
+    assert_eq!(rt;
+        mistake(rt.alloc(), &["lostd"]),
+        Some(ErrorKind::MissingSubcommand)
+    );
+    assert_eq!(rt;
+        mistake(rt.alloc(), &["lostd", "answer"]),
+        Some(ErrorKind::InvalidSubcommand)
+    );
+    assert_eq!(rt;
+        mistake(rt.alloc(), &["lostd", "replay"]),
+        Some(ErrorKind::MissingRequiredArgument)
+    );
+    assert_eq!(rt;
+        mistake(rt.alloc(), &["lostd", "--help"]),
+        Some(ErrorKind::DisplayHelp)
+    );
+    assert_eq!(rt;
+        mistake(rt.alloc(), &["lostd", "--version"]),
+        Some(ErrorKind::DisplayVersion)
+    );
+    assert_eq!(rt;
+        mistake(
+            rt.alloc(),
+            &["lostd", "replay", "--name", "a", "--now", "b"]
+        ),
+        None
+    );
 }
 
 #[test]
 fn bad_names_and_times(rt: HostRuntime) -> Result<(), Fail> {
     assert_eq!(rt; status(name_of(rt.alloc(), "a..b").err()), Some(2));
     assert_eq!(rt; status(name_of(rt.alloc(), "lost.example").err()), None);
-    assert_eq!(rt; status(moment_of(rt.alloc(), "2026-02-29T00:00:00Z").err()), Some(2));
-    assert_eq!(rt; status(moment_of(rt.alloc(), "2026-01-01T00:00:00Z").err()), None);
+    assert_eq!(rt;
+        status(moment_of(rt.alloc(), "2026-02-29T00:00:00Z").err()),
+        Some(2)
+    );
+    assert_eq!(rt;
+        status(moment_of(rt.alloc(), "2026-01-01T00:00:00Z").err()),
+        None
+    );
     Ok(())
 }
 
 #[test]
 fn faults_of_the_run(rt: HostRuntime) {
-    for fault in [ServeError::Read, ServeError::Write, ServeError::TurnsSpent, ServeError::Memory] {
-        assert_eq!(rt; status(Some(Trouble::of_run(fault))), Some(1));
+    for fault in [
+        ServeError::Read,
+        ServeError::Write,
+        ServeError::TurnsSpent,
+        ServeError::Memory,
+    ] {
+        assert_eq!(rt; status(Some(Trouble::Run(fault))), Some(1));
     }
 }
 
 /// The exit status of trouble.
 fn status(trouble: Option<Trouble>) -> Option<u8> {
     match trouble {
-        Some(trouble) => Some(trouble.status),
+        Some(trouble) => Some(trouble.status()),
         None => None,
     }
 }

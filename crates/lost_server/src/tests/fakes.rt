@@ -9,7 +9,8 @@ use std::io::{Read, Write};
 pub(super) const NEVER: u64 = u64::MAX;
 
 /// The lines of the row replace-withdraw, and its replies.
-pub(super) const ROW: &str = "{\"publish\":{\"expires\":\"NO-EXPIRATION\",\"key\":\"A-1\",\"lastUpdated\":\"2025-12-01T00:00:00Z\",\"service\":\"urn:service:sos.police\",\"serviceBoundary\":[{\"polygon\":[[0,0],[0,10000000],[10000000,10000000],[10000000,0],[0,0]],\"profile\":\"geodetic-2d\"}],\"source\":\"map.example\",\"sourceId\":\"A\",\"uri\":[\"sip:A@map.example\"]}}
+pub(super) const ROW: &str =
+    "{\"publish\":{\"expires\":\"NO-EXPIRATION\",\"key\":\"A-1\",\"lastUpdated\":\"2025-12-01T00:00:00Z\",\"service\":\"urn:service:sos.police\",\"serviceBoundary\":[{\"polygon\":[[0,0],[0,10000000],[10000000,10000000],[10000000,0],[0,0]],\"profile\":\"geodetic-2d\"}],\"source\":\"map.example\",\"sourceId\":\"A\",\"uri\":[\"sip:A@map.example\"]}}
 {\"publish\":{\"expires\":\"NO-EXPIRATION\",\"key\":\"D-1\",\"lastUpdated\":\"2025-12-01T00:00:00Z\",\"service\":\"urn:service:sos.police\",\"serviceBoundary\":[{\"polygon\":[[0,0],[0,10000000],[10000000,10000000],[10000000,0],[0,0]],\"profile\":\"geodetic-2d\"}],\"source\":\"map.example\",\"sourceId\":\"D\",\"uri\":[\"sip:D@map.example\"]}}
 {\"commit\":{}}
 {\"withdraw\":{\"lastUpdated\":\"2025-12-04T00:00:00Z\",\"source\":\"map.example\",\"sourceId\":\"D\"}}
@@ -101,7 +102,7 @@ pub(super) struct Outcome {
 }
 
 /// All of a text at once, with no fault.
-pub(super) fn lines(text: &[u8]) -> Lines<'_> {
+pub(super) fn make_lines(text: &[u8]) -> Lines<'_> {
     Lines {
         text,
         most: usize::MAX,
@@ -111,7 +112,7 @@ pub(super) fn lines(text: &[u8]) -> Lines<'_> {
 }
 
 /// A writer with no fault.
-pub(super) fn sink(alloc: Global) -> Result<Sink, AllocError> {
+pub(super) fn make_sink(alloc: Global) -> Result<Sink, AllocError> {
     Ok(Sink {
         text: Vec::with_capacity(alloc, 4096)?,
         most: usize::MAX,
@@ -141,7 +142,12 @@ pub(super) fn run<R: Read + Drop>(
 
 /// What a replay of a text writes, or nothing where it ends in a fault.
 pub(super) fn replies(alloc: Global, text: &[u8]) -> Option<Vec<u8>> {
-    let outcome = run(alloc, lines(text), sink(alloc).ok()?, Turns::USUAL)?;
+    let outcome = run(
+        alloc,
+        make_lines(text),
+        make_sink(alloc).ok()?,
+        Turns::USUAL,
+    )?;
     match outcome.result {
         Ok(_) => Some(outcome.text),
         Err(_) => None,

@@ -1,22 +1,22 @@
 //! Readers and writers that fail, turns that are spent, and writers that take a byte at a time.
-use super::fakes::{NOT_IMPLEMENTED, Outcome, REPLIES, ROW, Spaces, lines, run, sink};
+use super::fakes::{NOT_IMPLEMENTED, Outcome, REPLIES, ROW, Spaces, make_lines, make_sink, run};
 use crate::{ServeError, Turns};
 use std::alloc::Global;
 use std::test::Fail;
 
 /// Reads of so many bytes, one of which fails.
 fn failing_read(alloc: Global, failing: u64) -> Option<Outcome> {
-    let mut reader = lines(ROW.as_bytes());
+    let mut reader = make_lines(ROW.as_bytes());
     reader.most = 100;
     reader.failing = failing;
-    run(alloc, reader, sink(alloc).ok()?, Turns::USUAL)
+    run(alloc, reader, make_sink(alloc).ok()?, Turns::USUAL)
 }
 
 /// One write that fails, or takes no byte.
 fn failing_write(alloc: Global, failing: u64, takes_none: bool) -> Option<Outcome> {
-    let mut reader = lines(ROW.as_bytes());
+    let mut reader = make_lines(ROW.as_bytes());
     reader.most = 100;
-    let mut writer = sink(alloc).ok()?;
+    let mut writer = make_sink(alloc).ok()?;
     writer.failing = failing;
     writer.takes_none = takes_none;
     run(alloc, reader, writer, Turns::USUAL)
@@ -46,7 +46,10 @@ fn a_failed_write_leaves_a_front(rt: HostRuntime) -> Result<(), Fail> {
         for failing in 1..7u64 {
             let outcome = failing_write(rt.alloc(), failing, takes_none).ok_or("memory")?;
             let served = outcome.result.is_ok() && outcome.text.as_slice() == REPLIES.as_bytes();
-            assert!(rt; served || is_front(&outcome, ServeError::Write), "write {failing}");
+            assert!(rt;
+                served || is_front(&outcome, ServeError::Write),
+                "write {failing}"
+            );
         }
         let first = failing_write(rt.alloc(), 1, takes_none).ok_or("memory")?;
         assert!(rt; is_front(&first, ServeError::Write) && first.text.is_empty());
@@ -56,9 +59,9 @@ fn a_failed_write_leaves_a_front(rt: HostRuntime) -> Result<(), Fail> {
 
 #[test]
 fn a_byte_at_a_time_is_the_same_text(rt: HostRuntime) -> Result<(), Fail> {
-    let mut reader = lines(ROW.as_bytes());
+    let mut reader = make_lines(ROW.as_bytes());
     reader.most = 1;
-    let mut writer = sink(rt.alloc())?;
+    let mut writer = make_sink(rt.alloc())?;
     writer.most = 1;
     let outcome = run(rt.alloc(), reader, writer, Turns::USUAL).ok_or("memory")?;
     assert!(rt; outcome.result.is_ok());
@@ -68,13 +71,20 @@ fn a_byte_at_a_time_is_the_same_text(rt: HostRuntime) -> Result<(), Fail> {
 
 #[test]
 fn turns_are_spent(rt: HostRuntime) -> Result<(), Fail> {
-    let turns = Turns { lines: 10, reads: 1_000 };
-    let outcome = run(rt.alloc(), Spaces, sink(rt.alloc())?, turns).ok_or("memory")?;
+    let turns = Turns {
+        lines: 10,
+        reads: 1_000,
+    };
+    let outcome = run(rt.alloc(), Spaces, make_sink(rt.alloc())?, turns).ok_or("memory")?;
     assert_eq!(rt; outcome.result, Err(ServeError::TurnsSpent));
     assert!(rt; outcome.text.is_empty());
-    let turns = Turns { lines: 1, reads: 100 };
-    let two = b"{\"findService\":{\"location\":[{\"id\":\"p\",\"pos\":[0,0],\"profile\":\"geodetic-2d\"}],\"service\":\"urn:service:sos\"}}\n{}\n";
-    let outcome = run(rt.alloc(), lines(two), sink(rt.alloc())?, turns).ok_or("memory")?;
+    let turns = Turns {
+        lines: 1,
+        reads: 100,
+    };
+    let two =
+        b"{\"findService\":{\"location\":[{\"id\":\"p\",\"pos\":[0,0],\"profile\":\"geodetic-2d\"}],\"service\":\"urn:service:sos\"}}\n{}\n";
+    let outcome = run(rt.alloc(), make_lines(two), make_sink(rt.alloc())?, turns).ok_or("memory")?;
     assert_eq!(rt; outcome.result, Err(ServeError::TurnsSpent));
     assert_eq!(rt; outcome.text.as_slice(), NOT_IMPLEMENTED.as_bytes());
     Ok(())

@@ -1,5 +1,5 @@
 //! Refused memory: the line that met it is answered so, and counts for nothing else.
-use super::fakes::{REPLIES, ROW, lines, replies, run, sink};
+use super::fakes::{REPLIES, ROW, make_lines, make_sink, replies, run};
 use crate::{ServeError, Turns};
 use std::alloc::{AllocError, Global};
 use std::test::Fail;
@@ -30,7 +30,13 @@ fn refused_line(text: &[u8]) -> Option<usize> {
 /// met the refusal, which is answered `internalError` or code 20.
 #[test]
 fn a_refused_growth_marks_one_line(rt: HostRuntime) -> Result<(), Fail> {
-    let outcome = run(rt.alloc(), lines(ROW.as_bytes()), sink(rt.alloc())?, Turns::USUAL).ok_or("memory")?;
+    let outcome = run(
+        rt.alloc(),
+        make_lines(ROW.as_bytes()),
+        make_sink(rt.alloc())?,
+        Turns::USUAL,
+    )
+    .ok_or("memory")?;
     if outcome.result == Err(ServeError::Memory) {
         assert!(rt; outcome.text.is_empty());
         return Ok(());
@@ -41,7 +47,14 @@ fn a_refused_growth_marks_one_line(rt: HostRuntime) -> Result<(), Fail> {
         assert_eq!(rt; text, REPLIES.as_bytes());
         return Ok(());
     };
-    let others = replies(rt.alloc(), without(rt.alloc(), ROW.as_bytes(), marked)?.as_slice()).ok_or("a fault")?;
-    assert_eq!(rt; without(rt.alloc(), text, marked)?.as_slice(), others.as_slice());
+    let others = replies(
+        rt.alloc(),
+        without(rt.alloc(), ROW.as_bytes(), marked)?.as_slice(),
+    )
+    .ok_or("a fault")?;
+    assert_eq!(rt;
+        without(rt.alloc(), text, marked)?.as_slice(),
+        others.as_slice()
+    );
     Ok(())
 }
