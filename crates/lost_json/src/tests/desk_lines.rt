@@ -12,7 +12,7 @@ fn mapping() -> &'static [(&'static str, &'static str)] {
         ("sourceId", r#""A""#),
         ("lastUpdated", r#""2025-12-01T00:00:00Z""#),
         ("expires", r#""NO-CACHE""#),
-        ("service", r#""urn:service:SOS.police""#),
+        ("service", r#""urn:service:S""#),
         ("uri", r#"["sip:a@map.example"]"#),
         ("serviceBoundary", SQUARE),
         ("key", r#""A-1""#),
@@ -49,10 +49,35 @@ fn push_member(line: &mut String, name: &str, value: &str) -> Result<(), AllocEr
     Ok(())
 }
 
-/// What a publication orders, with this value for one of its members.
-fn publishes(alloc: Global, changed: &str, value: &str) -> Result<String, Fail> {
-    let line = line(alloc, "publish", mapping(), changed, value)?;
-    order(alloc, line.as_bytes())
+/// How many of these lines, from the first on, order what stands beside them.
+fn count_orders(alloc: Global, cases: &[(&str, &str)]) -> Result<usize, Fail> {
+    let mut count = 0usize;
+    for case in cases {
+        if order(alloc, case.0.as_bytes())?.as_str() != case.1 {
+            return Ok(count);
+        }
+        count = count.saturating_add(1);
+    }
+    Ok(count)
+}
+
+/// How many of these values, from the first on, make of the line of this name and these members what stands beside
+/// them.
+fn count_changed(
+    alloc: Global,
+    name: &str,
+    members: &[(&str, &str)],
+    cases: &[(&str, &str, &str)],
+) -> Result<usize, Fail> {
+    let mut count = 0usize;
+    for case in cases {
+        let line = line(alloc, name, members, case.0, case.1)?;
+        if order(alloc, line.as_bytes())?.as_str() != case.2 {
+            return Ok(count);
+        }
+        count = count.saturating_add(1);
+    }
+    Ok(count)
 }
 
 fn lines() -> &'static [(&'static str, &'static str)] {
@@ -65,6 +90,15 @@ fn lines() -> &'static [(&'static str, &'static str)] {
         (r#"{"publish":{}}"#, "refused 1"),
         (r#"{"replace":[]}"#, "refused 1"),
         (r#"{"withdraw":"A"}"#, "refused 1"),
+        (
+            r#"{"withdraw":{"lastUpdated":"","source":"","sourceId":""}}"#,
+            "refused 2",
+        ),
+        (r#"{"publish":{"source":"a..b","expires":1}}"#, "refused 1"),
+        (
+            r#"{"publish":{"default":true,"expires":"NO-EXPIRATION","lastUpdated":"2025-12-01T00:00:00Z","service":"urn:service:sos","source":"map.example","sourceId":"T","uri":["sip:T@map.example"]}}"#,
+            "publish map.example T 2025-12-01T00:00:00Z urn:service:sos 1 - true 0 -",
+        ),
         (r#"{"commit":{},"publish":{}}"#, "other"),
         (r#"{"listServices":{}}"#, "other"),
         (r#"{"Commit":{}}"#, "other"),
@@ -77,14 +111,7 @@ fn lines() -> &'static [(&'static str, &'static str)] {
 
 #[test]
 fn knows_desk_lines(rt: HostRuntime) -> Result<(), Fail> {
-    for case in lines() {
-        assert_eq!(rt;
-            order(rt.alloc(), case.0.as_bytes())?.as_str(),
-            case.1,
-            "{}",
-            case.0
-        );
-    }
+    assert_eq!(rt; count_orders(rt.alloc(), lines())?, lines().len());
     assert_eq!(rt;
         order(rt.alloc(), b"{\"commit\":{\"\xff\":1}}")?.as_str(),
         "other"
@@ -92,171 +119,160 @@ fn knows_desk_lines(rt: HostRuntime) -> Result<(), Fail> {
     Ok(())
 }
 
-#[test]
-fn reads_mappings(rt: HostRuntime) -> Result<(), Fail> {
-    let alloc = rt.alloc();
-    let shown = "map.example A 2025-12-01T00:00:00Z urn:service:sos.police 1 - [5] false 0 A-1";
-    for name in ["publish", "replace"] {
-        let line = line(alloc, name, mapping(), "x", "{}")?;
-        let all = format!(in alloc; "{name} {shown}")?;
-        assert_eq!(rt; order(alloc, line.as_bytes())?, all);
-    }
-    Ok(())
-}
-
-fn options() -> &'static [(&'static str, &'static str, &'static str)] {
+/// A value for a member, and what the mapping is read as.
+fn accepted() -> &'static [(&'static str, &'static str, &'static str)] {
     &[
-        ("serviceNumber", r#""9*1#""#, "1 9*1# [5] false 0 A-1"),
-        ("serviceNumber", "null", "1 - [5] false 0 A-1"),
-        ("uri", r#"["sip:a","tel:1"]"#, "2 - [5] false 0 A-1"),
-        ("default", "false", "1 - [5] false 0 A-1"),
+        (
+            "x",
+            "{}",
+            "replace map.example A 2025-12-01T00:00:00Z urn:service:s 1 - [5] false 0 A-1",
+        ),
+        (
+            "serviceNumber",
+            r#""9*1#""#,
+            "replace map.example A 2025-12-01T00:00:00Z urn:service:s 1 9*1# [5] false 0 A-1",
+        ),
+        (
+            "serviceNumber",
+            "null",
+            "replace map.example A 2025-12-01T00:00:00Z urn:service:s 1 - [5] false 0 A-1",
+        ),
+        (
+            "uri",
+            r#"["sip:a","tel:1"]"#,
+            "replace map.example A 2025-12-01T00:00:00Z urn:service:s 2 - [5] false 0 A-1",
+        ),
+        (
+            "default",
+            "false",
+            "replace map.example A 2025-12-01T00:00:00Z urn:service:s 1 - [5] false 0 A-1",
+        ),
         (
             "displayName",
             r#"[{"lang":"en","text":"x","y":1},{"text":"","lang":""}]"#,
-            "1 - [5] false 2 A-1",
+            "replace map.example A 2025-12-01T00:00:00Z urn:service:s 1 - [5] false 2 A-1",
         ),
         (
             "serviceBoundary",
             r#"[{"pattern":{"country":"US","A1":"NJ"},"profile":"civic"},{"polygon":[[0,0],[0,9],[9,9],[0,0]],"profile":"geodetic-2d"}]"#,
-            "1 - [4] A1=NJ;country=US; false 0 A-1",
+            "replace map.example A 2025-12-01T00:00:00Z urn:service:s 1 - [4] A1=NJ;country=US; false 0 A-1",
         ),
     ]
 }
 
-#[test]
-fn reads_optional_members(rt: HostRuntime) -> Result<(), Fail> {
-    let alloc = rt.alloc();
-    for (name, value, wanted) in options() {
-        let all = format!(in alloc;
-            "publish map.example A 2025-12-01T00:00:00Z urn:service:sos.police {wanted}"
-        )?;
-        assert_eq!(rt; publishes(alloc, name, value)?, all, "{name} {value}");
-    }
-    Ok(())
-}
-
-#[test]
-fn reads_a_default(rt: HostRuntime) -> Result<(), Fail> {
-    let alloc = rt.alloc();
-    let line = line(alloc, "publish", &mapping()[..6], "default", "true")?;
-    assert_eq!(rt;
-        order(alloc, line.as_bytes())?.as_str(),
-        "publish map.example A 2025-12-01T00:00:00Z urn:service:sos.police 1 - true 0 -"
-    );
-    Ok(())
-}
-
 /// A value for a member, and the number of the refusal that comes of it.
-fn refusals() -> &'static [(&'static str, &'static str, u8)] {
+fn refused() -> &'static [(&'static str, &'static str, &'static str)] {
     &[
-        ("source", r#""a..b""#, 2),
-        ("sourceId", r#""""#, 3),
-        ("lastUpdated", r#""2025-12-01""#, 4),
-        ("expires", r#""no-cache""#, 5),
-        ("service", r#""sos""#, 6),
-        ("uri", "[]", 7),
-        ("serviceNumber", r#""""#, 8),
-        ("serviceBoundary", "[1]", 9),
+        ("source", r#""a..b""#, "refused 2"),
+        ("sourceId", r#""""#, "refused 3"),
+        ("lastUpdated", r#""2025-12-01""#, "refused 4"),
+        ("expires", r#""no-cache""#, "refused 5"),
+        ("service", r#""sos""#, "refused 6"),
+        ("uri", "[]", "refused 7"),
+        ("serviceNumber", r#""""#, "refused 8"),
+        ("serviceBoundary", "[1]", "refused 9"),
         (
             "serviceBoundary",
             r#"[{"polygon":[[0,0],[0,9],[0,0]],"profile":"geodetic-2d"}]"#,
-            9,
+            "refused 9",
         ),
         (
             "serviceBoundary",
             r#"[{"polygon":[[0,0],[0,9.5],[9,9],[0,0]],"profile":"geodetic-2d"}]"#,
-            9,
+            "refused 9",
         ),
         (
             "serviceBoundary",
             r#"[{"polygon":[[0,0],[0,9],[9,9],[0,0]],"profile":"x"}]"#,
-            9,
+            "refused 9",
         ),
         (
             "serviceBoundary",
             r#"[{"polygon":[[0,0],[0,9],[9,9],[0,0]]}]"#,
-            9,
+            "refused 9",
         ),
         (
             "serviceBoundary",
             r#"[{"pattern":{"A1":1},"profile":"civic"}]"#,
-            9,
+            "refused 9",
         ),
         (
             "serviceBoundary",
             r#"[{"pattern":{"X":"1"},"profile":"civic"}]"#,
-            9,
+            "refused 9",
         ),
-        ("serviceBoundary", "[]", 10),
-        ("serviceBoundary", "null", 10),
-        ("default", "true", 10),
-        ("key", "null", 12),
-        ("key", r#""""#, 12),
+        ("serviceBoundary", "[]", "refused 10"),
+        ("serviceBoundary", "null", "refused 10"),
+        ("default", "true", "refused 10"),
+        ("key", "null", "refused 12"),
+        ("key", r#""""#, "refused 12"),
     ]
 }
 
-#[test]
-fn refuses_mappings(rt: HostRuntime) -> Result<(), Fail> {
-    let alloc = rt.alloc();
-    for (name, value, code) in refusals() {
-        let all = format!(in alloc; "refused {code}")?;
-        assert_eq!(rt; publishes(alloc, name, value)?, all, "{name} {value}");
-    }
-    Ok(())
-}
-
-/// A member that is missing or of another kind comes before any other check.
-fn bad_members() -> &'static [(&'static str, &'static str)] {
+/// A member that is missing or of another kind.
+fn bad() -> &'static [(&'static str, &'static str, &'static str)] {
     &[
-        ("source", "null"),
-        ("sourceId", "1"),
-        ("lastUpdated", "[]"),
-        ("expires", "null"),
-        ("service", "null"),
-        ("uri", "null"),
-        ("uri", r#""sip:a""#),
-        ("uri", "[1]"),
-        ("serviceNumber", "911"),
-        ("serviceBoundary", "{}"),
-        ("default", r#""false""#),
-        ("displayName", "{}"),
-        ("displayName", "[1]"),
-        ("displayName", r#"[{"lang":"en"}]"#),
-        ("displayName", r#"[{"lang":"en","text":null}]"#),
-        ("key", "1"),
+        ("source", "null", "refused 1"),
+        ("sourceId", "1", "refused 1"),
+        ("lastUpdated", "[]", "refused 1"),
+        ("expires", "null", "refused 1"),
+        ("service", "null", "refused 1"),
+        ("uri", "null", "refused 1"),
+        ("uri", r#""sip:a""#, "refused 1"),
+        ("uri", "[1]", "refused 1"),
+        ("serviceNumber", "911", "refused 1"),
+        ("serviceBoundary", "{}", "refused 1"),
+        ("default", r#""false""#, "refused 1"),
+        ("displayName", "{}", "refused 1"),
+        ("displayName", "[1]", "refused 1"),
+        ("displayName", r#"[{"lang":"en"}]"#, "refused 1"),
+        ("displayName", r#"[{"lang":"en","text":null}]"#, "refused 1"),
+        ("key", "1", "refused 1"),
     ]
 }
 
 #[test]
-fn refuses_bad_members_first(rt: HostRuntime) -> Result<(), Fail> {
-    let alloc = rt.alloc();
-    for (name, value) in bad_members() {
-        assert_eq!(rt;
-            publishes(alloc, name, value)?.as_str(),
-            "refused 1",
-            "{name} {value}"
-        );
-    }
+fn reads_mappings(rt: HostRuntime) -> Result<(), Fail> {
     assert_eq!(rt;
-        order(alloc, br#"{"publish":{"source":"a..b","expires":1}}"#)?.as_str(),
-        "refused 1"
+        count_changed(rt.alloc(), "replace", mapping(), accepted())?,
+        accepted().len()
+    );
+    assert_eq!(rt;
+        count_changed(rt.alloc(), "publish", mapping(), refused())?,
+        refused().len()
+    );
+    assert_eq!(rt;
+        count_changed(rt.alloc(), "publish", mapping(), bad())?,
+        bad().len()
     );
     Ok(())
 }
 
-#[test]
-fn refuses_too_many_names(rt: HostRuntime) -> Result<(), Fail> {
-    let alloc = rt.alloc();
+/// What a mapping with so many display names more than 16 orders.
+fn names(alloc: Global, more: usize) -> Result<String, Fail> {
     let mut names = String::from_str(alloc, "[")?;
-    for _ in 0..16 {
+    for _ in 0..more.saturating_add(15) {
         names.push_str(r#"{"lang":"","text":""},"#)?;
     }
     names.push_str(r#"{"lang":"","text":""}]"#)?;
-    assert_eq!(rt;
-        publishes(alloc, "displayName", &names)?.as_str(),
-        "refused 11"
-    );
+    let line = line(alloc, "publish", mapping(), "displayName", names.as_str())?;
+    order(alloc, line.as_bytes())
+}
+
+#[test]
+fn bounds_display_names(rt: HostRuntime) -> Result<(), Fail> {
+    assert!(rt; names(rt.alloc(), 0)?.as_str() != "refused 11");
+    assert_eq!(rt; names(rt.alloc(), 1)?.as_str(), "refused 11");
     Ok(())
+}
+
+/// The members of a withdrawal.
+fn withdrawal() -> &'static [(&'static str, &'static str)] {
+    &[
+        ("source", r#""Map.Example""#),
+        ("sourceId", r#""A""#),
+        ("lastUpdated", r#""2025-12-01T00:00:00Z""#),
+    ]
 }
 
 fn withdrawals() -> &'static [(&'static str, &'static str, &'static str)] {
@@ -273,22 +289,9 @@ fn withdrawals() -> &'static [(&'static str, &'static str, &'static str)] {
 
 #[test]
 fn reads_withdrawals(rt: HostRuntime) -> Result<(), Fail> {
-    let alloc = rt.alloc();
-    for (name, value, wanted) in withdrawals() {
-        let line = line(alloc, "withdraw", &mapping()[..3], name, value)?;
-        assert_eq!(rt;
-            order(alloc, line.as_bytes())?.as_str(),
-            *wanted,
-            "{name} {value}"
-        );
-    }
     assert_eq!(rt;
-        order(
-            alloc,
-            br#"{"withdraw":{"lastUpdated":"","source":"","sourceId":""}}"#
-        )?
-        .as_str(),
-        "refused 2"
+        count_changed(rt.alloc(), "withdraw", withdrawal(), withdrawals())?,
+        withdrawals().len()
     );
     Ok(())
 }

@@ -21,35 +21,78 @@ fn find(alloc: Global, more: &str, profile: &str, location: &str) -> Result<Stri
     Ok(line)
 }
 
-/// Whether each of these members makes a point or an address what stands beside it.
-fn holds(alloc: Global, profile: &str, cases: &[(&str, &str)]) -> Result<bool, Fail> {
+/// How many of these lines, from the first on, are read as what stands beside them.
+fn count_read(alloc: Global, cases: &[(&str, &str)]) -> Result<usize, Fail> {
+    let mut count = 0usize;
+    for case in cases {
+        if request(alloc, case.0.as_bytes())?.as_str() != case.1 {
+            return Ok(count);
+        }
+        count = count.saturating_add(1);
+    }
+    Ok(count)
+}
+
+/// How many of these members of a location of this profile, from the first on, make what stands beside them.
+fn count_located(alloc: Global, profile: &str, cases: &[(&str, &str)]) -> Result<usize, Fail> {
+    let mut count = 0usize;
     for case in cases {
         let line = find(alloc, "", profile, case.0)?;
-        let read = request(alloc, line.as_bytes())?;
-        let wanted = case.1;
-        let all = format!(in alloc; "find urn:service:s [p {profile} {wanted}] false false path")?;
-        if read != all {
-            return Ok(false);
+        if request(alloc, line.as_bytes())? != found(alloc, profile, case.1, "false false path")? {
+            return Ok(count);
+        }
+        count = count.saturating_add(1);
+    }
+    Ok(count)
+}
+
+/// How many of these members of a request, from the first on, make what stands beside them.
+fn count_wished(alloc: Global, cases: &[(&str, &str)]) -> Result<usize, Fail> {
+    let mut count = 0usize;
+    for case in cases {
+        let line = find(alloc, case.0, "x", "")?;
+        if request(alloc, line.as_bytes())? != found(alloc, "x", "true unreadable", case.1)? {
+            return Ok(count);
+        }
+        count = count.saturating_add(1);
+    }
+    Ok(count)
+}
+
+/// What the line of `find` is read as, or `bad` where that is all that is given.
+fn found(alloc: Global, profile: &str, location: &str, wishes: &str) -> Result<String, AllocError> {
+    if wishes == "bad" {
+        String::from_str(alloc, "bad")
+    } else {
+        format!(in alloc; "find urn:service:s [p {profile} {location}] {wishes}")
+    }
+}
+
+/// The first place at which this line may be cut and is read.
+fn first_read_prefix(alloc: Global, line: &[u8]) -> Result<usize, Fail> {
+    for end in 0..line.len() {
+        if request(alloc, &line[..end])?.as_str() != "bad" {
+            return Ok(end);
         }
     }
-    Ok(true)
+    Ok(line.len())
 }
 
 #[test]
 fn reads_no_prefix(rt: HostRuntime) -> Result<(), Fail> {
-    let line = POLICE.as_bytes();
-    for end in 0..line.len() {
-        assert_eq!(rt; request(rt.alloc(), &line[..end])?.as_str(), "bad", "{end}");
-    }
     assert_eq!(rt;
-        request(rt.alloc(), line)?.as_str(),
-        "find urn:service:sos.police [p geodetic-2d true 5000000,5000000] false false path"
+        first_read_prefix(rt.alloc(), POLICE.as_bytes())?,
+        POLICE.len()
     );
     Ok(())
 }
 
 fn requests() -> &'static [(&'static str, &'static str)] {
     &[
+        (
+            POLICE,
+            "find urn:service:sos.police [p geodetic-2d true 5000000,5000000] false false path",
+        ),
         (r#"{"listServices":{}}"#, "list - path"),
         (
             r#" { "listServices" : { "path" : ["A","b"], "service":"urn:service:SOS" } } "#,
@@ -90,19 +133,6 @@ fn requests() -> &'static [(&'static str, &'static str)] {
         ("null", "bad"),
         ("", "bad"),
     ]
-}
-
-#[test]
-fn reads_requests_without_locations(rt: HostRuntime) -> Result<(), Fail> {
-    for case in requests() {
-        assert_eq!(rt;
-            request(rt.alloc(), case.0.as_bytes())?.as_str(),
-            case.1,
-            "{}",
-            case.0
-        );
-    }
-    Ok(())
 }
 
 fn located() -> &'static [(&'static str, &'static str)] {
@@ -153,15 +183,9 @@ fn located() -> &'static [(&'static str, &'static str)] {
 }
 
 #[test]
-fn reads_requests_with_locations(rt: HostRuntime) -> Result<(), Fail> {
-    for case in located() {
-        assert_eq!(rt;
-            request(rt.alloc(), case.0.as_bytes())?.as_str(),
-            case.1,
-            "{}",
-            case.0
-        );
-    }
+fn reads_requests(rt: HostRuntime) -> Result<(), Fail> {
+    assert_eq!(rt; count_read(rt.alloc(), requests())?, requests().len());
+    assert_eq!(rt; count_read(rt.alloc(), located())?, located().len());
     Ok(())
 }
 
@@ -185,126 +209,81 @@ fn wishes() -> &'static [(&'static str, &'static str)] {
             r#","recursive":{"a":[]},"unknown":-0.5"#,
             "false false path",
         ),
+        (r#","validateLocation":1"#, "bad"),
+        (r#","validateLocation":"true""#, "bad"),
+        (r#","serviceBoundary":"Value""#, "bad"),
+        (r#","serviceBoundary":"""#, "bad"),
+        (r#","serviceBoundary":true"#, "bad"),
+        (r#","path":{}"#, "bad"),
+        (r#","path":[[]]"#, "bad"),
     ]
 }
 
-fn bad_wishes() -> &'static [&'static str] {
+#[test]
+fn reads_wishes(rt: HostRuntime) -> Result<(), Fail> {
+    assert_eq!(rt; count_wished(rt.alloc(), wishes())?, wishes().len());
+    Ok(())
+}
+
+fn points() -> &'static [(&'static str, &'static str)] {
     &[
-        r#","validateLocation":1"#,
-        r#","validateLocation":"true""#,
-        r#","serviceBoundary":"Value""#,
-        r#","serviceBoundary":"""#,
-        r#","serviceBoundary":true"#,
-        r#","path":{}"#,
-        r#","path":[[]]"#,
+        ("", "true unreadable"),
+        (r#","pos":null"#, "true unreadable"),
+        (r#","pos":[1,2]"#, "true 1,2"),
+        (r#","pos":[0.5,0]"#, "true unreadable"),
+        (r#","pos":[1.0,0]"#, "true unreadable"),
+        (r#","pos":[9223372036854775808,0]"#, "true unreadable"),
+        (
+            r#","pos":[9223372036854775807,-9223372036854775808]"#,
+            "true 9223372036854775807,-9223372036854775808",
+        ),
+        (r#","pos":[0]"#, "true unreadable"),
+        (r#","pos":[0,0,0]"#, "true unreadable"),
+        (r#","pos":["0",0]"#, "true unreadable"),
+        (r#","pos":{}"#, "true unreadable"),
+        (r#","address":{"A1":"NJ"}"#, "true unreadable"),
+        (
+            r#","pos":[1,2],"srsName":"urn:ogc:def:crs:EPSG::4326""#,
+            "true 1,2",
+        ),
+        (
+            r#","pos":[1,2],"srsName":"urn:ogc:def:crs:epsg::4326""#,
+            "false 1,2",
+        ),
+        (
+            r#","pos":[1,2],"srsName":"urn:ogc:def:crs:EPSG::4979""#,
+            "false 1,2",
+        ),
+        (r#","pos":[1,2],"srsName":null"#, "true 1,2"),
+        (r#","pos":[1,2],"srsName":4326"#, "false 1,2"),
+    ]
+}
+
+fn addresses() -> &'static [(&'static str, &'static str)] {
+    &[
+        (
+            r#","address":{"country":"US","A1":"NJ","x":""}"#,
+            "true A1=NJ;country=US;x=;",
+        ),
+        (r#","address":{"A1":"NJ","A1":"NY"}"#, "true A1=NY;"),
+        (r#","address":{},"srsName":4326"#, "true "),
+        (r#","address":{"A1":1}"#, "true unreadable"),
+        (r#","address":{"A1":null}"#, "true unreadable"),
+        (r#","address":[["A1","NJ"]]"#, "true unreadable"),
+        (r#","address":null"#, "true unreadable"),
+        (r#","pos":[1,2]"#, "true unreadable"),
     ]
 }
 
 #[test]
-fn reads_what_is_wished(rt: HostRuntime) -> Result<(), Fail> {
-    let alloc = rt.alloc();
-    for case in wishes() {
-        let line = find(alloc, case.0, "x", "")?;
-        let wanted = case.1;
-        let all = format!(in alloc; "find urn:service:s [p x true unreadable] {wanted}")?;
-        assert_eq!(rt; request(alloc, line.as_bytes())?, all, "{}", case.0);
-    }
-    for more in bad_wishes() {
-        let line = find(alloc, more, "x", "")?;
-        assert_eq!(rt; request(alloc, line.as_bytes())?.as_str(), "bad", "{more}");
-    }
-    Ok(())
-}
-
-#[test]
-fn reads_points(rt: HostRuntime) -> Result<(), Fail> {
-    assert!(rt;
-        holds(
-            rt.alloc(),
-            "geodetic-2d",
-            &[
-                ("", "true unreadable"),
-                (r#","pos":null"#, "true unreadable"),
-                (r#","pos":[1,2]"#, "true 1,2"),
-                (r#","pos":[0.5,0]"#, "true unreadable"),
-                (r#","pos":[1.0,0]"#, "true unreadable"),
-                (r#","pos":[9223372036854775808,0]"#, "true unreadable"),
-                (
-                    r#","pos":[9223372036854775807,-9223372036854775808]"#,
-                    "true 9223372036854775807,-9223372036854775808"
-                ),
-                (r#","pos":[0]"#, "true unreadable"),
-                (r#","pos":[0,0,0]"#, "true unreadable"),
-                (r#","pos":["0",0]"#, "true unreadable"),
-                (r#","pos":{}"#, "true unreadable"),
-                (r#","address":{"A1":"NJ"}"#, "true unreadable"),
-            ]
-        )?
+fn reads_contents(rt: HostRuntime) -> Result<(), Fail> {
+    assert_eq!(rt;
+        count_located(rt.alloc(), "geodetic-2d", points())?,
+        points().len()
     );
-    Ok(())
-}
-
-#[test]
-fn reads_reference_systems(rt: HostRuntime) -> Result<(), Fail> {
-    assert!(rt;
-        holds(
-            rt.alloc(),
-            "geodetic-2d",
-            &[
-                (
-                    r#","pos":[1,2],"srsName":"urn:ogc:def:crs:EPSG::4326""#,
-                    "true 1,2"
-                ),
-                (
-                    r#","pos":[1,2],"srsName":"urn:ogc:def:crs:epsg::4326""#,
-                    "false 1,2"
-                ),
-                (
-                    r#","pos":[1,2],"srsName":"urn:ogc:def:crs:EPSG::4979""#,
-                    "false 1,2"
-                ),
-                (r#","pos":[1,2],"srsName":null"#, "true 1,2"),
-                (r#","pos":[1,2],"srsName":4326"#, "false 1,2"),
-            ]
-        )?
-    );
-    assert!(rt;
-        holds(
-            rt.alloc(),
-            "civic",
-            &[(r#","address":{},"srsName":4326"#, "true "),]
-        )?
-    );
-    assert!(rt;
-        holds(
-            rt.alloc(),
-            "x",
-            &[(r#","pos":[1,2],"srsName":4326"#, "true unreadable"),]
-        )?
-    );
-    Ok(())
-}
-
-#[test]
-fn reads_addresses(rt: HostRuntime) -> Result<(), Fail> {
-    assert!(rt;
-        holds(
-            rt.alloc(),
-            "civic",
-            &[
-                (
-                    r#","address":{"country":"US","A1":"NJ","x":""}"#,
-                    "true A1=NJ;country=US;x=;"
-                ),
-                (r#","address":{"A1":"NJ","A1":"NY"}"#, "true A1=NY;"),
-                (r#","address":{}"#, "true "),
-                (r#","address":{"A1":1}"#, "true unreadable"),
-                (r#","address":{"A1":null}"#, "true unreadable"),
-                (r#","address":[["A1","NJ"]]"#, "true unreadable"),
-                (r#","address":null"#, "true unreadable"),
-                (r#","pos":[1,2]"#, "true unreadable"),
-            ]
-        )?
+    assert_eq!(rt;
+        count_located(rt.alloc(), "civic", addresses())?,
+        addresses().len()
     );
     Ok(())
 }
@@ -345,23 +324,30 @@ fn is_read(alloc: Global, before: &str, list: &str) -> Result<bool, Fail> {
     Ok(request(alloc, line.as_bytes())?.as_str() != "bad")
 }
 
+/// Whether a path of so many names is read.
+fn reads_path(alloc: Global, count: usize) -> Result<bool, Fail> {
+    is_read(
+        alloc,
+        r#"{"listServices":{"path":"#,
+        texts(alloc, count)?.as_str(),
+    )
+}
+
+/// Whether so many locations are read.
+fn reads_places(alloc: Global, count: usize) -> Result<bool, Fail> {
+    is_read(
+        alloc,
+        r#"{"listServicesByLocation":{"location":"#,
+        places(alloc, count)?.as_str(),
+    )
+}
+
 #[test]
 fn bounds_lists(rt: HostRuntime) -> Result<(), Fail> {
-    let alloc = rt.alloc();
-    for (count, reads) in [(0, true), (1, true), (32, true), (33, false)] {
-        let list = texts(alloc, count)?;
-        assert!(rt;
-            is_read(alloc, r#"{"listServices":{"path":"#, &list)? == reads,
-            "{count}"
-        );
-    }
-    for (count, reads) in [(0, false), (1, true), (8, true), (9, false)] {
-        let list = places(alloc, count)?;
-        assert!(rt;
-            is_read(alloc, r#"{"listServicesByLocation":{"location":"#, &list)? == reads,
-            "{count}"
-        );
-    }
+    assert!(rt; reads_path(rt.alloc(), 0)? && reads_path(rt.alloc(), 32)?);
+    assert!(rt; !reads_path(rt.alloc(), 33)?);
+    assert!(rt; !reads_places(rt.alloc(), 0)? && !reads_places(rt.alloc(), 9)?);
+    assert!(rt; reads_places(rt.alloc(), 1)? && reads_places(rt.alloc(), 8)?);
     Ok(())
 }
 
@@ -377,26 +363,28 @@ fn nested(alloc: Global, count: usize) -> Result<String, AllocError> {
     Ok(list)
 }
 
+/// Whether an ignored member of so many nested lists is read over.
+fn reads_nested(alloc: Global, count: usize) -> Result<bool, Fail> {
+    is_read(
+        alloc,
+        r#"{"listServices":{"x":"#,
+        nested(alloc, count)?.as_str(),
+    )
+}
+
+/// Whether a key of this byte is read.
+fn reads_byte(alloc: Global, byte: u8) -> Result<bool, Fail> {
+    let mut line = Vec::from_slice(alloc, br#"{"getServiceBoundary":{"key":""#)?;
+    line.push(byte)?;
+    line.extend_from_slice(b"\"}}")?;
+    Ok(request(alloc, &line)?.as_str() != "bad")
+}
+
 #[test]
 fn bounds_nesting_and_bytes(rt: HostRuntime) -> Result<(), Fail> {
-    let alloc = rt.alloc();
-    for (count, reads) in [(60, true), (125, true), (126, false), (200, false)] {
-        let list = nested(alloc, count)?;
-        assert!(rt;
-            is_read(alloc, r#"{"listServices":{"x":"#, &list)? == reads,
-            "{count}"
-        );
-    }
-    for (byte, wanted) in [
-        (b'e', "boundary ae path"),
-        (255, "bad"),
-        (0, "bad"),
-        (128, "bad"),
-    ] {
-        let mut line = Vec::from_slice(alloc, br#"{"getServiceBoundary":{"key":"a"#)?;
-        line.push(byte)?;
-        line.extend_from_slice(b"\"}}")?;
-        assert_eq!(rt; request(alloc, &line)?.as_str(), wanted, "{byte}");
-    }
+    assert!(rt; reads_nested(rt.alloc(), 60)? && reads_nested(rt.alloc(), 125)?);
+    assert!(rt; !reads_nested(rt.alloc(), 126)? && !reads_nested(rt.alloc(), 200)?);
+    assert!(rt; reads_byte(rt.alloc(), b'e')? && reads_byte(rt.alloc(), 127)?);
+    assert!(rt; !reads_byte(rt.alloc(), 255)? && !reads_byte(rt.alloc(), 0)?);
     Ok(())
 }
