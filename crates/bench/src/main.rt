@@ -5,9 +5,8 @@
 mod measures;
 mod streams;
 
-use std::env;
-use std::io;
 use std::rt::{Clock, Env};
+use std::{env, io};
 
 fn main(rt: HostRuntime) -> io::Result<()> {
     if is_measuring(&rt)? {

@@ -12,6 +12,7 @@ const MAPPINGS: [u32; 3] = [10, 100, 1_000];
 
 /// How many requests are measured at a number of mappings, and how many long ones.
 const REQUESTS: u32 = 20_000;
+
 const LONG_REQUESTS: u32 = 20;
 
 /// Replays each stream once, shorter, and prints how many replies it has.
@@ -23,10 +24,16 @@ pub(crate) fn print_counts<R: Print + AllocGlobal>(rt: &R) -> io::Result<()> {
             requests(alloc, 10, mappings)?.as_slice(),
             alloc,
         )?;
-        println!(rt; "{mappings} mappings: {} replies", replies(alloc, stream.as_slice())?)?;
+        println!(rt;
+            "{mappings} mappings: {} replies",
+            replies(alloc, stream.as_slice())?
+        )?;
     }
     let stream = long_requests(alloc, 2)?;
-    println!(rt; "lines of 1 MiB: {} replies", replies(alloc, stream.as_slice())?)
+    println!(rt;
+        "lines of 1 MiB: {} replies",
+        replies(alloc, stream.as_slice())?
+    )
 }
 
 /// Measures, and prints the ratios.
@@ -40,12 +47,23 @@ pub(crate) fn print_ratios<R: Print + Clock + AllocGlobal>(rt: &R) -> io::Result
         if first == 0 {
             first = speed;
         }
-        println!(rt; "{mappings} mappings: {speed} lines a second, {} of a hundred of those at 10", share(speed, first))?;
+        println!(rt;
+            "{mappings} mappings: {speed} lines a second, {} of a hundred of those at 10",
+            share(speed, first)
+        )?;
     }
     let before = publishes(alloc, 10)?;
     let asked = long_requests(alloc, LONG_REQUESTS)?;
-    let speed = lines_a_second(rt, before.as_slice(), asked.as_slice(), u64::from(LONG_REQUESTS))?;
-    println!(rt; "lines of 1 MiB: {speed} lines a second, so as many MiB; one takes as long as {} lines at 10 mappings", first.checked_div(speed).unwrap_or(0))
+    let speed = lines_a_second(
+        rt,
+        before.as_slice(),
+        asked.as_slice(),
+        u64::from(LONG_REQUESTS),
+    )?;
+    println!(rt;
+        "lines of 1 MiB: {speed} lines a second, so as many MiB; one takes as long as {} lines at 10 mappings",
+        first.checked_div(speed).unwrap_or(0)
+    )
 }
 
 /// So many of a hundred.
@@ -63,7 +81,12 @@ fn lines_a_second<R: Clock + AllocGlobal>(
     let alone = microseconds(rt, before)?;
     let both = microseconds(rt, joined(before, asked, rt.alloc())?.as_slice())?;
     let spent = both.saturating_sub(alone).max(1);
-    Ok(lines.saturating_mul(1_000_000).checked_div(spent).unwrap_or(0))
+    Ok(
+        lines
+            .saturating_mul(1_000_000)
+            .checked_div(spent)
+            .unwrap_or(0),
+    )
 }
 
 /// How long a replay takes.

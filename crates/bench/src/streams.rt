@@ -21,7 +21,10 @@ pub(crate) fn publishes(alloc: Global, mappings: u32) -> Result<Vec<u8>, AllocEr
 pub(crate) fn requests(alloc: Global, requests: u32, mappings: u32) -> Result<Vec<u8>, AllocError> {
     let mut stream = Vec::new(alloc);
     for number in 0..requests {
-        push(&mut stream, request(alloc, number.checked_rem(mappings).unwrap_or(0))?.as_str())?;
+        push(
+            &mut stream,
+            request(alloc, number.checked_rem(mappings).unwrap_or(0))?.as_str(),
+        )?;
         push(&mut stream, "\n")?;
     }
     Ok(stream)
@@ -62,11 +65,16 @@ fn place(number: u32) -> u32 {
 fn publish(alloc: Global, number: u32) -> Result<String, AllocError> {
     let low = place(number);
     let high = low.saturating_add(SIDE);
-    format!(in alloc; "{{\"publish\":{{\"expires\":\"NO-EXPIRATION\",\"key\":\"K-{number}\",\"lastUpdated\":\"2025-12-01T00:00:00Z\",\"service\":\"urn:service:sos.police\",\"serviceBoundary\":[{{\"polygon\":[[0,{low}],[0,{high}],[{SIDE},{high}],[{SIDE},{low}],[0,{low}]],\"profile\":\"geodetic-2d\"}}],\"source\":\"map.example\",\"sourceId\":\"M-{number}\",\"uri\":[\"sip:m{number}@map.example\"]}}}}\n")
+    format!(in alloc;
+        "{{\"publish\":{{\"expires\":\"NO-EXPIRATION\",\"key\":\"K-{number}\",\"lastUpdated\":\"2025-12-01T00:00:00Z\",\"service\":\"urn:service:sos.police\",\"serviceBoundary\":[{{\"polygon\":[[0,{low}],[0,{high}],[{SIDE},{high}],[{SIDE},{low}],[0,{low}]],\"profile\":\"geodetic-2d\"}}],\"source\":\"map.example\",\"sourceId\":\"M-{number}\",\"uri\":[\"sip:m{number}@map.example\"]}}}}\n"
+    )
 }
 
 /// The line that asks for a point of a mapping's square, without its byte 10.
 fn request(alloc: Global, number: u32) -> Result<String, AllocError> {
     let middle = place(number).saturating_add(SIDE / 2);
-    format!(in alloc; "{{\"findService\":{{\"location\":[{{\"id\":\"p\",\"pos\":[{},{middle}],\"profile\":\"geodetic-2d\"}}],\"service\":\"urn:service:sos.police\"}}}}", SIDE / 2)
+    format!(in alloc;
+        "{{\"findService\":{{\"location\":[{{\"id\":\"p\",\"pos\":[{},{middle}],\"profile\":\"geodetic-2d\"}}],\"service\":\"urn:service:sos.police\"}}}}",
+        SIDE / 2
+    )
 }

@@ -86,15 +86,15 @@ reference_data NoBoundary = None
 abbrev pub mapping_data : Boundary → Mapping → Data
 mapping_data boundary m =
     object (member_if (codes "displayName") (display_names_data m.display_names)
-      (member (codes "expires") (string (expires_text m.expires))
-      (member (codes "lastUpdated") (string m.stamp.text)
-      (member (codes "service") (string (service_text m.service))
-      (member_if (codes "serviceBoundary") (value_data boundary)
-      (member_if (codes "serviceBoundaryReference") (reference_data boundary)
-      (member_if (codes "serviceNumber") (option_map string m.number)
-      (member (codes "source") (string m.source)
-      (member (codes "sourceId") (string m.source_id)
-      (member (codes "uri") (texts_data m.uris) no_members))))))))))
+    (member (codes "expires") (string (expires_text m.expires))
+    (member (codes "lastUpdated") (string m.stamp.text)
+    (member (codes "service") (string (service_text m.service))
+    (member_if (codes "serviceBoundary") (value_data boundary)
+    (member_if (codes "serviceBoundaryReference") (reference_data boundary)
+    (member_if (codes "serviceNumber") (option_map string m.number)
+    (member (codes "source") (string m.source)
+    (member (codes "sourceId") (string m.source_id)
+    (member (codes "uri") (texts_data m.uris) no_members))))))))))
 
 abbrev pub shown_data : ShownMapping → Data
 shown_data shown = mapping_data shown.boundary shown.mapping
@@ -125,8 +125,8 @@ warnings_data (warning ∷ warnings) = Some (list_data (λ w. string (warning_na
 abbrev pub validation_data : Validation → Data
 validation_data judged =
     object (member (codes "invalid") (texts_data judged.invalid)
-      (member (codes "unchecked") (texts_data judged.unchecked)
-      (member (codes "valid") (texts_data judged.valid) no_members)))
+    (member (codes "unchecked") (texts_data judged.unchecked)
+    (member (codes "valid") (texts_data judged.valid) no_members)))
 
 abbrev pub services_data : List Service → Data
 services_data services = list_data (λ s. string (service_text s)) services
@@ -141,32 +141,32 @@ error_data name = one_member (codes "errors") (one_member (codes "error") (strin
 abbrev pub reply_data : Reply → Data
 reply_data (FindServiceResponse edition location_used judged mappings path warnings) =
     one_member (codes "findServiceResponse") (object
-      (member (codes "edition") (number (unsigned edition))
-      (member (codes "locationUsed") (string location_used)
-      (member_if (codes "locationValidation") (option_map validation_data judged)
-      (member (codes "mapping") (list_data shown_data mappings)
-      (member (codes "path") (texts_data path)
-      (member_if (codes "warnings") (warnings_data warnings) no_members)))))))
+    (member (codes "edition") (number (unsigned edition))
+    (member (codes "locationUsed") (string location_used)
+    (member_if (codes "locationValidation") (option_map validation_data judged)
+    (member (codes "mapping") (list_data shown_data mappings)
+    (member (codes "path") (texts_data path)
+    (member_if (codes "warnings") (warnings_data warnings) no_members)))))))
 reply_data (ListServicesByLocationResponse edition location_used path services) =
     one_member (codes "listServicesByLocationResponse") (object
-      (member (codes "edition") (number (unsigned edition))
-      (member (codes "locationUsed") (string location_used)
-      (member (codes "path") (texts_data path)
-      (member (codes "serviceList") (services_data services) no_members)))))
+    (member (codes "edition") (number (unsigned edition))
+    (member (codes "locationUsed") (string location_used)
+    (member (codes "path") (texts_data path)
+    (member (codes "serviceList") (services_data services) no_members)))))
 reply_data (ListServicesResponse edition path services) =
     one_member (codes "listServicesResponse") (object
-      (member (codes "edition") (number (unsigned edition))
-      (member (codes "path") (texts_data path)
-      (member (codes "serviceList") (services_data services) no_members))))
+    (member (codes "edition") (number (unsigned edition))
+    (member (codes "path") (texts_data path)
+    (member (codes "serviceList") (services_data services) no_members))))
 reply_data (GetServiceBoundaryResponse edition path polygons patterns) =
     one_member (codes "getServiceBoundaryResponse") (object
-      (member (codes "edition") (number (unsigned edition))
-      (member (codes "path") (texts_data path)
-      (member (codes "serviceBoundary") (regions_data polygons patterns) no_members))))
+    (member (codes "edition") (number (unsigned edition))
+    (member (codes "path") (texts_data path)
+    (member (codes "serviceBoundary") (regions_data polygons patterns) no_members))))
 reply_data (Errors edition error) =
     one_member (codes "errors") (object
-      (member (codes "edition") (number (unsigned edition))
-      (member (codes "error") (string (error_name error)) no_members)))
+    (member (codes "edition") (number (unsigned edition))
+    (member (codes "error") (string (error_name error)) no_members)))
 reply_data BadRequest = error_data (codes "badRequest")
 reply_data InternalError = error_data (codes "internalError")
 

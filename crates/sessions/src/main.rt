@@ -5,10 +5,9 @@
 mod names;
 mod session;
 
-use std::fs;
-use std::io;
 use std::process::ExitCode;
 use std::rt::Files;
+use std::{fs, io};
 
 fn main(rt: HostRuntime) -> io::Result<ExitCode> {
     let mut differ = false;
@@ -17,7 +16,11 @@ fn main(rt: HostRuntime) -> io::Result<ExitCode> {
             differ = true;
         }
     }
-    Ok(if differ { ExitCode::FAILURE } else { ExitCode::SUCCESS })
+    Ok(if differ {
+        ExitCode::FAILURE
+    } else {
+        ExitCode::SUCCESS
+    })
 }
 
 /// Replays one session, and says how it went.

@@ -1,7 +1,6 @@
 //! The sessions of a folder.
-use std::fs;
-use std::io;
 use std::rt::Files;
+use std::{fs, io};
 
 /// What ends the name of a session's file of lines.
 const LINES: &str = ".jsonl";
