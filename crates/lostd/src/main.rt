@@ -42,6 +42,3 @@ fn obey<'a, R: Print + Eprint + Input + AllocGlobal>(
         Err(error) => trouble::show(rt, &error),
     }
 }
-
-#[cfg(test)]
-mod tests;
