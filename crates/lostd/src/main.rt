@@ -42,3 +42,6 @@ fn obey<'a, R: Print + Eprint + Input + AllocGlobal>(
         Err(error) => trouble::show(rt, &error),
     }
 }
+
+#[cfg(test)]
+mod tests;
