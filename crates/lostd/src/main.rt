@@ -20,7 +20,7 @@ fn main(rt: HostRuntime) -> ExitCode {
 /// Reads the words of the command line, and does what they say.
 fn run<R: Env + Print + Eprint + Input + AllocGlobal>(rt: &R) -> Result<(), Trouble> {
     let mut words = Vec::new(rt.alloc());
-    for word in env::args(rt).map_err(|_| Trouble::Words)? {
+    for word in env::args(rt).map_err(|error| Trouble::of_words(&error))? {
         words.push(word).map_err(|_| Trouble::MEMORY)?;
     }
     obey(rt, words.as_slice())
@@ -39,7 +39,7 @@ fn obey<'a, R: Print + Eprint + Input + AllocGlobal>(
             Some((_, given)) => replaying::replay_standard_streams(rt, given),
             None => Err(Trouble::Words),
         },
-        Err(error) => trouble::show(rt, &error),
+        Err(error) => trouble::show(rt, rt.alloc(), &error),
     }
 }
 

@@ -1,4 +1,9 @@
 //! `lostd replay`: standard input is answered on standard output.
+ghost use Rattle.std.specs.Prelude.{◌≡◌, ◌↔◌, false, IfOk, Err, Some, option_map};
+ghost use Rattle.lost_spec.specs.Text.{lowered};
+ghost use Rattle.lost_spec.specs.Mapping.{is_source};
+ghost use Rattle.lost_spec.specs.Moment.{is_stamp, read_stamp};
+
 use crate::trouble::Trouble;
 use clap::ArgMatches;
 use lost_mapping::{Moment, Source, SourceError, Stamp, StampError};
@@ -23,7 +28,10 @@ pub(crate) fn replay_standard_streams<R: Print + Input + AllocGlobal>(
 }
 
 /// The server's name.
-pub(crate) fn name_of(alloc: Global, text: &str) -> Result<Source, Trouble> {
+pub(crate) fn name_of(alloc: Global, text: &str) -> Result<Source, Trouble>
+    ensures value { IfOk result (λ name. name ≡ lowered text.now) }
+    ensures bad { (result ≡ Err Trouble.Name) ↔ (is_source text.now ≡ false) }
+{
     match Source::parse(alloc, text.as_bytes()) {
         Ok(name) => Ok(name),
         Err(SourceError::Bad) => Err(Trouble::Name),
@@ -32,7 +40,10 @@ pub(crate) fn name_of(alloc: Global, text: &str) -> Result<Source, Trouble> {
 }
 
 /// The moment of every answer.
-pub(crate) fn moment_of(alloc: Global, text: &str) -> Result<Moment, Trouble> {
+pub(crate) fn moment_of(alloc: Global, text: &str) -> Result<Moment, Trouble>
+    ensures value { IfOk result (λ moment. option_map (λ stamp. stamp.moment) (read_stamp text.now) ≡ Some moment) }
+    ensures bad { (result ≡ Err Trouble.Now) ↔ (is_stamp text.now ≡ false) }
+{
     match Stamp::parse(alloc, text.as_bytes()) {
         Ok(stamp) => Ok(stamp.moment()),
         Err(StampError::Bad) => Err(Trouble::Now),

@@ -1,7 +1,12 @@
 //! What ends the program early: one line on standard error, and the exit status.
+ghost use Rattle.std.specs.Prelude.{◌≡◌};
+ghost use Rattle.lostd.specs.Trouble.{exit_status};
+
 use clap::Error;
 use clap::error::ErrorKind;
 use lost_server::ServeError;
+use std::alloc::{AllocError, Global};
+use std::io;
 use std::process::ExitCode;
 
 /// The status of a run that could not be begun or ended.
@@ -29,6 +34,14 @@ impl Trouble {
     /// Memory ran out.
     pub(crate) const MEMORY: Trouble = Trouble::Run(ServeError::Memory);
 
+    /// Why the words of the command line could not be read.
+    pub(crate) fn of_words(error: &io::Error) -> Trouble {
+        match error.kind() {
+            io::ErrorKind::OutOfMemory => Trouble::MEMORY,
+            _ => Trouble::Words,
+        }
+    }
+
     /// What is said of it; nothing where it was said already.
     fn text(self) -> &'static str {
         match self {
@@ -50,7 +63,9 @@ impl Trouble {
     }
 
     /// The exit status: 1 for a fault of the run, 2 for a mistake on the command line.
-    pub(crate) fn status(self) -> u8 {
+    pub(crate) fn status(self) -> u8
+        ensures { result ≡ exit_status self }
+    {
         match self {
             Trouble::Run(_) => RUN_FAULT,
             _ => COMMAND_LINE,
@@ -68,15 +83,45 @@ impl Trouble {
     }
 }
 
-/// Prints what the reader of the command line says: help and the version are no trouble.
-pub(crate) fn show<R: Print + Eprint>(rt: &R, error: &Error) -> Result<(), Trouble> {
-    let printed = error.print(rt);
+/// Prints what the reader of the command line says: help and the version on standard output, which is no trouble, and a
+/// mistake as one line on standard error.
+pub(crate) fn show<R: Print + Eprint>(rt: &R, alloc: Global, error: &Error) -> Result<(), Trouble> {
     match error.kind() {
         ErrorKind::OutOfMemory => Err(Trouble::MEMORY),
-        ErrorKind::DisplayHelp | ErrorKind::DisplayVersion => match printed {
-            Ok(()) => Ok(()),
-            Err(_) => Err(Trouble::Run(ServeError::Write)),
-        },
-        _ => Err(Trouble::CommandLine),
+        ErrorKind::DisplayHelp | ErrorKind::DisplayVersion => {
+            error.print(rt).map_err(|_| Trouble::Run(ServeError::Write))
+        }
+        _ => {
+            let Ok(line) = mistake_line(alloc, error) else {
+                return Err(Trouble::MEMORY);
+            };
+            // Where standard error fails too, the status still tells.
+            let _said = eprintln!(rt; "lostd: {line}");
+            Err(Trouble::CommandLine)
+        }
+    }
+}
+
+/// A mistake on one line: the first paragraph of its text, without the word `error:` before it.
+fn mistake_line(alloc: Global, error: &Error) -> Result<String, AllocError> {
+    let text = format!(in alloc; "{error}")?;
+    let mut line = String::new(alloc);
+    for word in first_paragraph(text.as_str())
+        .split_ascii_whitespace()
+        .skip(1)
+    {
+        if !line.is_empty() {
+            line.push(' ')?;
+        }
+        line.push_str(word)?;
+    }
+    Ok(line)
+}
+
+/// A text up to its first empty line.
+fn first_paragraph(text: &str) -> &str {
+    match text.split_once("\n\n") {
+        Some((first, _)) => first,
+        None => text,
     }
 }
