@@ -1,4 +1,7 @@
 //! What is measured, and how it is printed.
+ghost use Rattle.std.specs.Prelude.{◌≡◌, IfSome, length};
+ghost use Rattle.lost_lines.specs.Cutting.{lines_of};
+
 use crate::streams::{joined, long_requests, publishes, requests};
 use lost_mapping::{Moment, Source};
 use lost_server::{Turns, Watched, replay};
@@ -97,18 +100,25 @@ fn microseconds<R: Clock + AllocGlobal>(rt: &R, stream: &[u8]) -> io::Result<u64
     Ok(u64::try_from(spent).unwrap_or(u64::MAX))
 }
 
-/// How many replies a replay writes.
+/// How many replies a replay writes: as many as the stream has lines.
 fn replies(alloc: Global, stream: &[u8]) -> io::Result<u64> {
     let Some(moment) = Moment::new(20_454, 0) else {
-        return Ok(0);
+        return Err(io::Error::from(io::ErrorKind::Other));
     };
     let Ok(name) = Source::parse(alloc, b"lost.example") else {
         return Err(io::Error::from(io::ErrorKind::OutOfMemory));
     };
+    replies_at(alloc, stream, &name, &moment).ok_or(io::Error::from(io::ErrorKind::Other))
+}
+
+/// How many replies the server of a name writes at a moment, or `None` where the replay ends in a fault.
+fn replies_at(alloc: Global, stream: &[u8], name: &Source, moment: &Moment) -> Option<u64>
+    ensures { IfSome result (λ count. count ≡ length (lines_of stream.now)) }
+{
     let mut input = Watched::new(stream);
     let mut output = Watched::new(Vec::new(alloc));
-    match replay(alloc, &mut input, &mut output, &name, &moment, Turns::USUAL) {
-        Ok(counts) => Ok(counts.lines),
-        Err(_) => Err(io::Error::from(io::ErrorKind::Other)),
+    match replay(alloc, &mut input, &mut output, name, moment, Turns::USUAL) {
+        Ok(counts) => Some(counts.lines),
+        Err(_) => None,
     }
 }

@@ -1,5 +1,8 @@
 //! One session.
-use lost_mapping::{Source, Stamp};
+ghost use Rattle.std.specs.Prelude.{IfSome};
+ghost use Rattle.sessions.specs.Session.{AreReplies};
+
+use lost_mapping::{Moment, Source, Stamp};
 use lost_server::{Turns, Watched, replay};
 use std::alloc::Global;
 
@@ -13,10 +16,16 @@ const NOW: &[u8] = b"2026-01-01T00:00:00Z";
 pub(crate) fn replies(alloc: Global, lines: &[u8]) -> Option<Vec<u8>> {
     let name = Source::parse(alloc, NAME).ok()?;
     let moment = Stamp::parse(alloc, NOW).ok()?.moment();
+    replies_at(alloc, lines, &name, &moment)
+}
+
+/// The replies of the server of a name at a moment, or `None` where the replay ends in a fault.
+fn replies_at(alloc: Global, lines: &[u8], name: &Source, moment: &Moment) -> Option<Vec<u8>>
+    ensures { IfSome result (λ text. AreReplies name.now moment.now lines.now text.items) }
+{
     let mut input = Watched::new(lines);
     let mut output = Watched::new(Vec::new(alloc));
-    let replayed = replay(alloc, &mut input, &mut output, &name, &moment, Turns::USUAL);
-    match replayed {
+    match replay(alloc, &mut input, &mut output, name, moment, Turns::USUAL) {
         Ok(_) => Some(output.into_inner()),
         Err(_) => None,
     }
