@@ -1,0 +1,34 @@
+// Loaded before the C library: refuses one growth of a program's memory, and counts them.
+//
+// REFUSE is the number of the growth that is refused, from 1; with no such growth none is. Where COUNT is set, the number
+// of growths stands on standard error at the end.
+#include <stdio.h>
+#include <stdlib.h>
+
+extern void *__libc_malloc(size_t size);
+extern void *__libc_realloc(void *block, size_t size);
+
+static long refused, made;
+
+__attribute__((constructor)) static void begin(void)
+{
+    const char *number = getenv("REFUSE");
+    refused = number ? atol(number) : 0;
+    made = 0;
+}
+
+__attribute__((destructor)) static void end(void)
+{
+    if (getenv("COUNT"))
+        fprintf(stderr, "growths %ld\n", made);
+}
+
+void *malloc(size_t size)
+{
+    return ++made == refused ? NULL : __libc_malloc(size);
+}
+
+void *realloc(void *block, size_t size)
+{
+    return ++made == refused ? NULL : __libc_realloc(block, size);
+}
