@@ -8,7 +8,8 @@ use Rattle.lost_spec.specs.Mapping.{Mapping, is_live}
 use Rattle.lost_spec.specs.Book.{Book}
 use Rattle.lost_spec.specs.Positions.{positions}
 use Rattle.lost_spec.specs.Find.{Place}
-use Rattle.lost_query.proofs.StandingLemmas.{mappings_at, mappings_at-positions}
+use Rattle.lost_query.specs.Finding.{at_positions}
+use Rattle.lost_query.proofs.PositionLemmas.{at_positions-positions}
 use Rattle.std.proofs.lemmas.List.{nil_from_length}
 use Rattle.lost_spec.specs.Services.{children_in, is_holding, services, all_services}
 use Rattle.lost_query.specs.Children.{AreServices, with_some}
@@ -64,8 +65,8 @@ all_services-HasChildren b t q i services past has =
     has.are ∙ ap (λ k. children_in q (filter (λ (m : Mapping). is_live m t) (drop k b.mappings))) first
 
 -- where no position is left before, the children are the services at the place
-pub services-HasChildren : (b : Book) (t : Instant) (l : Place) (q : Option Service) (rest done : List ℕ) (found : List Service) → length rest ≡ 0 → rest ++ done ≡ positions (is_holding t l) b.mappings → HasChildren q (mappings_at b.mappings done) found → found ≡ services b t l q
+pub services-HasChildren : (b : Book) (t : Instant) (l : Place) (q : Option Service) (rest done : List ℕ) (found : List Service) → length rest ≡ 0 → rest ++ done ≡ positions (is_holding t l) b.mappings → HasChildren q (at_positions b.mappings done) found → found ≡ services b t l q
 unfolding services
 services-HasChildren b t l q rest done found past is has =
     let all : done ≡ positions (is_holding t l) b.mappings = ap (λ xs. xs ++ done) (sym (nil_from_length rest past)) ∙ is in
-    has.are ∙ ap (λ ps. children_in q (mappings_at b.mappings ps)) all ∙ ap (children_in q) (mappings_at-positions (is_holding t l) b.mappings)
+    has.are ∙ ap (children_in q) (at_positions-positions (is_holding t l) b.mappings done all)

@@ -10,4 +10,3 @@ pub mod PickLemmas
 pub mod PlaceLemmas
 pub mod PositionLemmas
 pub mod SplitLemmas
-pub mod StandingLemmas

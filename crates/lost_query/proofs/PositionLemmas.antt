@@ -1,8 +1,8 @@
--- The positions of what passes a test: they are within the list, and what stands there is what passes.
-use Rattle.std.specs.Prelude.{◌≡◌, ℕ, suc, ◌+◌, ◌<◌, Bool, true, false, cond, List, [], ◌∷◌, map, filter, filter_map, length, Option, Some, slice_get}
-use Rattle.std.specs.List.{All, cons_option}
-use Rattle.std.proofs.Common.{refl, sym, ap, subst, ◌∙◌, arith}
-use Rattle.std.proofs.lemmas.List.Elements.{All-nil, All-cons}
+-- Positions of what passes a test: they are within the list, and what stands there is what passes.
+use Rattle.std.proofs.Common.{◌≡◌, ℕ, zero, suc, ◌+◌, ◌<◌, ◌≤◌, Bool, true, false, cond, List, map, [], ◌∷◌, ◌++◌, length, take, get_or, filter, filter_map, Option, Some, refl, sym, ap, subst, ◌∙◌, arith}
+use Rattle.std.specs.List.{All, AllByRecursion, cons_option, slice_get}
+use Rattle.std.proofs.lemmas.List.{take_all, take_more}
+use Rattle.std.proofs.lemmas.List.Elements.{All-nil, All-cons, filter_map-append}
 use Rattle.lost_spec.specs.Mapping.{Mapping}
 use Rattle.lost_spec.specs.Positions.{positions_from, positions}
 use Rattle.lost_spec.proofs.PositionLemmas.{positions_are_where_it_passes_lem}
@@ -35,3 +35,47 @@ filter_map-some (x ∷ xs) = ap (λ rest. x ∷ rest) (filter_map-some xs)
 pub at_positions-positions : (test : Mapping → Bool) (ms : List Mapping) (places : List ℕ) → places ≡ positions test ms → at_positions ms places ≡ filter test ms
 at_positions-positions test ms places are =
     ap (at_positions ms) are ∙ filter_map-options (slice_get ms) (positions test ms) ∙ ap (filter_map (λ o. o)) (positions_are_where_it_passes_lem test ms).mappings ∙ filter_map-some (filter test ms)
+
+-- no position is past the end
+positions_from-below : (test : Mapping → Bool) (n : ℕ) (ms : List Mapping) → AllByRecursion (λ i. i < n + length ms) (positions_from test n ms)
+positions_from-below test n [] = tt
+positions_from-below test n (m ∷ ms) =
+    let next : suc n + length ms ≡ n + suc (length ms) = omega arith in
+    let later = subst (λ k. AllByRecursion (λ i. i < k) (positions_from test (suc n) ms)) next (positions_from-below test (suc n) ms) in
+    elim (test m) as (λ b. AllByRecursion (λ i. i < n + suc (length ms)) (cond b (n ∷ positions_from test (suc n) ms) (positions_from test (suc n) ms))) [
+      | true ↦ (omega arith, later)
+      | false ↦ later
+    ]
+
+-- what holds of each thing holds of one behind others
+at_middle : {Thing : Type 0} (P : Thing → Type 0) (front : List Thing) (x : Thing) (done : List Thing) → AllByRecursion P ((front ++ x ∷ []) ++ done) → P x
+at_middle P [] x done all = all.0
+at_middle P (y ∷ front) x done all = at_middle P front x done all.1
+
+at_index : {Thing : Type 0} (P : Thing → Type 0) (xs : List Thing) (i : ℕ) (d : Thing) → i < length xs → AllByRecursion P xs → P (get_or xs i d)
+at_index P [] i d within all = absurd (omega arith)
+at_index P (x ∷ xs) zero d within all = all.0
+at_index P (x ∷ xs) (suc i) d within all = at_index P xs i d (omega arith) all.1
+
+-- the next position is one of the list
+pub position-below : (test : Mapping → Bool) (ms : List Mapping) (rest front done : List ℕ) (i : ℕ) → rest ++ done ≡ positions test ms → rest ≡ front ++ i ∷ [] → i < length ms
+position-below test ms rest front done i is next =
+    let all : AllByRecursion (λ k. k < 0 + length ms) ((front ++ i ∷ []) ++ done) = subst (AllByRecursion (λ k. k < 0 + length ms)) (sym is ∙ ap (λ xs. xs ++ done) next) (positions_from-below test 0 ms) in
+    let below : i < 0 + length ms = at_middle (λ k. k < 0 + length ms) front i done all in
+    omega arith
+
+-- nor is one that is read by its index
+pub get_or-below : (test : Mapping → Bool) (ms : List Mapping) (ps : List ℕ) (i : ℕ) → ps ≡ positions test ms → i < length ps → get_or ps i 0 < length ms
+get_or-below test ms ps i is within =
+    let all : AllByRecursion (λ k. k < 0 + length ms) ps = subst (AllByRecursion (λ k. k < 0 + length ms)) (sym is) (positions_from-below test 0 ms) in
+    let below : get_or ps i 0 < 0 + length ms = at_index (λ k. k < 0 + length ms) ps i 0 within all in
+    omega arith
+
+-- one more position
+pub at_positions_more : (ms : List Mapping) (ps : List ℕ) (i : ℕ) (m : Mapping) → i < length ps → slice_get ms (get_or ps i 0) ≡ Some m → at_positions ms (take (i + 1) ps) ≡ at_positions ms (take i ps) ++ m ∷ []
+at_positions_more ms ps i m within is =
+    ap (at_positions ms) (take_more ps i 0 within) ∙ filter_map-append (slice_get ms) (take i ps) (get_or ps i 0 ∷ []) ∙ ap (λ o. at_positions ms (take i ps) ++ cons_option o []) is
+
+-- and all of them
+pub at_positions_all : (test : Mapping → Bool) (ms : List Mapping) (ps : List ℕ) (i : ℕ) → ps ≡ positions test ms → length ps ≤ i → at_positions ms (take i ps) ≡ filter test ms
+at_positions_all test ms ps i is past = at_positions-positions test ms (take i ps) (take_all i ps past ∙ is)

@@ -5,7 +5,7 @@ use Rattle.std.specs.Slice.Iter.{iter_rest}
 use Rattle.lost_spec.specs.Services.{is_holding, services}
 use Rattle.lost_query.specs.Place.{place_of}
 use Rattle.lost_query.proofs.HasChildren.{services-HasChildren}
-use Rattle.lost_query.proofs.StandingLemmas.{position-below}
+use Rattle.lost_query.proofs.PositionLemmas.{position-below}
 use Rattle.lost_query.proofs.services.services_at.Goals as goal
 
 pub mapping-requires : goal.mapping-requires

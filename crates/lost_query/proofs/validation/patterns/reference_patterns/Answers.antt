@@ -5,7 +5,8 @@ use Rattle.lost_spec.specs.Mapping.{Mapping}
 use Rattle.lost_spec.specs.Validation.{patterns_in}
 use Rattle.lost_query.specs.Judged.{is_reference}
 use Rattle.lost_query.proofs.PatternLemmas.{patterns_in_more}
-use Rattle.lost_query.proofs.StandingLemmas.{mappings_at, get_or-below, mappings_at_more, mappings_at_all}
+use Rattle.lost_query.specs.Finding.{at_positions}
+use Rattle.lost_query.proofs.PositionLemmas.{get_or-below, at_positions_more, at_positions_all}
 use Rattle.lost_query.proofs.validation.patterns.reference_patterns.Goals as goal
 
 pub mapping-requires : goal.mapping-requires
@@ -22,13 +23,13 @@ loop-position-preserved g c =
     let m = c.mapping.result.now in
     let test = is_reference c.args.valid.now c.args.address.now in
     let added = c.in_ok-add_patterns.ensures.added test (λ p r k. search (rules, tests)) in
-    patterns_in_more test (mappings_at ms (take i ps)) m (seen c.loop-position.patterns.items) (seen c.add_patterns.new.patterns.items) c.loop-position.invariant added
-    ∙ sym (ap (λ ns. filter test (patterns_in ns)) (mappings_at_more ms ps i m c.loop-position-test.true c.mapping.ensures))
+    patterns_in_more test (at_positions ms (take i ps)) m (seen c.loop-position.patterns.items) (seen c.add_patterns.new.patterns.items) c.loop-position.invariant added
+    ∙ sym (ap (λ ns. filter test (patterns_in ns)) (at_positions_more ms ps i m c.loop-position-test.true c.mapping.ensures))
 
 pub returns : goal.returns
 returns g c =
     let serving = λ (m : Mapping). serves m c.args.moment.now c.args.service.now in
     let ms = (g.H.Holdings.book c.args.holdings.now).mappings in
     let ps = c.deref-position-items.result.now in
-    let all = mappings_at_all serving ms ps c.loop-position.position-index (c.deref-position-items.ensures.value ∙ c.in_ok-positions.ensures) c.loop-position-test.false in
+    let all = at_positions_all serving ms ps c.loop-position.position-index (c.deref-position-items.ensures.value ∙ c.in_ok-positions.ensures) c.loop-position-test.false in
     c.loop-position.invariant ∙ ap (λ ns. filter (is_reference c.args.valid.now c.args.address.now) (patterns_in ns)) all
