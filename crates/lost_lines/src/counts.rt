@@ -7,7 +7,7 @@ pub struct Counts {
     pub lines: u64,
     /// Those of them over the limit of 1,048,576 bytes.
     pub long_lines: u64,
-    /// Those of them that were answered for want of memory.
+    /// Those of them that were answered `internalError` for want of memory.
     pub memory: u64,
     /// The connections that ended in a fault.
     pub faults: u64,

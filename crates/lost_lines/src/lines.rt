@@ -53,6 +53,9 @@ pub fn run_lines<R: Read, W: Write, A: Answerer>(
         (W.contents (inner_of output.new))) }
     ensures read { IsErrOf result ServeError.Read → has_failed input.new ≡ true }
     ensures write { IsErrOf result ServeError.Write → has_failed output.new ≡ true }
+    // A failed read always ends in `Read`, and a failed write in `Write`.
+    ensures only_read { result ≢ Err ServeError.Read → has_failed input.new ≡ false }
+    ensures only_write { result ≢ Err ServeError.Write → has_failed output.new ≡ false }
     ensures turns { IsErrOf result ServeError.TurnsSpent → IsSpent A.step answerer.old answerer.new turns
         (R.remaining (inner_of input.old)) (R.remaining (inner_of input.new))
         (W.contents (inner_of output.old)) (W.contents (inner_of output.new)) (reads_of input.new) (has_ended input.new) }
