@@ -8,22 +8,37 @@ use std::io::{Read, Write};
 /// No read and no write fails.
 pub(super) const NEVER: u64 = u64::MAX;
 
-/// The lines of the row replace-withdraw, and its replies.
+/// The lines of the row replace-withdraw.
 pub(super) const ROW: &str =
     "{\"publish\":{\"expires\":\"NO-EXPIRATION\",\"key\":\"A-1\",\"lastUpdated\":\"2025-12-01T00:00:00Z\",\"service\":\"urn:service:sos.police\",\"serviceBoundary\":[{\"polygon\":[[0,0],[0,10000000],[10000000,10000000],[10000000,0],[0,0]],\"profile\":\"geodetic-2d\"}],\"source\":\"map.example\",\"sourceId\":\"A\",\"uri\":[\"sip:A@map.example\"]}}
 {\"publish\":{\"expires\":\"NO-EXPIRATION\",\"key\":\"D-1\",\"lastUpdated\":\"2025-12-01T00:00:00Z\",\"service\":\"urn:service:sos.police\",\"serviceBoundary\":[{\"polygon\":[[0,0],[0,10000000],[10000000,10000000],[10000000,0],[0,0]],\"profile\":\"geodetic-2d\"}],\"source\":\"map.example\",\"sourceId\":\"D\",\"uri\":[\"sip:D@map.example\"]}}
 {\"commit\":{}}
+{\"findService\":{\"location\":[{\"id\":\"p\",\"pos\":[5000000,5000000],\"profile\":\"geodetic-2d\"}],\"service\":\"urn:service:sos.police\"}}
+{\"replace\":{\"expires\":\"NO-EXPIRATION\",\"key\":\"A-2\",\"lastUpdated\":\"2025-12-02T00:00:00Z\",\"service\":\"urn:service:sos.police\",\"serviceBoundary\":[{\"polygon\":[[50000000,50000000],[50000000,60000000],[60000000,60000000],[60000000,50000000],[50000000,50000000]],\"profile\":\"geodetic-2d\"}],\"source\":\"map.example\",\"sourceId\":\"A\",\"uri\":[\"sip:A@map.example\"]}}
+{\"commit\":{}}
+{\"findService\":{\"location\":[{\"id\":\"p\",\"pos\":[5000000,5000000],\"profile\":\"geodetic-2d\"}],\"service\":\"urn:service:sos.police\"}}
+{\"replace\":{\"expires\":\"NO-EXPIRATION\",\"key\":\"A-3\",\"lastUpdated\":\"2025-12-03T00:00:00Z\",\"service\":\"urn:service:sos.police\",\"serviceBoundary\":[{\"polygon\":[[0,0],[0,60000000],[60000000,60000000],[60000000,0],[0,0]],\"profile\":\"geodetic-2d\"}],\"source\":\"map.example\",\"sourceId\":\"A\",\"uri\":[\"sip:A@map.example\"]}}
+{\"commit\":{}}
+{\"findService\":{\"location\":[{\"id\":\"p\",\"pos\":[5000000,5000000],\"profile\":\"geodetic-2d\"}],\"service\":\"urn:service:sos.police\"}}
 {\"withdraw\":{\"lastUpdated\":\"2025-12-04T00:00:00Z\",\"source\":\"map.example\",\"sourceId\":\"D\"}}
 {\"commit\":{}}
 {\"findService\":{\"location\":[{\"id\":\"p\",\"pos\":[5000000,5000000],\"profile\":\"geodetic-2d\"}],\"service\":\"urn:service:sos.police\"}}
 ";
 
+/// Its replies.
 pub(super) const REPLIES: &str = "{\"staged\":{\"pending\":1}}
 {\"staged\":{\"pending\":2}}
 {\"committed\":{\"edition\":2}}
+{\"findServiceResponse\":{\"edition\":2,\"locationUsed\":\"p\",\"mapping\":[{\"expires\":\"NO-EXPIRATION\",\"lastUpdated\":\"2025-12-01T00:00:00Z\",\"service\":\"urn:service:sos.police\",\"serviceBoundaryReference\":{\"key\":\"A-1\",\"source\":\"map.example\"},\"source\":\"map.example\",\"sourceId\":\"A\",\"uri\":[\"sip:A@map.example\"]},{\"expires\":\"NO-EXPIRATION\",\"lastUpdated\":\"2025-12-01T00:00:00Z\",\"service\":\"urn:service:sos.police\",\"serviceBoundaryReference\":{\"key\":\"D-1\",\"source\":\"map.example\"},\"source\":\"map.example\",\"sourceId\":\"D\",\"uri\":[\"sip:D@map.example\"]}],\"path\":[\"lost.example\"]}}
 {\"staged\":{\"pending\":1}}
 {\"committed\":{\"edition\":3}}
-{\"findServiceResponse\":{\"edition\":3,\"locationUsed\":\"p\",\"mapping\":[{\"expires\":\"NO-EXPIRATION\",\"lastUpdated\":\"2025-12-01T00:00:00Z\",\"service\":\"urn:service:sos.police\",\"serviceBoundaryReference\":{\"key\":\"A-1\",\"source\":\"map.example\"},\"source\":\"map.example\",\"sourceId\":\"A\",\"uri\":[\"sip:A@map.example\"]}],\"path\":[\"lost.example\"]}}
+{\"findServiceResponse\":{\"edition\":3,\"locationUsed\":\"p\",\"mapping\":[{\"expires\":\"NO-EXPIRATION\",\"lastUpdated\":\"2025-12-01T00:00:00Z\",\"service\":\"urn:service:sos.police\",\"serviceBoundaryReference\":{\"key\":\"D-1\",\"source\":\"map.example\"},\"source\":\"map.example\",\"sourceId\":\"D\",\"uri\":[\"sip:D@map.example\"]}],\"path\":[\"lost.example\"]}}
+{\"staged\":{\"pending\":1}}
+{\"committed\":{\"edition\":4}}
+{\"findServiceResponse\":{\"edition\":4,\"locationUsed\":\"p\",\"mapping\":[{\"expires\":\"NO-EXPIRATION\",\"lastUpdated\":\"2025-12-03T00:00:00Z\",\"service\":\"urn:service:sos.police\",\"serviceBoundaryReference\":{\"key\":\"A-3\",\"source\":\"map.example\"},\"source\":\"map.example\",\"sourceId\":\"A\",\"uri\":[\"sip:A@map.example\"]},{\"expires\":\"NO-EXPIRATION\",\"lastUpdated\":\"2025-12-01T00:00:00Z\",\"service\":\"urn:service:sos.police\",\"serviceBoundaryReference\":{\"key\":\"D-1\",\"source\":\"map.example\"},\"source\":\"map.example\",\"sourceId\":\"D\",\"uri\":[\"sip:D@map.example\"]}],\"path\":[\"lost.example\"]}}
+{\"staged\":{\"pending\":1}}
+{\"committed\":{\"edition\":5}}
+{\"findServiceResponse\":{\"edition\":5,\"locationUsed\":\"p\",\"mapping\":[{\"expires\":\"NO-EXPIRATION\",\"lastUpdated\":\"2025-12-03T00:00:00Z\",\"service\":\"urn:service:sos.police\",\"serviceBoundaryReference\":{\"key\":\"A-3\",\"source\":\"map.example\"},\"source\":\"map.example\",\"sourceId\":\"A\",\"uri\":[\"sip:A@map.example\"]}],\"path\":[\"lost.example\"]}}
 ";
 
 pub(super) const BAD: &str = "{\"errors\":{\"error\":\"badRequest\"}}\n";
@@ -94,11 +109,12 @@ impl Write for Sink {
     }
 }
 
-/// How a replay went, and what it wrote.
+/// How a replay went, what it wrote, and in how many writes.
 #[derive(Drop)]
 pub(super) struct Outcome {
     pub(super) result: Result<Counts, ServeError>,
     pub(super) text: Vec<u8>,
+    pub(super) writes: u64,
 }
 
 /// All of a text at once, with no fault.
@@ -134,9 +150,11 @@ pub(super) fn run<R: Read + Drop>(
     let mut input = Watched::new(reader);
     let mut output = Watched::new(writer);
     let result = replay(alloc, &mut input, &mut output, &name, &moment, turns);
+    let sink = output.into_inner();
     Some(Outcome {
         result,
-        text: output.into_inner().text,
+        writes: sink.writes,
+        text: sink.text,
     })
 }
 

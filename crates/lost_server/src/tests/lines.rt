@@ -7,8 +7,9 @@ use std::test::Fail;
 /// The most bytes of a line.
 const LIMIT: usize = 1_048_576;
 
+/// The query of the row one-mapping.
 const QUERY: &str =
-    "{\"findService\":{\"location\":[{\"id\":\"p\",\"pos\":[0,0],\"profile\":\"geodetic-2d\"}],\"service\":\"urn:service:sos\"}}";
+    "{\"findService\":{\"location\":[{\"id\":\"p\",\"pos\":[5000000,5000000],\"profile\":\"geodetic-2d\"}],\"service\":\"urn:service:sos.police\"}}";
 
 const LOCATION_INVALID: &str = "{\"errors\":{\"edition\":0,\"error\":\"locationInvalid\"}}\n";
 

@@ -20,10 +20,21 @@ fn without(alloc: Global, text: &[u8], left_out: usize) -> Result<Vec<u8>, Alloc
     Ok(kept)
 }
 
-/// Which line of the replies says that memory was refused.
+/// A line of a text, from 0.
+fn line_at(text: &[u8], number: usize) -> &[u8] {
+    text.split(|byte| *byte == b'\n').nth(number).unwrap_or(b"")
+}
+
+/// Which line of the replies says that memory was refused. Code 20 is the answer to a desk line alone.
 fn refused_line(text: &[u8]) -> Option<usize> {
-    text.split(|byte| *byte == b'\n')
-        .position(|line| line == INTERNAL || line == MEMORY)
+    text.split(|byte| *byte == b'\n').enumerate().position(|(number, line)| {
+        line == INTERNAL || line == MEMORY && is_desk_line(line_at(ROW.as_bytes(), number))
+    })
+}
+
+/// Whether a line of the row is the desk's.
+fn is_desk_line(line: &[u8]) -> bool {
+    !line.starts_with(b"{\"findService\"")
 }
 
 /// Run with each allocation refused in turn: the replies are those of the row, or those of the row without the line that
