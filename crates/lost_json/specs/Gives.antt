@@ -1,7 +1,12 @@
 -- What a reader of the code gives, by what a definition says. (Own.)
-use Rattle.std.specs.Prelude.{◌≡◌, Option, Some, None, Result, Ok, Err}
+use Rattle.std.specs.Prelude.{◌≡◌, ℕ, Option, Some, None, Result, Ok, Err}
 use Rattle.lost_json.specs.declared.request.ReadError.{ReadError}
 use Rattle.lost_json.specs.declared.request.ReadError.TheVariants.{BadRequest, Memory}
+
+-- the numbers of the refusals
+abbrev pub read_code : ReadError → ℕ
+read_code BadRequest = 1
+read_code Memory = 2
 
 -- a refusal says that there is nothing; want of memory says nothing
 abbrev pub Refuses : {Thing : Type 0} → ReadError → Option Thing → Type 0

@@ -31,14 +31,16 @@ pub enum DeskLine {
 /// Why a desk line is refused (own rule).
 #[derive(Clone, Copy, PartialEq, Eq, Debug, Error)]
 pub enum DeskFault {
+    /// A member is missing or of another kind.
     #[error("a member is missing or of another kind")]
     BadLine,
+    /// The mapping or the withdrawal is refused, or memory ran out.
     #[error("the mapping or the withdrawal is refused")]
     Mapping(MappingError),
 }
 
 impl DeskFault {
-    /// The number of the refusal on the desk's lines: 1 to 12, and 20 for want of memory.
+    /// The number of the refusal on the desk's lines: 1 to 12, and 20 for want of memory (own rule).
     pub fn code(self) -> u8
         ensures { result ≡ desk_fault_code self }
     {

@@ -20,7 +20,7 @@ pub enum DeskReply {
     Refused(u8),
 }
 
-/// The line of a desk's reply, kept without memory. Contracts see it as its bytes.
+/// The line of a desk's reply, kept without memory (own rule). Contracts see it as its bytes.
 #[derive(Drop)]
 pub struct DeskText {
     bytes: [u8; 64],
@@ -70,7 +70,7 @@ impl DeskText {
         self.push(buffer.format(number).as_bytes());
     }
 
-    /// The line, its byte 10 too: at most 64 bytes.
+    /// The line, its byte 10 too: at most 64 bytes (own rule).
     pub fn bytes(&self) -> &[u8]
         ensures bytes { result.now ≡ self.now }
         ensures short { length result.now ≤ 64 }
@@ -146,7 +146,7 @@ fn write_refused(code: u8) -> DeskText
     text
 }
 
-/// Writes a desk's reply. The caller has: a refusal is one of the table, 1 to 20.
+/// Writes a desk's reply (own rule). The caller has: a refusal is one of the table, 1 to 20.
 pub fn write_desk(reply: &DeskReply) -> DeskText
     requires { IsInTable reply.now }
     ensures { result ≡ desk_text reply.now }

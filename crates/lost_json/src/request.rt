@@ -3,7 +3,7 @@ ghost use Rattle.std.specs.Prelude.{◌≡◌, option_and_then};
 ghost use Rattle.serde_json.specs.Find.{as_object};
 ghost use Rattle.serde_json.specs.View.{view, members_view};
 ghost use Rattle.lost_query.specs.Request.{request_of};
-ghost use Rattle.lost_json.specs.Gives.{Gives};
+ghost use Rattle.lost_json.specs.Gives.{Gives, read_code};
 ghost use Rattle.lost_json.specs.Requests.{find_service_of, services_at_of, services_of, boundary_of, request_named, request_in, line_request};
 
 use crate::locations::Locations;
@@ -15,13 +15,27 @@ use serde_json::{Map, Value};
 use std::alloc::Global;
 use thiserror::Error;
 
-/// Why a line was not read as a request.
+/// Why a line was not read as a request (own rule).
 #[derive(Clone, Copy, PartialEq, Eq, Debug, Error)]
 pub enum ReadError {
+    /// The line is no request.
     #[error("the line is no request")]
     BadRequest,
+    /// Memory ran out while it was read.
     #[error("memory ran out")]
     Memory,
+}
+
+impl ReadError {
+    /// The number of the refusal, 1 or 2 in the order of the variants (own rule).
+    pub fn code(self) -> u8
+        ensures { result ≡ read_code self }
+    {
+        match self {
+            ReadError::BadRequest => 1,
+            ReadError::Memory => 2,
+        }
+    }
 }
 
 /// Reads a request line (RFC 5222, sections 8 to 12; own format): an object with exactly one member, named
