@@ -78,6 +78,18 @@ fn a_default_is_bare(rt: HostRuntime) -> Result<(), Fail> {
 }
 
 #[test]
+fn what_is_no_default_has_a_region_and_a_key(rt: HostRuntime) -> Result<(), Fail> {
+    let alloc = rt.alloc();
+    let mut without_region = police(alloc)?;
+    without_region.regions = Vec::new(alloc);
+    assert_eq!(rt; code_of(alloc, without_region)?, Some(10));
+    let mut without_key = police(alloc)?;
+    without_key.key = None;
+    assert_eq!(rt; code_of(alloc, without_key)?, Some(12));
+    Ok(())
+}
+
+#[test]
 fn a_copy_says_the_same(rt: HostRuntime) -> Result<(), Fail> {
     let alloc = rt.alloc();
     let mapping = build(alloc, police(alloc)?)?;
