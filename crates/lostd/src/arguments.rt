@@ -5,6 +5,10 @@ use std::alloc::Global;
 /// The version that `lostd --version` prints.
 const VERSION: &str = "0.1.0";
 
+const HELP: &str =
+    "Example:\n  lostd replay --name lost.example --now 2026-01-01T00:00:00Z < examples/one-mapping.jsonl\n\n\
+`lostd replay --help` explains its arguments and the exit status.";
+
 const REPLAY_HELP: &str =
     "Each line of standard input is one JSON object. Desk lines (`publish`, `replace`, `withdraw`, \
 `commit`) change the mappings; any other line is a request (`findService`, `listServicesByLocation`, `listServices`, \
@@ -20,6 +24,7 @@ pub(crate) fn command<'a>(alloc: Global) -> Result<Command<'a>, Error> {
             "A LoST server (RFC 5222) of JSON lines: it tells which emergency centre serves a place",
         )
         .version(VERSION)
+        .after_help(HELP)
         .subcommand_required(true)
         .subcommand(replay_command(alloc)?)?;
     Ok(command)

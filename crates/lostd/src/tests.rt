@@ -4,24 +4,17 @@ mod console;
 use crate::arguments::command;
 use crate::replaying::{moment_of, name_of};
 use crate::trouble::{Trouble, show};
-use clap::error::ErrorKind;
 use console::Console;
 use lost_server::ServeError;
 use std::alloc::Global;
 use std::io;
-use std::test::Fail;
 
 /// The words of a command line.
 type Words = &'static [&'static str];
 
-/// The kind of mistake that the words of a command line are, or none.
-fn mistake(alloc: Global, words: Words) -> Option<ErrorKind> {
-    let command = command(alloc).ok()?;
-    match command.try_get_matches_from(words) {
-        Ok(_) => None,
-        Err(error) => Some(error.kind()),
-    }
-}
+/// The command of the example that help shows.
+const EXAMPLE: &str =
+    "lostd replay --name lost.example --now 2026-01-01T00:00:00Z < examples/one-mapping.jsonl";
 
 /// Prints on a console what the words of a command line give before anything is run, and tells the trouble.
 fn read(console: &Console, alloc: Global, words: Words) -> Option<Trouble> {
@@ -75,23 +68,32 @@ fn mistakes_are_one_line(rt: HostRuntime) {
     );
 }
 
+/// Whether words are no mistake, and give a text on standard output that has all of these, and nothing on standard error.
+fn is_shown(alloc: Global, words: Words, texts: &'static [&'static str]) -> bool {
+    let console = Console::new(alloc);
+    if read(&console, alloc, words).is_some() || !console.errors().is_empty() {
+        return false;
+    }
+    let output = console.output();
+    texts.iter().all(|text| output.as_str().contains(*text))
+}
+
 #[test]
 fn help_and_version_are_no_mistakes(rt: HostRuntime) {
-    assert_eq!(rt;
-        mistake(rt.alloc(), &["lostd", "--help"]),
-        Some(ErrorKind::DisplayHelp)
+    let alloc = rt.alloc();
+    assert!(rt; is_shown(alloc, &["lostd", "--version"], &["lostd 0.1.0\n"]));
+    assert!(rt; is_shown(alloc, &["lostd", "--help"], &["replay", EXAMPLE]));
+    assert!(rt;
+        is_shown(
+            alloc,
+            &["lostd", "replay", "--help"],
+            &["--name <NAME>", "--now <TIME>", "Exit status", EXAMPLE],
+        )
     );
     assert_eq!(rt;
-        mistake(rt.alloc(), &["lostd", "replay", "--help"]),
-        Some(ErrorKind::DisplayHelp)
-    );
-    let console = Console::new(rt.alloc());
-    assert_eq!(rt; read(&console, rt.alloc(), &["lostd", "--version"]), None);
-    assert_eq!(rt; console.output().as_str(), "lostd 0.1.0\n");
-    assert_eq!(rt; console.errors().as_str(), "");
-    assert_eq!(rt;
-        mistake(
-            rt.alloc(),
+        read(
+            &Console::new(alloc),
+            alloc,
             &["lostd", "replay", "--name", "a", "--now", "b"]
         ),
         None
