@@ -32,7 +32,7 @@ impl Model for Book {
 }
 
 impl Book {
-    /// An empty book within these limits.
+    /// An empty book within these limits (own rule).
     pub fn new(alloc: Global, limits: Limits) -> Result<Book, AllocError>
         ensures { IfOk result (λ book. book ≡ empty_book limits) }
     {
@@ -45,21 +45,21 @@ impl Book {
         })
     }
 
-    /// How many edits were accepted.
+    /// How many edits were accepted (own rule).
     pub fn edition(&self) -> u64
         ensures { result ≡ self.now.edits }
     {
         self.edits
     }
 
-    /// How many mappings are held.
+    /// How many mappings are held (own rule).
     pub fn len(&self) -> usize
         ensures { result ≡ length self.now.mappings }
     {
         self.mappings.len()
     }
 
-    /// The mapping at a position, which is below `len`.
+    /// The mapping at a position, which is below `len` (own rule).
     pub fn mapping(&self, position: usize) -> &Mapping
         requires { position < length self.now.mappings }
         ensures { slice_get self.now.mappings position ≡ Some result.now }
@@ -86,7 +86,7 @@ impl Book {
         *self.mappings.allocator()
     }
 
-    /// An equal book, or want of memory. It costs a pointer for each mapping.
+    /// An equal book, or want of memory (own rule). It costs a pointer for each mapping.
     pub fn clone(&self) -> Result<Book, AllocError>
         ensures { IfOk result (λ copy. copy ≡ self.now) }
     {

@@ -18,7 +18,7 @@ pub enum Edit {
 impl Edit {
     ghost use Rattle.lost_book.specs.Edit.{edit_of};
 
-    /// The same edit, or want of memory. A mapping costs a pointer.
+    /// The same edit, or want of memory (own rule). A mapping costs a pointer.
     pub fn clone(&self) -> Result<Edit, AllocError>
         ensures { IfOk result (λ copy. edit_of copy ≡ edit_of self.now) }
     {

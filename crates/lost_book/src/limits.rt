@@ -30,7 +30,7 @@ impl Model for Limits {
 }
 
 impl Limits {
-    /// These limits, or `None` unless `mappings` is 1 to 65,536 and `edits` is at least 1.
+    /// These limits, or `None` unless `mappings` is 1 to 65,536 and `edits` is at least 1 (own rule).
     pub fn new(mappings: u32, edits: u32) -> Option<Limits>
         ensures { result ≡ limits_of mappings edits }
     {
@@ -41,7 +41,7 @@ impl Limits {
         }
     }
 
-    /// How many mappings may be held.
+    /// How many mappings may be held (own rule).
     pub fn mappings(&self) -> u32
         ensures mappings { result ≡ self.now.mappings }
         ensures allowed { AreAllowed self.now }
@@ -49,7 +49,7 @@ impl Limits {
         self.mappings
     }
 
-    /// How many edits may be accepted.
+    /// How many edits may be accepted (own rule).
     pub fn edits(&self) -> u32
         ensures edits { result ≡ self.now.edits }
         ensures allowed { AreAllowed self.now }

@@ -6,35 +6,35 @@ ghost use Rattle.lost_lines.specs.Answer.{bytes_of, reply_of};
 use crate::short_text::ShortText;
 use std::alloc::Global;
 
-/// What answers lines, one after another, and may change with each.
+/// What answers lines, one after another, and may change with each (own rule).
 pub trait Answerer {
     /// How it answers: from what it is, by a line as it was cut and a reply, to what it then is.
     ghost step: { Self → Cut → Reply → Self → Type 0 };
 
-    /// Answers a line that was kept whole, without its byte 10.
+    /// Answers a line that was kept whole, without its byte 10 (own rule).
     fn answer(&mut self, alloc: Global, line: &[u8]) -> Answer
         ensures { step self.old (Whole line.now) (reply_of result) self.new };
 
-    /// Answers a line over the limit of 1,048,576 bytes.
+    /// Answers a line over the limit of 1,048,576 bytes (own rule).
     fn answer_long(&mut self) -> Answer
         ensures { step self.old TooLong (reply_of result) self.new };
 
-    /// Answers a line that could not be kept, since memory was refused while it was read.
+    /// Answers a line that could not be kept, since memory was refused while it was read (own rule).
     fn answer_unread(&mut self) -> Answer
         ensures { step self.old Unread (reply_of result) self.new };
 }
 
-/// The reply to a line: its text, the byte 10 at its end too, and whether it says that a growth was refused.
+/// The reply to a line: its text, the byte 10 at its end too, and whether it says that a growth was refused (own rule).
 #[derive(Drop)]
 pub struct Answer {
     /// The text that is written.
     pub text: Text,
-    /// Whether the line was answered for want of memory.
+    /// Whether the line was answered `internalError` for want of memory.
     pub is_memory: bool,
 }
 
 impl Answer {
-    /// The bytes that are written.
+    /// The bytes that are written (own rule).
     pub fn bytes(&self) -> &[u8]
         ensures { result.now ≡ (reply_of self.now).text }
     {
@@ -42,7 +42,7 @@ impl Answer {
     }
 }
 
-/// The text of a reply.
+/// The text of a reply (own rule).
 #[derive(Drop)]
 pub enum Text {
     /// A text of its own.
@@ -54,7 +54,7 @@ pub enum Text {
 }
 
 impl Text {
-    /// Its bytes.
+    /// Its bytes (own rule).
     pub fn bytes(&self) -> &[u8]
         ensures { result.now ≡ bytes_of self.now }
     {

@@ -22,7 +22,7 @@ pub enum ServeError {
 }
 
 impl ServeError {
-    /// The number of the fault, from 1 to 4 in the order of the variants.
+    /// The number of the fault, from 1 to 4 in the order of the variants (own rule).
     pub fn code(self) -> u8
         ensures { result ≡ serve_code self }
     {

@@ -24,7 +24,7 @@ impl Model for ShortText {
 }
 
 impl ShortText {
-    /// The text of these bytes.
+    /// The text of these bytes (own rule).
     pub fn of(bytes: &[u8]) -> ShortText
         requires { length bytes.now ≤ 64 }
         ensures { result ≡ bytes.now }
@@ -37,7 +37,7 @@ impl ShortText {
         }
     }
 
-    /// Its bytes, at most 64.
+    /// Its bytes, at most 64 (own rule).
     pub fn bytes(&self) -> &[u8]
         ensures bytes { result.now ≡ self.now }
         ensures short { length result.now ≤ 64 }

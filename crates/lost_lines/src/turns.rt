@@ -11,7 +11,7 @@ pub struct Turns {
 }
 
 impl Turns {
-    /// What the programs use: 1,000,000 lines and 100,000,000 reads.
+    /// What the programs use: 1,000,000 lines and 100,000,000 reads (own rule).
     pub const USUAL: Turns = Turns {
         lines: 1_000_000,
         reads: 100_000_000,

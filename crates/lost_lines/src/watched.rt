@@ -19,7 +19,7 @@ pub struct Watched<T> {
 }
 
 impl<T> Watched<T> {
-    /// Watches `inner` from here on: no flag is set, and no read was made.
+    /// Watches `inner` from here on: no flag is set, and no read was made (own rule).
     pub fn new(inner: T) -> Watched<T>
         ensures inner { inner_of result ≡ inner }
         ensures failed { has_failed result ≡ false }
@@ -34,35 +34,35 @@ impl<T> Watched<T> {
         }
     }
 
-    /// Whether a read, a write or a flush failed, or a write that was given a byte took none.
+    /// Whether a read, a write or a flush failed, or a write that was given a byte took none (own rule).
     pub fn failed(&self) -> bool
         ensures { result ≡ has_failed self.now }
     {
         self.failed
     }
 
-    /// Whether a read with room for a byte gave none.
+    /// Whether a read with room for a byte gave none (own rule).
     pub fn ended(&self) -> bool
         ensures { result ≡ has_ended self.now }
     {
         self.ended
     }
 
-    /// How many reads were made; at 2^64 - 1 the count stays.
+    /// How many reads were made; at 2^64 - 1 the count stays (own rule).
     pub fn reads(&self) -> u64
         ensures { result ≡ reads_of self.now }
     {
         self.reads
     }
 
-    /// What is watched.
+    /// What is watched (own rule).
     pub fn inner(&self) -> &T
         ensures { result.now ≡ inner_of self.now }
     {
         &self.inner
     }
 
-    /// Gives back what was watched.
+    /// Gives back what was watched (own rule).
     pub fn into_inner(self) -> T
         ensures { result ≡ inner_of self }
     {

@@ -52,7 +52,7 @@ impl Expires {
         }
     }
 
-    /// A copy, or want of memory.
+    /// A copy, or want of memory (own rule).
     pub fn clone(&self) -> Result<Expires, AllocError>
         ensures { IfOk result (λ e. expires_seen e ≡ expires_seen self.now) }
     {

@@ -36,8 +36,8 @@ impl Model for Identity {
 }
 
 impl Identity {
-    /// Reads the source, in any case, and the sourceId. `BadSource` comes first, then `BadSourceId`, and `Memory` is
-    /// want of memory.
+    /// Reads the source, in any case, and the sourceId (own rule). `BadSource` comes first, then `BadSourceId`, and
+    /// `Memory` is want of memory.
     pub fn parse(alloc: Global, source: &str, source_id: &str) -> Result<Identity, MappingError>
         ensures refused { IfSome (identity_fault source.now source_id.now) (λ e. result ≡ Err e) }
         ensures accepted { IsNone (identity_fault source.now source_id.now)
@@ -66,7 +66,7 @@ impl Identity {
         })
     }
 
-    /// The source.
+    /// The source (own rule).
     pub fn source(&self) -> &Source
         ensures value { result.now ≡ self.now.source }
         ensures well_formed { IsTrue (is_source self.now.source) }
@@ -74,7 +74,7 @@ impl Identity {
         &self.source
     }
 
-    /// The sourceId, as it was given.
+    /// The sourceId, as it was given (own rule).
     pub fn source_id(&self) -> &str
         ensures text { result.now ≡ self.now.source_id }
         ensures well_formed { IsTrue (is_id self.now.source_id) }
@@ -82,7 +82,7 @@ impl Identity {
         self.source_id.as_str()
     }
 
-    /// A copy, or want of memory.
+    /// A copy, or want of memory (own rule).
     pub fn clone(&self) -> Result<Identity, AllocError>
         ensures { IfOk result (λ i. i ≡ self.now) }
     {

@@ -65,7 +65,7 @@ impl Model for Mapping {
 impl Mapping {
     ghost use Rattle.lost_mapping.specs.Fields.{mapping_with};
 
-    /// The mapping of these parts.
+    /// The mapping of these parts (own rule).
     ///
     /// # Errors
     ///
@@ -210,7 +210,7 @@ impl Mapping {
         self.inner.expires.is_live_at(moment)
     }
 
-    /// The same mapping, or want of memory. It costs a pointer.
+    /// The same mapping, or want of memory (own rule). It costs a pointer.
     pub fn clone(&self) -> Result<Mapping, AllocError>
         ensures { IfOk result (λ copy. copy ≡ self.now) }
     {

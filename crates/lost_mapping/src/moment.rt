@@ -29,7 +29,7 @@ impl Model for Moment {
 }
 
 impl Moment {
-    /// The instant at a nanosecond of a day, or `None` from 86,400,000,000,000 nanoseconds on.
+    /// The instant at a nanosecond of a day, or `None` from 86,400,000,000,000 nanoseconds on (own rule).
     pub fn new(day: i32, nanosecond: u64) -> Option<Moment>
         ensures none { IsNone result ↔ (nanoseconds_of_a_day ≤ nanosecond) }
         ensures value { IfSome result (λ m. m ≡ record { day = day; nanosecond = nanosecond }) }
@@ -40,14 +40,14 @@ impl Moment {
         Some(Moment { day, nanosecond })
     }
 
-    /// The day number, 0 for 1970-01-01 and negative before it.
+    /// The day number, 0 for 1970-01-01 and negative before it (own rule).
     pub fn day(&self) -> i32
         ensures { result ≡ self.now.day }
     {
         self.day
     }
 
-    /// The nanosecond of the day.
+    /// The nanosecond of the day (own rule).
     pub fn nanosecond(&self) -> u64
         ensures value { result ≡ self.now.nanosecond }
         ensures within { result < nanoseconds_of_a_day }
@@ -55,7 +55,7 @@ impl Moment {
         self.nanosecond
     }
 
-    /// Whether this instant is before another. It is so exactly where `<` holds.
+    /// Whether this instant is before another (own rule). It is so exactly where `<` holds.
     pub fn is_earlier(&self, other: &Moment) -> bool
         ensures { result ≡ is_earlier self.now other.now }
     {

@@ -17,15 +17,15 @@ pub trait Holdings {
     /// The book that it is seen as.
     ghost book: { Self → spec.Book };
 
-    /// How many edits were accepted.
+    /// How many edits were accepted (own rule).
     fn edition(&self) -> u64
         ensures { result ≡ (book self.now).edits };
 
-    /// How many mappings are held.
+    /// How many mappings are held (own rule).
     fn len(&self) -> usize
         ensures { result ≡ length (book self.now).mappings };
 
-    /// The mapping at a position, which is below `len`.
+    /// The mapping at a position, which is below `len` (own rule).
     fn mapping(&self, position: usize) -> &Mapping
         requires { position < length (book self.now).mappings }
         ensures { slice_get (book self.now).mappings position ≡ Some result.now };

@@ -49,7 +49,9 @@ pub enum Reply {
 /// A mapping, and how its boundary is shown (RFC 5222, section 8.4.1).
 #[derive(Drop)]
 pub struct ShownMapping {
+    /// The mapping.
     pub mapping: Mapping,
+    /// How its boundary is shown.
     pub boundary: Boundary,
 }
 
@@ -69,7 +71,10 @@ pub enum Boundary {
 /// The names of an address's elements by how they were judged (RFC 5222, section 8.4.2).
 #[derive(Drop)]
 pub struct Validation {
+    /// The elements that some reference pattern names, and none with the address's value.
     pub invalid: Vec<String>,
+    /// All other names of the address.
     pub unchecked: Vec<String>,
+    /// The elements that a matching pattern of a mapping that was found names.
     pub valid: Vec<String>,
 }

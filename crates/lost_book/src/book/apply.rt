@@ -12,7 +12,7 @@ use lost_spec::faults::EditError;
 
 impl Book {
     /// Applies an edit: a publish appends, a replacement keeps the place, a withdrawal closes up, and the edition rises
-    /// by one. Only a publish takes memory.
+    /// by one (own rule). Only a publish takes memory.
     ///
     /// # Errors
     ///
