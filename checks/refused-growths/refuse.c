@@ -1,4 +1,5 @@
-// Loaded before the C library: refuses one growth of a program's memory, and counts them.
+// Loaded before the C library: refuses one growth of a program's memory, and counts them. A program of the kit takes memory by
+// malloc and realloc alone (`nm -D` shows it).
 //
 // REFUSE is the number of the growth that is refused, from 1; with no such growth none is. Where COUNT is set, the number
 // of growths stands on standard error at the end.
