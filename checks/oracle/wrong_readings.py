@@ -1,0 +1,246 @@
+"""Wrong readings of the rules, each as a stand-in for a function or a constant of the oracle."""
+import answers
+import book
+import desk_lines
+import mappings
+import members
+import oracle
+import places
+import request_lines
+import search
+import strict_json
+import texts
+import validation
+
+HOLDERS = [
+    answers, book, desk_lines, mappings, members, oracle, places, request_lines, search, strict_json, texts, validation,
+    oracle.Replay,
+]
+RIGHT = {name: thing for holder in HOLDERS for name, thing in vars(holder).items()}
+DAY_OF_MOST_SESSIONS = texts.moment_of("2026-01-01T00:00:00Z")
+
+
+def without(code, name):
+    """The codes of a function, but for one."""
+    return lambda *given: (other for other in RIGHT[name](*given) if other != code)
+
+
+def earlier(early, late, name):
+    """The first code of a function, where one code is looked for just before another that should come before it."""
+
+    def codes(*given):
+        seen = RIGHT[name](*given)
+        first = next(seen, None)
+        if first == late and next(seen, None) == early:
+            return [early]
+        return [] if first is None else [first]
+
+    return codes
+
+
+def found_without_the_chain(held, moment, place, service):
+    """Looks for holders of the service itself alone, and for defaults as it should."""
+    if here := search.holders(held, moment, place, service):
+        return search.Found(service, here, False)
+    standing_by = [(at, search.defaults(held, moment, at)) for at in search.chain(service)]
+    return next((search.Found(at, some, True) for at, some in standing_by if some), None)
+
+
+def found_defaults_first(held, moment, place, service):
+    """Looks for defaults of each service of the chain before the next one's holders."""
+    for at in search.chain(service):
+        if here := search.holders(held, moment, place, at):
+            return search.Found(at, here, False)
+        if standing_by := search.defaults(held, moment, at):
+            return search.Found(at, standing_by, True)
+    return None
+
+
+def system_looked_at_for_all(location):
+    """Looks at the reference system of an address too."""
+    if not location.is_system_known:
+        raise answers.Failed("SRSInvalid")
+    return RIGHT["place_of"](location)
+
+
+def system_looked_at_last(location):
+    """Looks at the content of a point before its reference system."""
+    RIGHT["place_of"](location._replace(is_system_known=True))
+    return RIGHT["place_of"](location)
+
+
+def staged_with_all_edits(self, edit):
+    """Counts the published edits as pending."""
+    RIGHT["stage"](self, edit)
+    return {"staged": {"pending": self.staged.edits}}
+
+
+def refused_and_counted(self, edit):
+    """Counts an edit that is refused."""
+    try:
+        return RIGHT["stage"](self, edit)
+    except mappings.Refused:
+        self.staged = self.staged._replace(edits=self.staged.edits + 1)
+        raise
+
+
+def name_first_in_path(*given):
+    """Puts the server's name before the path of the request."""
+    ((kind, reply),) = RIGHT["answer"](*given).items()
+    return {kind: reply | {"path": [reply["path"][-1], *reply["path"][:-1]]} if "path" in reply else reply}
+
+
+def nulls_left_out(item):
+    """Leaves members out of an address that are null."""
+    address = item.get("address")
+    if not isinstance(address, dict):
+        return RIGHT["read_body"](item)
+    return RIGHT["read_body"](item | {"address": {name: text for name, text in address.items() if text is not None}})
+
+
+def valid_of_first_pattern(result, address):
+    """Takes the first pattern that matches for the only one."""
+    patterns = [pattern for mapping in result.mappings for pattern in mapping.patterns]
+    return set(next((pattern for pattern in patterns if places.matches(pattern, address)), ()))
+
+
+def unavailable_for_points(result, request, place):
+    """Warns that a point was not validated."""
+    return RIGHT["warnings_of"](result, request, place._replace(profile=places.CIVIC))
+
+
+def in_order_of_address(names):
+    """Leaves unknown names in the order of the address."""
+    known = [name for name in RIGHT["ordered_names"](names) if places.is_known(name)]
+    return known + [name for name in names if not places.is_known(name)]
+
+
+def same_regions_by_comparison(new, old):
+    """Compares the values of patterns by their comparison texts."""
+    one, other = (
+        [{name: RIGHT["comparison_text"](text) for name, text in pattern.items()} for pattern in mapping.patterns]
+        for mapping in (new, old)
+    )
+    return new.polygons == old.polygons and one == other
+
+
+def key_held_while_live(held, new):
+    """Lets a key that an expired mapping has go to another."""
+    living = tuple(mapping for mapping in held.mappings if RIGHT["is_live"](mapping, DAY_OF_MOST_SESSIONS))
+    return RIGHT["is_key_held"](held._replace(mappings=living), new)
+
+
+# What is wrong, the name of the function or the constant, and what stands in for it.
+WRONG_READINGS = [
+    ("upper edges belong to a ring", "spans", lambda low, high, at: low.latitude <= at.latitude <= high.latitude),
+    ("right edges belong to a ring", "is_left", lambda low, high, at: not RIGHT["is_left"](high, low, at)),
+    ("longitudes have no normal form", "normal", lambda at: at._replace(latitude=RIGHT["normal"](at).latitude)),
+    ("latitudes have no normal form", "normal", lambda at: at._replace(longitude=RIGHT["normal"](at).longitude)),
+    ("a ring has 3 positions", "is_ring", lambda ring: RIGHT["is_ring"](ring[:1] + ring) if ring else False),
+    ("a ring need not be closed", "is_ring", lambda ring: len(ring) > 3 and all(map(places.is_point, ring))),
+    ("comparison texts keep case", "comparison_text", lambda text: places.WHITE_SPACE.sub(" ", text).strip(" ")),
+    ("white space is Unicode's", "comparison_text", lambda text: texts.lowered(" ".join(text.split()))),
+    ("ends are not trimmed", "comparison_text", lambda text: texts.lowered(places.WHITE_SPACE.sub(" ", text))),
+    ("Unicode letters are lowered", "lowered", str.lower),
+    ("every name is known", "is_known", lambda name: True),
+    ("live at the instant of expiry", "is_live", lambda mapping, at: RIGHT["is_live"](mapping, (at[0], at[1] - 1))),
+    ("a fraction is a number", "fraction", lambda digits: int(digits or "0")),
+    ("the chain goes from the short end", "chain", lambda service: RIGHT["chain"](service)[::-1]),
+    ("no holders above the service", "found", found_without_the_chain),
+    ("defaults come before what is above", "found", found_defaults_first),
+    ("implemented by the service alone", "is_implemented", lambda held, at, service: any(
+        mapping.service == service for mapping in search.living(held, at))),
+    ("implemented by expired mappings", "is_implemented", lambda held, at, service: any(
+        mapping.service in search.chain(service) for mapping in held.mappings)),
+    ("references are of what is found", "validation", lambda held, at, result, address: RIGHT["validation"](
+        book.Book(tuple(result.mappings)), at, result, address)),
+    ("references are of all services", "patterns_of_service", lambda held, at, service: [
+        pattern for mapping in search.living(held, at) for pattern in mapping.patterns]),
+    ("references may be expired", "patterns_of_service", lambda held, at, service: [
+        pattern for mapping in held.mappings if mapping.service == service for pattern in mapping.patterns]),
+    ("references name some valid element", "is_reference", lambda pattern, address, valid: any(
+        places.agrees(pattern, address, name) for name in valid)),
+    ("every pattern is a reference", "is_reference", lambda pattern, address, valid: True),
+    ("invalid though a reference agrees", "is_invalid", lambda name, address, references: (
+        places.is_known(name) and any(name in pattern for pattern in references))),
+    ("valid by the first mapping", "valid_names", lambda result, address: RIGHT["valid_names"](
+        result._replace(mappings=result.mappings[:1]), address)),
+    ("valid by the first pattern", "valid_names", valid_of_first_pattern),
+    ("unknown names are not sorted", "ordered_names", in_order_of_address),
+    ("listServices leaves defaults out", "all_services", lambda held, at, service: search.children(
+        [mapping for mapping in search.living(held, at) if not mapping.is_default], service)),
+    ("listServices counts expired mappings", "all_services", lambda held, at, service: search.children(
+        held.mappings, service)),
+    ("a service is below itself", "is_above", lambda service, other: other[: len(service)] == service),
+    ("a key outlives its mapping", "by_key", lambda held, at, key: next(
+        (mapping for mapping in held.mappings if mapping.key == key), None)),
+    ("patterns come before polygons", "boundary", lambda *given: {
+        "serviceBoundary": sorted(RIGHT["boundary"](*given)["serviceBoundary"], key=lambda shown: "polygon" in shown)}),
+    ("a replacement goes to the end", "replaced", lambda old, new: (*book.withdrawn(old, new.identity), new)),
+    ("an equal stamp is newer", "is_not_newer", lambda edit, old: edit.moment < texts.moment_of(old.last_updated)),
+    ("a withdrawal by any stamp", "is_not_newer", lambda edit, old: (
+        edit.kind != book.WITHDRAW and RIGHT["is_not_newer"](edit, old))),
+    ("keys need not change", "refusals", without(17, "refusals")),
+    ("KeyHeld comes before NotNewer", "refusals", earlier(16, 15, "refusals")),
+    ("KeyUnchanged comes before NotNewer", "refusals", earlier(17, 15, "refusals")),
+    ("KeyHeld comes before IdentityHeld", "refusals", earlier(16, 13, "refusals")),
+    ("the order of polygons says nothing", "same_regions", lambda new, old: (
+        sorted(new.polygons) == sorted(old.polygons) and new.patterns == old.patterns)),
+    ("patterns change by comparison texts", "same_regions", same_regions_by_comparison),
+    ("expired mappings hold no key", "is_key_held", key_held_while_live),
+    ("a mapping's own key is held against it", "is_key_held", lambda held, new: (
+        new.key is not None and any(mapping.key == new.key for mapping in held.mappings))),
+    ("a default may have regions", "has_regions_as_due", lambda parts: parts.is_default or bool(parts.regions)),
+    ("a default may have a key", "has_key_as_due", lambda parts: parts.is_default or RIGHT["has_key_as_due"](parts)),
+    ("RegionMissing does not come", "faults", without(10, "faults")),
+    ("TooLarge does not come", "faults", without(11, "faults")),
+    ("BadSourceId comes before BadSource", "faults", earlier(3, 2, "faults")),
+    ("BadStamp comes before BadSourceId", "faults", earlier(4, 3, "faults")),
+    ("BadExpires comes before BadStamp", "faults", earlier(5, 4, "faults")),
+    ("BadService comes before BadExpires", "faults", earlier(6, 5, "faults")),
+    ("BadUri comes before BadService", "faults", earlier(7, 6, "faults")),
+    ("BadNumber comes before BadUri", "faults", earlier(8, 7, "faults")),
+    ("BadRegion comes before BadNumber", "faults", earlier(9, 8, "faults")),
+    ("TooLarge comes before RegionMissing", "faults", earlier(11, 10, "faults")),
+    ("BadKey comes before RegionMissing", "faults", earlier(12, 10, "faults")),
+    ("BadKey comes before TooLarge", "faults", earlier(12, 11, "faults")),
+    ("a label may end with a hyphen", "is_label", lambda label: RIGHT["is_label"](label.rstrip("-"))),
+    ("a label may be long", "is_label", lambda label: RIGHT["is_label"](label[:50].rstrip("-") + label[63:])),
+    ("a fraction may have ten digits", "moment_of", lambda text: RIGHT["moment_of"](
+        text[:29] + "Z" if len(text) == 31 and text.endswith("Z") else text)),
+    ("a minute has a second 60", "moment_of", lambda text: RIGHT["moment_of"](text.replace(":60", ":59"))),
+    ("a service number may have letters", "is_number", lambda text: 1 <= len(text) <= 64),
+    ("a URI may end with its colon", "scheme_of", lambda text: RIGHT["scheme_of"](text + "x")),
+    ("a byte 127 may stand in an id", "is_id", lambda text: RIGHT["is_id"](text.replace("\x7f", "x"))),
+    ("lengths are those in characters", "size", len),
+    ("pending counts all edits", "stage", staged_with_all_edits),
+    ("a refused edit is counted", "stage", refused_and_counted),
+    ("a loop is in exact case", "is_loop", lambda path, name: name in path),
+    ("a loop ignores the case of Unicode", "is_loop", lambda path, name: any(
+        passed.casefold() == name.casefold() for passed in path)),
+    ("the server's name is first in the path", "answer", name_first_in_path),
+    ("an address has a reference system", "place_of", system_looked_at_for_all),
+    ("the reference system is looked at last", "place_of", system_looked_at_last),
+    ("no warning of a substitution", "warnings_of", lambda result, request, place: RIGHT["warnings_of"](
+        result, request._replace(service=result.service), place)),
+    ("a point is warned of", "warnings_of", unavailable_for_points),
+    ("-0 is whole", "whole_number", lambda text: 0 if text == "-0" else RIGHT["whole_number"](text)),
+    ("values nest 126 deep", "DEEPEST", 126),
+    ("a source keeps its case", "identity_of", lambda source, source_id: (source, source_id)),
+    ("no display names are shown as a list", "mapping_shown", lambda *given: (
+        {"displayName": []} | RIGHT["mapping_shown"](*given))),
+    ("schemes are told apart by case", "scheme_of", lambda text: (
+        RIGHT["scheme_of"](text) and text.split(":")[0])),
+    ("an address leaves nulls out", "read_body", nulls_left_out),
+    ("a line may have further members", "only_member", lambda line: (
+        next(iter(line.items())) if isinstance(line, dict) and line else None)),
+    ("a commit may have any value", "read_desk_line", lambda line: (
+        None if desk_lines.COMMIT in line else RIGHT["read_desk_line"](line))),
+]
+# Readings that are no other rule, with the reason.
+CHANGES_NOTHING = [
+    ("defaults are listed at a place: they have no region that could hold it", "holding", lambda held, at, place: [
+        mapping for mapping in search.living(held, at) if mappings.holds(mapping, place)]),
+    ("KeyUnchanged comes before KeyHeld: a key that is unchanged is held by no other mapping", "refusals", earlier(
+        17, 16, "refusals")),
+]
