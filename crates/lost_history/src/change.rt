@@ -1,0 +1,18 @@
+//! The entries of the history.
+use lost_book::Edit;
+use std::marker::Model;
+
+/// An entry of the history: an edit, seen as the definition's. No value of it is made.
+#[derive(Drop)]
+pub struct Change {
+    edit: Edit,
+}
+
+impl Model for Change {
+    ghost use Rattle.lost_spec.specs.Book as spec;
+    ghost use Rattle.lost_book.specs.Edit.{edit_of};
+
+    ghost Value = { spec.Edit };
+
+    ghost view = { λ c. edit_of c.edit };
+}

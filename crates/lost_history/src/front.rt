@@ -1,0 +1,103 @@
+//! Beginnings of a history.
+ghost use Rattle.std.specs.Prelude.{◌≡◌, [], length, MatchBool};
+ghost use Rattle.lost_spec.specs.Laws.{BeginsWith};
+ghost use Rattle.lost_history.specs.History.{beginning, longer};
+
+use crate::change::Change;
+use crate::head::Head;
+use crate::rule::{Aim, Nothing, Reaches, Rises};
+use logbook::{Offer, Seen};
+use std::marker::Model;
+
+/// A beginning of a history. Contracts see it as its opening and its list of edits; what runs is the list's length.
+#[derive(Drop)]
+pub struct Front {
+    count: u64,
+    seen: Seen<Change, u64, Rises>,
+}
+
+impl Model for Front {
+    ghost use Rattle.std.specs.Prelude.{◌≡◌, length};
+    ghost use Rattle.lost_history.specs.History.{Beginning, beginning};
+
+    ghost Value = { Beginning };
+
+    ghost view = { λ f. beginning f.seen.book f.seen.log };
+
+    ghost invariant = { λ f. f.count ≡ length f.seen.log };
+}
+
+impl Front {
+    /// The front of a history that was just opened.
+    pub(crate) fn first(seen: Seen<Change, u64, Rises>) -> Front
+        requires { seen.log ≡ [] }
+        ensures { result ≡ beginning seen.book [] }
+    {
+        Front { count: 0, seen }
+    }
+
+    /// How many edits it has.
+    pub fn len(&self) -> u64
+        ensures { result ≡ length self.now.list }
+    {
+        self.count
+    }
+
+    /// A copy. It takes no memory.
+    pub fn again(&self) -> Front
+        ensures { result ≡ self.now }
+    {
+        Front {
+            count: self.count,
+            seen: self.seen.again(),
+        }
+    }
+
+    /// Becomes the longer of two fronts of one history. Both begin it.
+    pub fn learn(&mut self, other: &Front)
+        requires { other.now.opening ≡ self.old.opening }
+        ensures longer { self.new ≡ beginning self.old.opening (longer self.old.list other.now.list) }
+        ensures this { BeginsWith self.new.list self.old.list }
+        ensures that { BeginsWith self.new.list other.now.list }
+    {
+        self.meet(other);
+        if self.count < other.count {
+            *self = other.again();
+        }
+    }
+
+    /// Shows to the proof that the longer of two fronts of one history begins with both.
+    fn meet(&self, other: &Front)
+        requires { other.now.opening ≡ self.now.opening }
+        ensures this { BeginsWith (longer self.now.list other.now.list) self.now.list }
+        ensures that { BeginsWith (longer self.now.list other.now.list) other.now.list }
+    {
+        let mut both = self.seen.again();
+        both.learn(&other.seen);
+    }
+
+    /// Makes the history the list of an aim, which the front begins, and says whether it did. It did not where the
+    /// history was longer than the front, as no owner of its only head sees it.
+    pub fn reach<A: Aim>(&mut self, head: &Head, to: u64) -> bool
+        requires opening { head.now ≡ self.old.opening }
+        requires begins { BeginsWith A.list self.old.list }
+        requires length { to ≡ length A.list }
+        ensures { MatchBool result (self.new ≡ beginning self.old.opening A.list) (self.new ≡ self.old) }
+    {
+        let mut seen = self.seen.again();
+        let mut offer: Offer<Change, u64, Rises, Nothing> = seen.plain::<Nothing, (), Reaches<A>>(
+            &(),
+        );
+        let mut pen = seen.no_pen();
+        let found = head
+            .word
+            .compare_exchange::<Reaches<A>, Nothing>(
+                self.count, to, &mut seen, &mut offer, &mut pen,
+            );
+        if found != self.count {
+            return false;
+        }
+        *self = Front { count: to, seen };
+        true
+    }
+}
