@@ -1,6 +1,6 @@
 """A second, independent reading of the rules of `lostd replay`, to compare the program with.
 
-It follows FORMATS.md and DEFINITIONS.md, shares no code with the program, and is written for a reader and not for
+It follows docs/PROTOCOL.md and docs/DEFINITIONS.md, shares no code with the program, and is written for a reader and not for
 speed: each question looks through the whole list of mappings. The rules are in these modules, from the bottom up:
 strict_json, texts, places and mappings; book, search and validation; members, desk_lines, request_lines and answers.
 """

@@ -1,4 +1,4 @@
-"""Reads and writes the JSON of lines, as strictly as FORMATS.md says ("How a line is read", "How a line is written").
+"""Reads and writes the JSON of lines, as strictly as docs/PROTOCOL.md says ("Lines").
 
 What is read is None, True, False, an int (a whole number), NOT_WHOLE (any other number), a str, a list or a dict.
 """
