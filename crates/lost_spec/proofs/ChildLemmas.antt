@@ -39,7 +39,7 @@ is_at_or_below-take above s h =
     ap (λ (front : Service). pointwise same_text above front) (take-take (length above) (length above + 1) s (omega arith)) ∙ below
 
 -- what holds of the first labels of s, one more than those above it, holds of a child; b, whether they are above it
-by_child :
+pub by_child :
     (P : Service → Type 0) (above s u : Service)
     → (IsTrue (is_above above s) → P (take (length above + 1) s))
     → (b : Bool) → is_above above s ≡ b → cond b (Some (take (length above + 1) s)) None ≡ Some u → P u

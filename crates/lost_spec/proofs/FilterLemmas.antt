@@ -1,5 +1,6 @@
 -- What a filter keeps, where its test decides a fact.
-use Rattle.std.proofs.Common.{◌≡◌, Bool, true, false, cond, ◌||◌, List, [], ◌∷◌, filter, Decides, sym, refl, ap, ◌∙◌, true≢false}
+use Rattle.std.proofs.Common.{◌≡◌, Bool, true, false, cond, ◌||◌, List, [], ◌∷◌, Some, filter, find, Decides, sym, refl, ap, ◌∙◌, true≢false}
+use Rattle.std.proofs.lemmas.Bool.{false_from_ne_true}
 use Rattle.std.specs.List.{AllByRecursion, list_any}
 use Rattle.lost_spec.specs.Laws.{Picks, PicksNone, PicksIt, PassesIt}
 
@@ -24,6 +25,37 @@ module _ {Thing : Type 0} (test : Thing → Bool) where
       by : (b : Bool) → test x ≡ b → list_any test (filter test xs) ≡ list_any test xs → list_any test (cond b (x ∷ filter test xs) (filter test xs)) ≡ (b || list_any test xs)
       by true e h = ap (λ b. b || list_any test (filter test xs)) e
       by false e h = h
+
+-- ---- a filter before a test that only what is kept passes
+
+module _ {Thing : Type 0} (test kept : Thing → Bool) (only : (x : Thing) → test x ≡ true → kept x ≡ true) where
+  -- what is not kept fails
+  fails_unkept : (x : Thing) → kept x ≡ false → test x ≡ false
+  fails_unkept x e = false_from_ne_true (test x) (λ p. true≢false (sym (only x p) ∙ e))
+
+  pub filter-filter : (xs : List Thing) → filter test (filter kept xs) ≡ filter test xs
+  filter-filter [] = refl
+  filter-filter (x ∷ xs) = by (kept x) refl (filter-filter xs)
+    where
+      by : (b : Bool) → kept x ≡ b → filter test (filter kept xs) ≡ filter test xs → filter test (cond b (x ∷ filter kept xs) (filter kept xs)) ≡ filter test (x ∷ xs)
+      by true e rest = ap (λ ys. cond (test x) (x ∷ ys) ys) rest
+      by false e rest = rest ∙ sym (filter_drops test x xs (fails_unkept x e))
+
+  pub list_any-kept : (xs : List Thing) → list_any test (filter kept xs) ≡ list_any test xs
+  list_any-kept [] = refl
+  list_any-kept (x ∷ xs) = by (kept x) refl (list_any-kept xs)
+    where
+      by : (b : Bool) → kept x ≡ b → list_any test (filter kept xs) ≡ list_any test xs → list_any test (cond b (x ∷ filter kept xs) (filter kept xs)) ≡ (test x || list_any test xs)
+      by true e rest = ap (λ r. test x || r) rest
+      by false e rest = rest ∙ sym (ap (λ t. t || list_any test xs) (fails_unkept x e))
+
+  pub find-filter : (xs : List Thing) → find test (filter kept xs) ≡ find test xs
+  find-filter [] = refl
+  find-filter (x ∷ xs) = by (kept x) refl (find-filter xs)
+    where
+      by : (b : Bool) → kept x ≡ b → find test (filter kept xs) ≡ find test xs → find test (cond b (x ∷ filter kept xs) (filter kept xs)) ≡ cond (test x) (Some x) (find test xs)
+      by true e rest = ap (λ o. cond (test x) (Some x) o) rest
+      by false e rest = rest ∙ sym (ap (λ t. cond t (Some x) (find test xs)) (fails_unkept x e))
 
 module _ {Thing : Type 0} (test : Thing → Bool) {P : Thing → Type 0} (decides : (x : Thing) → Decides (test x) (P x)) where
   -- where the test fails, P does not hold

@@ -105,15 +105,15 @@ nothing_where_nothing_is_lem b t l s nowhere = nothing_from_nowhere b t l s (fou
 
 -- ---- what is implemented
 
--- the law `ImplementedMeansHere`
-pub implemented_means_here_lem : ImplementedMeansHere
-unfolding is_implemented
-implemented_means_here_lem b t s = none_from_list_any (λ m. is_live m t && list_any (λ u. same_service m.service u) (chain s)) (IsHere-Decides t s) b.mappings
-
 -- the law `HereMeansImplemented`
 pub here_means_implemented_lem : HereMeansImplemented
 unfolding is_implemented
-here_means_implemented_lem b t s = list_any_from_none (λ m. is_live m t && list_any (λ u. same_service m.service u) (chain s)) (IsHere-Decides t s) b.mappings
+here_means_implemented_lem b t s = none_from_list_any (λ m. is_live m t && list_any (λ u. same_service m.service u) (chain s)) (IsHere-Decides t s) b.mappings
+
+-- the law `ImplementedMeansHere`
+pub implemented_means_here_lem : ImplementedMeansHere
+unfolding is_implemented
+implemented_means_here_lem b t s = list_any_from_none (λ m. is_live m t && list_any (λ u. same_service m.service u) (chain s)) (IsHere-Decides t s) b.mappings
 
 -- a holder, and a default, of a service of the chain is here
 IsHere-from_HoldsHere : (t : Instant) (l : Place) (s v : Service) → IsOfChain v s → (m : Mapping) → HoldsHere t l v m → IsHere t s m
@@ -125,6 +125,6 @@ IsHere-from_StandsBy t s v c m h = record { live = h.live; of_chain = subst (λ 
 -- the law `NothingUnlessImplemented`
 pub nothing_unless_implemented_lem : NothingUnlessImplemented
 nothing_unless_implemented_lem b t l s not_implemented = nothing_where_nothing_is_lem b t l s (record {
-  no_holder = λ v c. AllByRecursion-weaker (λ m. ¬ IsHere t s m) (λ m. ¬ HoldsHere t l v m) (λ m none h. none (IsHere-from_HoldsHere t l s v c m h)) b.mappings (implemented_means_here_lem b t s not_implemented);
-  no_default = λ v c. AllByRecursion-weaker (λ m. ¬ IsHere t s m) (λ m. ¬ StandsBy t v m) (λ m none h. none (IsHere-from_StandsBy t s v c m h)) b.mappings (implemented_means_here_lem b t s not_implemented);
+  no_holder = λ v c. AllByRecursion-weaker (λ m. ¬ IsHere t s m) (λ m. ¬ HoldsHere t l v m) (λ m none h. none (IsHere-from_HoldsHere t l s v c m h)) b.mappings (here_means_implemented_lem b t s not_implemented);
+  no_default = λ v c. AllByRecursion-weaker (λ m. ¬ IsHere t s m) (λ m. ¬ StandsBy t v m) (λ m none h. none (IsHere-from_StandsBy t s v c m h)) b.mappings (here_means_implemented_lem b t s not_implemented);
 })

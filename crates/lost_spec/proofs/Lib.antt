@@ -10,3 +10,9 @@ pub mod ChildLemmas
 pub mod NameLemmas
 pub mod CoverLemmas
 pub mod PositionLemmas
+pub mod ProductLemmas
+pub mod EdgeLemmas
+pub mod InstantLemmas
+pub mod EditLemmas
+pub mod LiveLemmas
+pub mod OfferLemmas

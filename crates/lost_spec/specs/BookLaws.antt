@@ -1,8 +1,8 @@
--- Laws of the book of an accepted list.
-use Rattle.std.specs.Prelude.{◌≡◌, ◌≢◌, ℕ, ◌≤◌, IsTrue, List, Some, length}
+-- Laws of the book of an accepted list, and of what an edit leaves as it is.
+use Rattle.std.specs.Prelude.{◌≡◌, ◌≢◌, ℕ, ◌≤◌, IsTrue, not, List, Some, length, map, filter}
 use Rattle.lost_spec.specs.Text.{Text}
 use Rattle.lost_spec.specs.Mapping.{Mapping}
-use Rattle.lost_spec.specs.Book.{Limits, Book, Edit, identity_of, book_of, is_accepted}
+use Rattle.lost_spec.specs.Book.{Limits, Book, Identity, Edit, Publish, Replace, Withdraw, identity_of, has_identity, held, after, book_of, is_accepted}
 use Rattle.lost_spec.specs.Laws.{EachWithLater}
 
 -- two mappings have two identities
@@ -24,3 +24,27 @@ pub record IsInOrder (limits : Limits) (edits : ℕ) (b : Book) : Type 0 where
 -- the book of an accepted list has each identity and each key at most once, no more mappings than its limit, and as its number the length of the list
 abbrev pub AcceptedBookIsInOrder : Type 0
 AcceptedBookIsInOrder = (limits : Limits) (es : List Edit) → IsTrue (is_accepted limits es) → IsInOrder limits (length es) (book_of limits es)
+
+-- ---- what an edit leaves as it is
+
+-- the identity of the mapping that an edit is of
+abbrev pub edited : Edit → Identity
+edited (Publish m) = identity_of m
+edited (Replace m) = identity_of m
+edited (Withdraw id stamp) = id
+
+-- the mappings of all other identities, in list order
+abbrev pub others : Identity → List Mapping → List Mapping
+others id ms = filter (λ m. not (has_identity m id)) ms
+
+-- the mappings of other identities than the edit's are the same before and after, in the same order, and so is what is held under each
+pub record LeavesTheOthers (b : Book) (e : Edit) : Type 0 where
+  pub others_stay : others (edited e) (after b e).mappings ≡ others (edited e) b.mappings
+  pub held_stay : (id : Identity) → id ≢ edited e → held (after b e) id ≡ held b id
+
+abbrev pub UntouchedStay : Type 0
+UntouchedStay = (b : Book) (e : Edit) → LeavesTheOthers b e
+
+-- a replacement leaves the list of identities as it was
+abbrev pub ReplacementKeepsIdentities : Type 0
+ReplacementKeepsIdentities = (b : Book) (m : Mapping) → map identity_of (after b (Replace m)).mappings ≡ map identity_of b.mappings

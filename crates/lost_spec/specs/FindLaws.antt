@@ -79,11 +79,11 @@ pub record IsHere (t : Instant) (s : Service) (m : Mapping) : Type 0 where
   pub live : IsTrue (is_live m t)
   pub of_chain : IsOfChain m.service s
 
-abbrev pub ImplementedMeansHere : Type 0
-ImplementedMeansHere = (b : Book) (t : Instant) (s : Service) → IsFalse (is_implemented b t s) → AllByRecursion (λ m. ¬ IsHere t s m) b.mappings
-
 abbrev pub HereMeansImplemented : Type 0
-HereMeansImplemented = (b : Book) (t : Instant) (s : Service) → AllByRecursion (λ m. ¬ IsHere t s m) b.mappings → IsFalse (is_implemented b t s)
+HereMeansImplemented = (b : Book) (t : Instant) (s : Service) → IsFalse (is_implemented b t s) → AllByRecursion (λ m. ¬ IsHere t s m) b.mappings
+
+abbrev pub ImplementedMeansHere : Type 0
+ImplementedMeansHere = (b : Book) (t : Instant) (s : Service) → AllByRecursion (λ m. ¬ IsHere t s m) b.mappings → IsFalse (is_implemented b t s)
 
 -- ---- edits elsewhere
 

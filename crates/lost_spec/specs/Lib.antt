@@ -15,7 +15,12 @@ pub mod Answer
 pub mod Examples
 pub mod Rows
 pub mod OwnRows
+pub mod BoundRows
+pub mod MoreRows
 pub mod Laws
 pub mod FindLaws
 pub mod BookLaws
 pub mod ListLaws
+pub mod RingLaws
+pub mod MomentLaws
+pub mod AnswerLaws

@@ -3,15 +3,15 @@ use Rattle.std.specs.Prelude.{◌≡◌, ℕ, ◌+◌, ◌<◌, Bool, IsTrue, Is
 use Rattle.std.specs.List.{AllByRecursion}
 use Rattle.lost_spec.specs.Text.{Text, is_among, has_repeat}
 use Rattle.lost_spec.specs.Positions.{positions}
-use Rattle.lost_spec.specs.Service.{Service, is_at_or_below, is_service_before}
+use Rattle.lost_spec.specs.Service.{Service, service_text, is_at_or_below, is_service_before}
 use Rattle.lost_spec.specs.Civic.{Pairs, names_of}
 use Rattle.lost_spec.specs.Moment.{Instant}
-use Rattle.lost_spec.specs.Mapping.{Mapping}
+use Rattle.lost_spec.specs.Mapping.{Mapping, is_live}
 use Rattle.lost_spec.specs.Book.{Book}
-use Rattle.lost_spec.specs.Find.{Place}
+use Rattle.lost_spec.specs.Find.{Place, holds}
 use Rattle.lost_spec.specs.Validation.{Validation, validation}
 use Rattle.lost_spec.specs.Services.{services, all_services}
-use Rattle.lost_spec.specs.Laws.{EachWithLater}
+use Rattle.lost_spec.specs.Laws.{EachWithLater, SomeByRecursion, BeginsWith}
 
 -- all names of a validation
 abbrev pub all_names : Validation → List Text
@@ -39,6 +39,31 @@ ServicesAreChildren = (b : Book) (t : Instant) (l : Place) (q : Option Service) 
 
 abbrev pub AllServicesAreChildren : Type 0
 AllServicesAreChildren = (b : Book) (t : Instant) (q : Option Service) → AreChildren q (all_services b t q)
+
+-- m is live, and its service begins with u, which is q and one label more
+pub record Offers (t : Instant) (q : Option Service) (u : Service) (m : Mapping) : Type 0 where
+  pub live : IsTrue (is_live m t)
+  pub begins : BeginsWith m.service u
+  pub below : BeginsWith u (unwrap_or q [])
+  pub one_longer : length u ≡ length (unwrap_or q []) + 1
+
+-- the same of an m that is no default and holds the place
+pub record OffersHere (t : Instant) (l : Place) (q : Option Service) (u : Service) (m : Mapping) : Type 0 where
+  pub offers : Offers t q u m
+  pub not_default : IsFalse m.is_default
+  pub place : IsTrue (holds m l)
+
+-- each service listed is offered by some mapping, and each that some mapping offers is listed, by its text, which is what a reply prints
+pub record AreWhatIsOffered (Offered : Service → Mapping → Type 0) (ms : List Mapping) (us : List Service) : Type 0 where
+  pub each_is_offered : AllByRecursion (λ u. SomeByRecursion (Offered u) ms) us
+  pub all_are_listed : (u : Service) → SomeByRecursion (Offered u) ms → SomeByRecursion (λ v. service_text v ≡ service_text u) us
+
+-- a service is listed at a place, and anywhere, exactly where some mapping offers it there
+abbrev pub ServicesAreThere : Type 0
+ServicesAreThere = (b : Book) (t : Instant) (l : Place) (q : Option Service) → AreWhatIsOffered (OffersHere t l q) b.mappings (services b t l q)
+
+abbrev pub AllServicesAreThere : Type 0
+AllServicesAreThere = (b : Book) (t : Instant) (q : Option Service) → AreWhatIsOffered (Offers t q) b.mappings (all_services b t q)
 
 -- positions of a list of mappings: rising, and what stands there is what passes the test, in order
 pub record AreThePositions (test : Mapping → Bool) (ms : List Mapping) (places : List ℕ) : Type 0 where

@@ -1,12 +1,12 @@
 -- The worked rows that need no text of JSON, each as a fact that holds by computing. docs/EXAMPLES.md has them in full.
-use Rattle.std.specs.Prelude.{◌≡◌, true, false, List, [], ◌∷◌, ◌++◌, map, Some, None, Ok, Err, pos, negsuc, replicate, codes}
+use Rattle.std.specs.Prelude.{◌≡◌, true, false, List, [], ◌∷◌, ◌++◌, map, length, take, Some, None, Ok, Err, pos, negsuc, replicate, codes}
 use Rattle.lost_spec.specs.declared.faults.UrnError.TheVariants.{Prefix, EmptyLabel, BadCharacter, HyphenAtEnd, LabelTooLong, TooManyLabels}
 use Rattle.lost_spec.specs.declared.faults.MappingError.TheVariants.{BadUri, BadNumber, BadRegion, RegionMissing, TooLarge, BadKey}
 use Rattle.lost_spec.specs.declared.faults.EditError.TheVariants.{IdentityHeld, IdentityUnknown, NotNewer, KeyHeld, KeyUnchanged, Full, EditsSpent}
 use Rattle.lost_spec.specs.declared.answers.AnswerError.TheVariants.{Loop, LocationProfileUnrecognized, SrsInvalid, LocationInvalid, NotFound, ServiceNotImplemented}
 use Rattle.lost_spec.specs.declared.answers.Warning.TheVariants.{ServiceSubstitution, DefaultMappingReturned, LocationValidationUnavailable}
 use Rattle.lost_spec.specs.Text.{lowered}
-use Rattle.lost_spec.specs.Service.{read_service, service_text}
+use Rattle.lost_spec.specs.Service.{read_service, service_text, chain}
 use Rattle.lost_spec.specs.Moment.{Stamp, read_stamp}
 use Rattle.lost_spec.specs.Mapping.{RingRegion, PatternRegion, DisplayName, Parts, Mapping, At, is_source, build}
 use Rattle.lost_spec.specs.Book.{Book, Edit, Publish, Replace, Withdraw, limits_of, refusal, after, empty_book, book_of, is_accepted}
@@ -19,7 +19,7 @@ published ms = map Publish ms
 
 -- ---- texts
 
--- which texts are service URNs, and the first refusal of those that are not
+-- which texts are service URNs, the first refusal of those that are not, and the text, the depth and the parts of a service
 abbrev pub Urn : Type 0
 Urn =
     (read_service (codes "urn:service:") ≡ Err EmptyLabel)
@@ -30,6 +30,9 @@ Urn =
     × (read_service (codes "urn:service:a.a.a.a.a.a.a.a.a") ≡ Err TooManyLabels)
     × (read_service (codes "urn:service:SOS.Police") ≡ Ok police)
     × (service_text police ≡ codes "urn:service:sos.police")
+    × (length police ≡ 2)
+    × (service_text (take 1 police) ≡ codes "urn:service:sos")
+    × (chain police ≡ police ∷ sos ∷ [])
 
 -- which texts are stamps and sources, and the instant of a stamp
 abbrev pub Stamps : Type 0

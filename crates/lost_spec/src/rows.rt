@@ -3,6 +3,8 @@
 
 ghost use Rattle.lost_spec.specs.Rows.{Urn, Stamps, Empty, OneMapping, StagedOnly, SharedEdge, OuterEdge, Poles, Fallback, Defaults, Profiles, ReplaceWithdraw, Refusals, ReplaceCodes, ReplaceByDefault, LimitsRow, DeskCodes, BadLines, BadPatterns, CivicRow, UnaskedValidation, ValidateAPoint, TwoProfiles, Expiry, BoundaryAndPath, ServicesByLocation};
 ghost use Rattle.lost_spec.specs.OwnRows.{FirstFaults, LabelOrder, Comparison, EditOrder, DeskOrder, AnswerOrder, LongestFirst, ReferencePatterns, NameOrder};
+ghost use Rattle.lost_spec.specs.BoundRows.{StampFractions, StampBounds, DayOrder, ServiceBounds, TextBounds, UriBounds, PlaceBounds, PairBounds, PartsBounds, CivicNames};
+ghost use Rattle.lost_spec.specs.MoreRows.{Slopes, KeptAsGiven, FreedKey, PatternChange, LaterDay, Expired, OtherReference, DefaultAsked, DeepServices, Paths, UnfittingBodies};
 
 /// A text spells a service URN, or is refused by the first check that fails.
 pub fn urn()
@@ -177,4 +179,109 @@ pub fn reference_patterns()
 /// The names of a validation come in their order.
 pub fn name_order()
     ensures { NameOrder }
+{}
+
+/// Absent digits of a fraction are zeros, and it has one to nine digits.
+pub fn stamp_fractions()
+    ensures { StampFractions }
+{}
+
+/// The last hour, minute, second, month, day and year are read, and those past them are not.
+pub fn stamp_bounds()
+    ensures { StampBounds }
+{}
+
+/// The day decides which of two instants is earlier, and the nanosecond only within a day.
+pub fn day_order()
+    ensures { DayOrder }
+{}
+
+/// Digits stand in labels, the bytes beside them do not, and there are 8 labels at most.
+pub fn service_bounds()
+    ensures { ServiceBounds }
+{}
+
+/// Sources, ids and numbers at their bounds and past them.
+pub fn text_bounds()
+    ensures { TextBounds }
+{}
+
+/// Which texts are URIs, the longest, and how many there are.
+pub fn uri_bounds()
+    ensures { UriBounds }
+{}
+
+/// The last latitudes and longitudes, the pole one unit below itself, and the longest ring.
+pub fn place_bounds()
+    ensures { PlaceBounds }
+{}
+
+/// The longest names and values and the most pairs of an address and a pattern, and one more.
+pub fn pair_bounds()
+    ensures { PairBounds }
+{}
+
+/// The most polygons, patterns and display names, and one more.
+pub fn parts_bounds()
+    ensures { PartsBounds }
+{}
+
+/// Every civic name, as the standards spell it, and their order.
+pub fn civic_names()
+    ensures { CivicNames }
+{}
+
+/// The sides of edges that slope, in each direction.
+pub fn slopes()
+    ensures { Slopes }
+{}
+
+/// A mapping has all that its parts have.
+pub fn kept_as_given()
+    ensures { KeptAsGiven }
+{}
+
+/// A key that was given up is free.
+pub fn freed_key()
+    ensures { FreedKey }
+{}
+
+/// A replacement that changes patterns alone wants a new key.
+pub fn pattern_change()
+    ensures { PatternChange }
+{}
+
+/// A later day is newer at an earlier hour.
+pub fn later_day()
+    ensures { LaterDay }
+{}
+
+/// A mapping that has expired answers no question, and is still held.
+pub fn expired()
+    ensures { Expired }
+{}
+
+/// A pattern of a mapping that was not found is a reference.
+pub fn other_reference()
+    ensures { OtherReference }
+{}
+
+/// A default has no boundary by value, and at a point no warning of validation.
+pub fn default_asked()
+    ensures { DefaultAsked }
+{}
+
+/// A service two labels below what is asked is listed by its first label below it.
+pub fn deep_services()
+    ensures { DeepServices }
+{}
+
+/// Each kind of reply has the path of its request, and a boundary has polygons and patterns.
+pub fn paths()
+    ensures { Paths }
+{}
+
+/// A location whose body is not of its profile's kind is no place.
+pub fn unfitting_bodies()
+    ensures { UnfittingBodies }
 {}

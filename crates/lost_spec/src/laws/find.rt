@@ -17,12 +17,12 @@ pub fn nothing_unless_implemented()
     ensures { NothingUnlessImplemented }
 {}
 
-/// Where the service is not implemented, no live mapping has a service of the chain.
+/// Where no live mapping has a service of the chain, the service is not implemented.
 pub fn implemented_means_here()
     ensures { ImplementedMeansHere }
 {}
 
-/// Where no live mapping has a service of the chain, the service is not implemented.
+/// Where the service is not implemented, no live mapping has a service of the chain.
 pub fn here_means_implemented()
     ensures { HereMeansImplemented }
 {}

@@ -1,6 +1,6 @@
 //! Laws of the lists of an answer.
 
-ghost use Rattle.lost_spec.specs.ListLaws.{ServicesAreChildren, AllServicesAreChildren, ValidationCoversTheAddress, PositionsAreWhereItPasses};
+ghost use Rattle.lost_spec.specs.ListLaws.{ServicesAreChildren, AllServicesAreChildren, ServicesAreThere, AllServicesAreThere, ValidationCoversTheAddress, PositionsAreWhereItPasses};
 
 /// The services at a place are in order, each once, and each is one label longer than what was asked.
 pub fn services_are_children()
@@ -10,6 +10,16 @@ pub fn services_are_children()
 /// The services anywhere are in order, each once, and each is one label longer than what was asked.
 pub fn all_services_are_children()
     ensures { AllServicesAreChildren }
+{}
+
+/// A service is listed at a place exactly where some live mapping, no default, holds the place and has a service that begins with it, and it is what was asked and one label more.
+pub fn services_are_there()
+    ensures { ServicesAreThere }
+{}
+
+/// A service is listed anywhere exactly where some live mapping has a service that begins with it, and it is what was asked and one label more.
+pub fn all_services_are_there()
+    ensures { AllServicesAreThere }
 {}
 
 /// A validation has each name of the address once: as valid, as invalid or as unchecked.
