@@ -1,0 +1,8 @@
+//! The worked row `world`. The function's contract is the row, and its body is empty.
+
+ghost use Rattle.lost_core.specs.Rows.{WorldRow};
+
+/// A worker answers from what it has seen: what was published is found only once the worker was told of it.
+pub fn world()
+    ensures { WorldRow }
+{}

@@ -1,0 +1,64 @@
+//! The lines of standard input.
+
+use lost_core::Step;
+use lost_json::{DeskFault, DeskLine, read_desk};
+use lost_mapping::{MappingError, Moment};
+use std::alloc::{AllocError, Global};
+
+/// What a line of standard input says.
+#[derive(Drop)]
+pub(crate) enum Line {
+    /// A world of so many workers begins.
+    World(u8),
+    /// The next step of the world.
+    Step(Step),
+    /// Neither.
+    Other,
+}
+
+/// Reads a line; requests are at one moment.
+pub(crate) fn read_line(alloc: Global, moment: Moment, line: &str) -> Result<Line, AllocError> {
+    let (word, rest) = line.split_once(' ').unwrap_or((line, ""));
+    match word {
+        "world" => Ok(rest.parse().map_or(Line::Other, Line::World)),
+        "stage" => stage(alloc, rest.as_bytes()),
+        "publish" => Ok(Line::Step(Step::Publish)),
+        "enter" => Ok(
+            rest.parse()
+                .map_or(Line::Other, |worker| Line::Step(Step::Enter(worker))),
+        ),
+        "tell" => Ok(tell(rest)),
+        "answer" => answer(alloc, moment, rest),
+        _ => Ok(Line::Other),
+    }
+}
+
+/// The step that stages the edit of a desk line.
+fn stage(alloc: Global, line: &[u8]) -> Result<Line, AllocError> {
+    match read_desk(alloc, line) {
+        Ok(Some(DeskLine::Edit(edit))) => Ok(Line::Step(Step::Stage(edit))),
+        Err(DeskFault::Mapping(MappingError::Memory)) => Err(AllocError),
+        _ => Ok(Line::Other),
+    }
+}
+
+/// The step that tells a worker of so many edits.
+fn tell(words: &str) -> Line {
+    let (worker, told) = words.split_once(' ').unwrap_or((words, ""));
+    match (worker.parse(), told.parse()) {
+        (Ok(worker), Ok(told)) => Line::Step(Step::Tell(worker, told)),
+        _ => Line::Other,
+    }
+}
+
+/// The step that answers a request line.
+fn answer(alloc: Global, moment: Moment, words: &str) -> Result<Line, AllocError> {
+    let (worker, line) = words.split_once(' ').unwrap_or((words, ""));
+    match worker.parse() {
+        Ok(worker) => {
+            let line = Vec::from_slice(alloc, line.as_bytes())?;
+            Ok(Line::Step(Step::Answer(worker, moment, line)))
+        }
+        Err(_) => Ok(Line::Other),
+    }
+}
