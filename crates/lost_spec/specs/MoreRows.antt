@@ -1,7 +1,8 @@
 -- Rows of our own on edges that slope, on time, on keys, and on what each request lists and shows.
-use Rattle.std.specs.Prelude.{◌≡◌, ℤ, Bool, true, false, List, [], ◌∷◌, Some, None, Ok, pos, negsuc, codes}
+use Rattle.std.specs.Prelude.{◌≡◌, ℤ, Bool, true, false, List, [], ◌∷◌, Some, None, Ok, Err, pos, negsuc, codes}
 use Rattle.lost_spec.specs.declared.faults.EditError.TheVariants.{IdentityHeld, NotNewer, KeyHeld, KeyUnchanged}
-use Rattle.lost_spec.specs.declared.answers.AnswerError.TheVariants.{LocationInvalid, NotFound, ServiceNotImplemented}
+use Rattle.lost_spec.specs.declared.faults.MappingError.TheVariants.{BadExpires}
+use Rattle.lost_spec.specs.declared.answers.AnswerError.TheVariants.{Loop, LocationProfileUnrecognized, LocationInvalid, NotFound, ServiceNotImplemented}
 use Rattle.lost_spec.specs.declared.answers.Warning.TheVariants.{DefaultMappingReturned}
 use Rattle.lost_spec.specs.Text.{Text}
 use Rattle.lost_spec.specs.Service.{Service}
@@ -10,7 +11,7 @@ use Rattle.lost_spec.specs.Moment.{Stamp}
 use Rattle.lost_spec.specs.Mapping.{RingRegion, PatternRegion, Parts, Mapping, NoCache, At, build}
 use Rattle.lost_spec.specs.Book.{Book, Publish, Replace, Withdraw, refusal, book_of, is_accepted}
 use Rattle.lost_spec.specs.Request.{Body, Location, PointBody, AddressBody, UnreadableBody, FindService, ListServicesByLocation, ListServices, GetServiceBoundary, FindServiceResponse, ListServicesByLocationResponse, ListServicesResponse, GetServiceBoundaryResponse, Errors}
-use Rattle.lost_spec.specs.Examples.{points, second_day, sos, police, mapping_with, mapping_on, renewed, ring_a, ring_b, mapping_a, mapping_b, mapping_t, wide_pattern, house_pattern, mapping_g, address_with, usual_limits, ask, geodetic, civic, location_at, at_point, at_address, find_at, query, services_at, own_path, by_reference, as_default, found_with, validated}
+use Rattle.lost_spec.specs.Examples.{points, second_day, sos, police, mapping_with, mapping_on, renewed, ring_a, ring_b, mapping_a, mapping_b, mapping_t, wide_pattern, house_pattern, mapping_g, address_with, usual_limits, ask, geodetic, civic, location_at, at_point, at_address, find_at, query, services_at, own_path, by_reference, as_default, found_with, found_reply, validated}
 use Rattle.lost_spec.specs.Rows.{published, parts_a, english, mapping_both, expiring, at_midnight, past_midnight}
 use Rattle.lost_spec.specs.OwnRows.{called}
 
@@ -89,7 +90,7 @@ PatternChange =
     let newer : Mapping = record mapping_g { stamp = second_day } in
     (refusal book (Replace (record newer { patterns = wide_pattern ∷ [] })) ≡ Some KeyUnchanged)
     × (refusal book (Replace (record newer { patterns = house_pattern ∷ wide_pattern ∷ [] })) ≡ Some KeyUnchanged)
-    × (refusal book (Replace (record newer { patterns = wide_pattern ∷ ((codes "A1", codes "nj") ∷ []) ∷ [] })) ≡ Some KeyUnchanged)
+    × (refusal book (Replace (record newer { patterns = ((codes "A1", codes "nj") ∷ (codes "A3", codes "Leonia") ∷ (codes "country", codes "US") ∷ []) ∷ house_pattern ∷ [] })) ≡ Some KeyUnchanged)
     × (refusal book (Replace (record newer { patterns = wide_pattern ∷ []; key = Some (codes "G-2") })) ≡ None)
     × (refusal book (Replace (record newer { uris = codes "tel:112" ∷ [] })) ≡ None)
 
@@ -162,7 +163,7 @@ DeepServices =
     × (ask es (ListServices (Some rail) []) ≡ ListServicesResponse 1 own_path [])
     × (ask es (services_at None (pos 5_000_000) (pos 5_000_000)) ≡ ListServicesByLocationResponse 1 (codes "p") own_path (sos ∷ []))
 
--- a boundary asked for by its key has the polygons and the patterns, and each kind of reply has the path of its request
+-- a boundary asked for by its key has the polygons and the patterns, and each kind of reply has the path of its request, in which any name may be a loop
 abbrev pub Paths : Type 0
 Paths =
     let es = published (mapping_both ∷ []) in
@@ -173,6 +174,27 @@ Paths =
     × (ask es (ListServicesByLocation None here asked) ≡ ListServicesByLocationResponse 1 (codes "p") path (sos ∷ []))
     × (ask es (ListServices None asked) ≡ ListServicesResponse 1 path (sos ∷ []))
     × (ask es (GetServiceBoundary (codes "A-1") asked) ≡ GetServiceBoundaryResponse 1 path (points ring_a ∷ []) (wide_pattern ∷ []))
+    × (ask es (ListServices None (codes "LOST.example" ∷ asked)) ≡ Errors 1 Loop)
+
+-- polygons add up: a point is held by one of them, or by more
+abbrev pub Additive : Type 0
+Additive =
+    let twice : Mapping = mapping_with (codes "A") police (points ring_a ∷ points ring_b ∷ points ring_a ∷ []) [] in
+    let es = published (twice ∷ []) in
+    let reply = found_reply 1 (by_reference (codes "A-1") twice ∷ []) in
+    (ask es (query police (pos 5_000_000) (pos 5_000_000)) ≡ reply)
+    × (ask es (query police (pos 5_000_000) (pos 15_000_000)) ≡ reply)
+    × (ask es (query police (pos 5_000_000) (pos 25_000_000)) ≡ Errors 1 NotFound)
+
+-- keys, sourceIds, profiles and the words of expiry are compared in exact case
+abbrev pub ExactCase : Type 0
+ExactCase =
+    let es = published (mapping_a ∷ []) in
+    (ask es (GetServiceBoundary (codes "a-1") []) ≡ Errors 1 NotFound)
+    × (refusal (book_of usual_limits es) (Publish (record mapping_b { source_id = codes "a" })) ≡ None)
+    × (refusal (book_of usual_limits es) (Publish (record mapping_b { key = Some (codes "a-1") })) ≡ None)
+    × (ask es (find_at police (location_at (codes "p") (codes "Geodetic-2d") (PointBody (pos 5_000_000) (pos 5_000_000)) ∷ [])) ≡ Errors 1 LocationProfileUnrecognized)
+    × (build (record parts_a { expires = codes "no-cache" }) ≡ Err BadExpires)
 
 abbrev pub located : Text → Body → List Location
 located profile body = location_at (codes "p") profile body ∷ []

@@ -4,7 +4,7 @@
 ghost use Rattle.lost_spec.specs.Rows.{Urn, Stamps, Empty, OneMapping, StagedOnly, SharedEdge, OuterEdge, Poles, Fallback, Defaults, Profiles, ReplaceWithdraw, Refusals, ReplaceCodes, ReplaceByDefault, LimitsRow, DeskCodes, BadLines, BadPatterns, CivicRow, UnaskedValidation, ValidateAPoint, TwoProfiles, Expiry, BoundaryAndPath, ServicesByLocation};
 ghost use Rattle.lost_spec.specs.OwnRows.{FirstFaults, LabelOrder, Comparison, EditOrder, DeskOrder, AnswerOrder, LongestFirst, ReferencePatterns, NameOrder};
 ghost use Rattle.lost_spec.specs.BoundRows.{StampFractions, StampBounds, DayOrder, ServiceBounds, TextBounds, UriBounds, PlaceBounds, PairBounds, PartsBounds, CivicNames};
-ghost use Rattle.lost_spec.specs.MoreRows.{Slopes, KeptAsGiven, FreedKey, PatternChange, LaterDay, Expired, OtherReference, DefaultAsked, DeepServices, Paths, UnfittingBodies};
+ghost use Rattle.lost_spec.specs.MoreRows.{Slopes, KeptAsGiven, FreedKey, PatternChange, LaterDay, Expired, OtherReference, DefaultAsked, DeepServices, Paths, UnfittingBodies, Additive, ExactCase};
 
 /// A text spells a service URN, or is refused by the first check that fails.
 pub fn urn()
@@ -284,4 +284,14 @@ pub fn paths()
 /// A location whose body is not of its profile's kind is no place.
 pub fn unfitting_bodies()
     ensures { UnfittingBodies }
+{}
+
+/// Polygons add up.
+pub fn additive()
+    ensures { Additive }
+{}
+
+/// Keys, sourceIds, profiles and the words of expiry are compared in exact case.
+pub fn exact_case()
+    ensures { ExactCase }
 {}
