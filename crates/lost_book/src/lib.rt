@@ -14,6 +14,3 @@ pub use book::Book;
 pub use edit::Edit;
 pub use limits::Limits;
 pub use lost_spec::faults::EditError;
-
-#[cfg(test)]
-mod tests;

@@ -13,6 +13,3 @@ pub use addresses::CivicAddress;
 pub use elements::Element;
 pub use lost_spec::faults::CivicError;
 pub use patterns::CivicPattern;
-
-#[cfg(test)]
-mod tests;

@@ -12,5 +12,3 @@ mod edge;
 pub mod laws;
 mod point;
 mod polygon;
-#[cfg(test)]
-mod tests;

@@ -3,9 +3,6 @@ ghost use Rattle.std.specs.Prelude.{◌≡◌, ◌<◌, ◌≤◌, ◌+◌, [], 
 ghost use Rattle.lost_json.specs.DeskReplies.{desk_text, IsCode, IsInTable, refusal_name as refusal_name_of};
 ghost use Rattle.lost_json.specs.PlainNames.{IsPlainName};
 
-#[cfg(test)]
-mod tests;
-
 use itoa::Buffer;
 use std::marker::Model;
 

@@ -19,6 +19,3 @@ pub use desk_reply::{DeskReply, DeskText, write_desk};
 pub use line::{BAD_REQUEST, INTERNAL_ERROR, law_constant_lines, reply_line};
 pub use request::{ReadError, read_request};
 pub use writing::write_reply;
-
-#[cfg(test)]
-mod tests;

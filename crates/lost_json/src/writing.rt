@@ -11,8 +11,6 @@ mod members;
 mod names;
 mod regions;
 mod replies;
-#[cfg(test)]
-mod tests;
 
 use lost_query::Reply;
 use replies::reply_value;

@@ -28,6 +28,3 @@ pub use moment::Moment;
 pub use parts::{DisplayName, Parts, Region};
 pub use source::Source;
 pub use stamp::Stamp;
-
-#[cfg(test)]
-mod tests;

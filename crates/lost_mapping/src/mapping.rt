@@ -232,6 +232,3 @@ fn check_contact(parts: &Parts) -> Result<(), MappingError>
     }
     Ok(())
 }
-
-#[cfg(test)]
-mod tests;

@@ -28,6 +28,3 @@ pub use lost_spec::answers::{AnswerError, Warning};
 pub use place::Place;
 pub use reply::{Boundary, Reply, ShownMapping, Validation};
 pub use request::{Body, Location, Request};
-
-#[cfg(test)]
-mod tests;

@@ -57,6 +57,3 @@ pub(crate) fn services_anywhere<H: Holdings>(
     }
     into_list(alloc, children)
 }
-
-#[cfg(test)]
-mod tests;

@@ -102,6 +102,3 @@ fn make_validation(
         valid: names_of(alloc, valid)?,
     })
 }
-
-#[cfg(test)]
-mod tests;

@@ -9,6 +9,3 @@ mod urn;
 
 pub use lost_spec::faults::UrnError;
 pub use urn::ServiceUrn;
-
-#[cfg(test)]
-mod tests;

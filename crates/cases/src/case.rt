@@ -1,0 +1,33 @@
+//! One case.
+use crate::book_cases::Shelf;
+use crate::fields::Fields;
+use crate::trouble::Trouble;
+use crate::{civic_cases, geo_cases, line_cases, mapping_cases, stamp_cases, urn_cases};
+use std::alloc::Global;
+
+/// What the call of a case gives, or `None` where it gives what is wanted.
+pub(crate) fn judge(
+    alloc: Global,
+    shelf: &mut Shelf,
+    line: &str,
+) -> Result<Option<String>, Trouble> {
+    let fields = Fields::read(alloc, line)?;
+    let said = said(alloc, shelf, &fields)?;
+    let is_wanted = said.as_bytes() == fields.wanted()?;
+    Ok(if is_wanted { None } else { Some(said) })
+}
+
+/// What the call of a case gives. The first word of a call says whose it is.
+fn said(alloc: Global, shelf: &mut Shelf, fields: &Fields) -> Result<String, Trouble> {
+    let call = fields.text(0)?;
+    match call.split_once(' ').unwrap_or((call, "")).0 {
+        "urn" => urn_cases::said(alloc, call, fields),
+        "geo" => geo_cases::said(alloc, call, fields),
+        "civic" => civic_cases::said(alloc, call, fields),
+        "mapping" => mapping_cases::said(alloc, call, fields),
+        "book" => shelf.said(alloc, call, fields),
+        "reply" => line_cases::reply(alloc, shelf.book()?, fields.bytes(1)?),
+        "line" => line_cases::said(alloc, call, fields),
+        _ => stamp_cases::said(alloc, call, fields),
+    }
+}

@@ -1,0 +1,136 @@
+//! Calls of lost_civic.
+use crate::fields::Fields;
+use crate::trouble::Trouble;
+use crate::words::{compared, owned, push_pairs, refused, text_pairs, yes_or_no};
+use lost_civic::{CivicAddress, CivicError, CivicPattern, Element};
+use std::alloc::Global;
+
+/// What a call gives.
+pub(crate) fn said(alloc: Global, call: &str, fields: &Fields) -> Result<String, Trouble> {
+    let text = fields.text(1)?;
+    match call {
+        "civic elements" => elements(alloc),
+        "civic element" => by_name(alloc, text),
+        "civic order" => {
+            let other = element(fields.text(2)?)?;
+            owned(alloc, order(element(text)?, other))
+        }
+        "civic address" => new_address(alloc, text),
+        "civic pattern" => new_pattern(alloc, text),
+        "civic same addresses" => {
+            let other = address(alloc, fields.text(2)?)?;
+            owned(alloc, compared(&address(alloc, text)?, &other))
+        }
+        "civic same patterns" => {
+            let same = pattern(alloc, text)? == pattern(alloc, fields.text(2)?)?;
+            owned(alloc, yes_or_no(same))
+        }
+        "civic matches" => {
+            let address = address(alloc, fields.text(2)?)?;
+            owned(alloc, yes_or_no(pattern(alloc, text)?.matches(&address)))
+        }
+        _ => Err(Trouble::NoCase),
+    }
+}
+
+/// The address of pairs that make one.
+pub(crate) fn address(alloc: Global, text: &str) -> Result<CivicAddress, Trouble> {
+    match CivicAddress::from_pairs(alloc, text_pairs(alloc, text, ';')?) {
+        Ok(address) => Ok(address),
+        Err(CivicError::Memory) => Err(Trouble::Memory),
+        Err(_) => Err(Trouble::NoCase),
+    }
+}
+
+/// The pattern of pairs that make one.
+fn pattern(alloc: Global, text: &str) -> Result<CivicPattern, Trouble> {
+    match CivicPattern::from_pairs(alloc, text_pairs(alloc, text, ';')?) {
+        Ok(pattern) => Ok(pattern),
+        Err(CivicError::Memory) => Err(Trouble::Memory),
+        Err(_) => Err(Trouble::NoCase),
+    }
+}
+
+/// The names of all elements, each behind a space, as far as each stands at its index.
+fn elements(alloc: Global) -> Result<String, Trouble> {
+    let mut text = String::new(alloc);
+    for (place, element) in Element::ALL.iter().enumerate() {
+        if element.index() == place {
+            text.push_str(" ")?;
+            text.push_str(element.name())?;
+        }
+    }
+    Ok(text)
+}
+
+fn by_name(alloc: Global, name: &str) -> Result<String, Trouble> {
+    match Element::by_name(name) {
+        Some(element) => {
+            let (index, name) = (element.index(), element.name());
+            Ok(format!(in alloc; "{index} {name}")?)
+        }
+        None => owned(alloc, "none"),
+    }
+}
+
+fn element(name: &str) -> Result<Element, Trouble> {
+    Element::by_name(name).ok_or(Trouble::NoCase)
+}
+
+/// How one element lies to another.
+fn order(one: Element, other: Element) -> &'static str {
+    match compared(&one, &other) {
+        "same" => "same",
+        "other" if one < other => "before",
+        "other" if other < one => "after",
+        _ => "at odds",
+    }
+}
+
+/// The pairs of a copy of an address, and its comparison texts.
+fn new_address(alloc: Global, text: &str) -> Result<String, Trouble> {
+    match CivicAddress::from_pairs(alloc, text_pairs(alloc, text, ';')?) {
+        Ok(address) => {
+            let copy = address.clone()?;
+            let mut said = owned(alloc, compared(&copy, &address))?;
+            said.push_str(" ")?;
+            push_pairs(&mut said, copy.pairs())?;
+            said.push_str(" as ")?;
+            for element in Element::ALL {
+                push_text(&mut said, element, copy.text(element))?;
+            }
+            Ok(said)
+        }
+        Err(CivicError::Memory) => Err(Trouble::Memory),
+        Err(refusal) => refused(alloc, refusal.code()),
+    }
+}
+
+/// The pairs of a copy of a pattern, and its comparison texts.
+fn new_pattern(alloc: Global, text: &str) -> Result<String, Trouble> {
+    match CivicPattern::from_pairs(alloc, text_pairs(alloc, text, ';')?) {
+        Ok(pattern) => {
+            let copy = pattern.clone()?;
+            let mut said = owned(alloc, if copy == pattern { "same " } else { "other " })?;
+            push_pairs(&mut said, copy.pairs())?;
+            said.push_str(" as ")?;
+            for element in Element::ALL {
+                push_text(&mut said, element, copy.text(element))?;
+            }
+            Ok(said)
+        }
+        Err(CivicError::Memory) => Err(Trouble::Memory),
+        Err(refusal) => refused(alloc, refusal.code()),
+    }
+}
+
+/// Appends an element's comparison text, where it has one.
+fn push_text(said: &mut String, element: Element, text: Option<&str>) -> Result<(), Trouble> {
+    if let Some(text) = text {
+        said.push_str(element.name())?;
+        said.push_str("=")?;
+        said.push_str(text)?;
+        said.push_str(";")?;
+    }
+    Ok(())
+}

@@ -1,0 +1,52 @@
+//! The fields of a case: what stands between its bars, without the spaces round it.
+use crate::spelling::spelled;
+use crate::trouble::Trouble;
+use std::alloc::Global;
+
+/// The fields of a case as they are spelled, the call first.
+#[derive(Drop)]
+pub(crate) struct Fields {
+    fields: Vec<Vec<u8>>,
+}
+
+impl Fields {
+    /// The fields of a line.
+    pub(crate) fn read(alloc: Global, line: &str) -> Result<Fields, Trouble> {
+        let mut fields = Vec::new(alloc);
+        for field in line.split('|') {
+            fields.push(spelled(alloc, field.trim())?)?;
+        }
+        Ok(Fields { fields })
+    }
+
+    /// What is wanted: the last field.
+    pub(crate) fn wanted(&self) -> Result<&[u8], Trouble> {
+        match self.fields.last() {
+            Some(field) => Ok(field.as_slice()),
+            None => Err(Trouble::NoCase),
+        }
+    }
+
+    /// The field at a place, from 0, where the call stands.
+    pub(crate) fn bytes(&self, place: usize) -> Result<&[u8], Trouble> {
+        match self.fields.get(place) {
+            Some(field) => Ok(field.as_slice()),
+            None => Err(Trouble::NoCase),
+        }
+    }
+
+    /// The field at a place as text.
+    pub(crate) fn text(&self, place: usize) -> Result<&str, Trouble> {
+        str::from_utf8(self.bytes(place)?).map_err(|_| Trouble::NoCase)
+    }
+
+    /// The field at a place as a number.
+    pub(crate) fn number(&self, place: usize) -> Result<i64, Trouble> {
+        self.text(place)?.parse().map_err(|_| Trouble::NoCase)
+    }
+
+    /// The field at a place as a number that is not negative.
+    pub(crate) fn count(&self, place: usize) -> Result<u64, Trouble> {
+        self.text(place)?.parse().map_err(|_| Trouble::NoCase)
+    }
+}

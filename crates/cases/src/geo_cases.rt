@@ -1,0 +1,86 @@
+//! Calls of lost_geo.
+use crate::fields::Fields;
+use crate::trouble::Trouble;
+use crate::words::{compared, number_pair, number_pairs, owned, refused, yes_or_no};
+use lost_geo::{GeoPoint, Polygon};
+use std::alloc::Global;
+
+/// What a call gives.
+pub(crate) fn said(alloc: Global, call: &str, fields: &Fields) -> Result<String, Trouble> {
+    let text = fields.text(1)?;
+    match call {
+        "geo point" => new_point(alloc, number_pair(text)?),
+        "geo same" => owned(alloc, compared(&point(text)?, &point(fields.text(2)?)?)),
+        "geo ring" => new_ring(alloc, text),
+        "geo positions" => shown_positions(alloc, polygon(alloc, text)?.positions()),
+        "geo bounds" => shown_bounds(alloc, &polygon(alloc, text)?),
+        "geo inside" => {
+            let point = point(fields.text(2)?)?;
+            owned(alloc, yes_or_no(polygon(alloc, text)?.inside(&point)))
+        }
+        _ => Err(Trouble::NoCase),
+    }
+}
+
+/// The point of two numbers that make one.
+pub(crate) fn point(text: &str) -> Result<GeoPoint, Trouble> {
+    let (lat, lon) = number_pair(text)?;
+    GeoPoint::new(lat, lon).map_err(|_| Trouble::NoCase)
+}
+
+/// The polygon of a ring that is one.
+fn polygon(alloc: Global, text: &str) -> Result<Polygon, Trouble> {
+    Polygon::new(points(alloc, text)?).map_err(|_| Trouble::NoCase)
+}
+
+fn points(alloc: Global, text: &str) -> Result<Vec<GeoPoint>, Trouble> {
+    let mut points = Vec::new(alloc);
+    for (lat, lon) in number_pairs(alloc, text)? {
+        points.push(GeoPoint::new(lat, lon).map_err(|_| Trouble::NoCase)?)?;
+    }
+    Ok(points)
+}
+
+/// The numbers of a point, and those of its normal form.
+fn new_point(alloc: Global, numbers: (i64, i64)) -> Result<String, Trouble> {
+    match GeoPoint::new(numbers.0, numbers.1) {
+        Ok(point) => {
+            let (lat, lon) = (point.lat(), point.lon());
+            let normal = point.normal();
+            let (normal_lat, normal_lon) = (normal.lat(), normal.lon());
+            Ok(format!(in alloc; "{lat},{lon} normally {normal_lat},{normal_lon}")?)
+        }
+        Err(refusal) => refused(alloc, refusal.code()),
+    }
+}
+
+/// The number of positions of a ring.
+fn new_ring(alloc: Global, text: &str) -> Result<String, Trouble> {
+    match Polygon::new(points(alloc, text)?) {
+        Ok(polygon) => {
+            let count = polygon.positions().len();
+            Ok(format!(in alloc; "{count} positions")?)
+        }
+        Err(refusal) => refused(alloc, refusal.code()),
+    }
+}
+
+/// The numbers of positions, with a space between each two.
+pub(crate) fn shown_positions(alloc: Global, points: &[GeoPoint]) -> Result<String, Trouble> {
+    let mut text = String::new(alloc);
+    for point in points {
+        if !text.is_empty() {
+            text.push_str(" ")?;
+        }
+        let (lat, lon) = (point.lat(), point.lon());
+        text.push_str(format!(in alloc; "{lat},{lon}")?.as_str())?;
+    }
+    Ok(text)
+}
+
+fn shown_bounds(alloc: Global, polygon: &Polygon) -> Result<String, Trouble> {
+    let bounds = polygon.bounds();
+    let (south, north) = (bounds.lat_min, bounds.lat_max);
+    let (west, east) = (bounds.lon_min, bounds.lon_max);
+    Ok(format!(in alloc; "{south} to {north}, {west} to {east}")?)
+}

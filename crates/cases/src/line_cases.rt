@@ -1,0 +1,195 @@
+//! Calls of lost_json: what lines are read as, and the lines of replies, without their byte 10.
+use crate::fields::Fields;
+use crate::mapping_cases::shown;
+use crate::stamp_cases::{source, stamp};
+use crate::trouble::Trouble;
+use crate::words::{owned, push_pairs, refused};
+use lost_book::{Book, Edit};
+use lost_json::{
+    DeskFault, DeskLine, DeskReply, ReadError, read_desk, read_request, reply_line, write_desk,
+    write_reply,
+};
+use lost_mapping::MappingError;
+use lost_query::{AnswerError, Body, Location, Reply, Request};
+use std::alloc::Global;
+
+/// What a call gives.
+pub(crate) fn said(alloc: Global, call: &str, fields: &Fields) -> Result<String, Trouble> {
+    match call {
+        "line request" => request(alloc, fields.bytes(1)?),
+        "line cut short" => cut_short(alloc, fields.bytes(1)?),
+        "line desk" => order(alloc, fields.bytes(1)?),
+        "line staged" => without_its_end(
+            alloc,
+            write_desk(&DeskReply::Staged(fields.count(1)?)).bytes(),
+        ),
+        "line committed" => without_its_end(
+            alloc,
+            write_desk(&DeskReply::Committed(fields.count(1)?)).bytes(),
+        ),
+        "line refused" => write_refusal(alloc, fields.count(1)?),
+        "line error" => {
+            let edition = fields.count(2)?;
+            let error = error(fields.text(1)?)?;
+            written(alloc, &Reply::Errors { edition, error })
+        }
+        "line bad request" => written(alloc, &Reply::BadRequest),
+        "line internal error" => written(alloc, &Reply::InternalError),
+        _ => Err(Trouble::NoCase),
+    }
+}
+
+/// The reply of `lost.example` at the first instant of 2026.
+pub(crate) fn reply(alloc: Global, book: &Book, line: &[u8]) -> Result<String, Trouble> {
+    let name = source(alloc, b"lost.example")?;
+    let moment = stamp(alloc, b"2026-01-01T00:00:00Z")?.moment();
+    let reply = reply_line(alloc, book, &name, &moment, line)?;
+    without_its_end(alloc, reply.as_slice())
+}
+
+fn written(alloc: Global, reply: &Reply) -> Result<String, Trouble> {
+    without_its_end(alloc, write_reply(alloc, reply)?.as_slice())
+}
+
+/// A line without the byte 10 at its end.
+fn without_its_end(alloc: Global, line: &[u8]) -> Result<String, Trouble> {
+    match line.split_last() {
+        Some((b'\n', line)) => owned(alloc, str::from_utf8(line).map_err(|_| Trouble::NoCase)?),
+        _ => owned(alloc, "a line without an end"),
+    }
+}
+
+fn write_refusal(alloc: Global, code: u64) -> Result<String, Trouble> {
+    let code = u8::try_from(code).map_err(|_| Trouble::NoCase)?;
+    if code < 1 || code > 20 {
+        return Err(Trouble::NoCase);
+    }
+    without_its_end(alloc, write_desk(&DeskReply::Refused(code)).bytes())
+}
+
+fn error(name: &str) -> Result<AnswerError, Trouble> {
+    match name {
+        "loop" => Ok(AnswerError::Loop),
+        "locationProfileUnrecognized" => Ok(AnswerError::LocationProfileUnrecognized),
+        "SRSInvalid" => Ok(AnswerError::SrsInvalid),
+        "locationInvalid" => Ok(AnswerError::LocationInvalid),
+        "notFound" => Ok(AnswerError::NotFound),
+        "serviceNotImplemented" => Ok(AnswerError::ServiceNotImplemented),
+        _ => Err(Trouble::NoCase),
+    }
+}
+
+/// Where a line may be cut short and is read all the same.
+fn cut_short(alloc: Global, line: &[u8]) -> Result<String, Trouble> {
+    for end in 0..line.len() {
+        match read_request(alloc, &line[..end]) {
+            Ok(_) => return Ok(format!(in alloc; "read to {end}")?),
+            Err(ReadError::Memory) => return Err(Trouble::Memory),
+            Err(ReadError::BadRequest) => {}
+        }
+    }
+    owned(alloc, "never read")
+}
+
+/// What a request line is read as, or the number of the refusal.
+fn request(alloc: Global, line: &[u8]) -> Result<String, Trouble> {
+    match read_request(alloc, line) {
+        Ok(request) => shown_request(alloc, &request),
+        Err(ReadError::Memory) => Err(Trouble::Memory),
+        Err(refusal) => refused(alloc, refusal.code()),
+    }
+}
+
+fn shown_request(alloc: Global, request: &Request) -> Result<String, Trouble> {
+    match request {
+        Request::FindService {
+            service,
+            locations,
+            validate,
+            by_value,
+            path,
+        } => {
+            let places = shown_locations(alloc, locations.as_slice(), path.as_slice())?;
+            let service = service.text();
+            Ok(format!(in alloc; "find {service} {validate} {by_value}{places}")?)
+        }
+        Request::ListServicesByLocation {
+            service,
+            locations,
+            path,
+        } => {
+            let places = shown_locations(alloc, locations.as_slice(), path.as_slice())?;
+            let service = service.as_ref().map_or("-", |service| service.text());
+            Ok(format!(in alloc; "at {service}{places}")?)
+        }
+        Request::ListServices { service, path } => {
+            let names = shown_locations(alloc, &[], path.as_slice())?;
+            let service = service.as_ref().map_or("-", |service| service.text());
+            Ok(format!(in alloc; "list {service}{names}")?)
+        }
+        Request::GetServiceBoundary { key, path } => {
+            let names = shown_locations(alloc, &[], path.as_slice())?;
+            Ok(format!(in alloc; "boundary {key}{names}")?)
+        }
+    }
+}
+
+/// The locations, each in brackets, and then the names of the path.
+fn shown_locations(
+    alloc: Global,
+    locations: &[Location],
+    path: &[String],
+) -> Result<String, Trouble> {
+    let mut text = String::new(alloc);
+    for location in locations {
+        text.push_str(shown_location(alloc, location)?.as_str())?;
+    }
+    text.push_str(" path")?;
+    for name in path {
+        text.push_str(" ")?;
+        text.push_str(name.as_str())?;
+    }
+    Ok(text)
+}
+
+fn shown_location(alloc: Global, location: &Location) -> Result<String, Trouble> {
+    let (id, profile) = (location.id.as_str(), location.profile.as_str());
+    let known = location.srs_known;
+    let mut text = format!(in alloc; " [{id} {profile} {known} ")?;
+    match &location.body {
+        Body::Point(lat, lon) => text.push_str(format!(in alloc; "{lat},{lon}")?.as_str())?,
+        Body::Address(pairs) => push_pairs(&mut text, pairs.as_slice())?,
+        Body::Unreadable => text.push_str("unreadable")?,
+    }
+    text.push_str("]")?;
+    Ok(text)
+}
+
+/// What a desk line orders, or the number of its refusal, or `other`.
+fn order(alloc: Global, line: &[u8]) -> Result<String, Trouble> {
+    match read_desk(alloc, line) {
+        Ok(Some(DeskLine::Commit)) => owned(alloc, "commit"),
+        Ok(Some(DeskLine::Edit(edit))) => shown_edit(alloc, &edit),
+        Ok(None) => owned(alloc, "other"),
+        Err(DeskFault::Mapping(MappingError::Memory)) => Err(Trouble::Memory),
+        Err(fault) => refused(alloc, fault.code()),
+    }
+}
+
+fn shown_edit(alloc: Global, edit: &Edit) -> Result<String, Trouble> {
+    match edit {
+        Edit::Publish(mapping) => {
+            let text = shown(alloc, mapping)?;
+            Ok(format!(in alloc; "publish {text}")?)
+        }
+        Edit::Replace(mapping) => {
+            let text = shown(alloc, mapping)?;
+            Ok(format!(in alloc; "replace {text}")?)
+        }
+        Edit::Withdraw(identity, stamp) => {
+            let (source, id) = (identity.source().text(), identity.source_id());
+            let stamp = stamp.text();
+            Ok(format!(in alloc; "withdraw {source} {id} {stamp}")?)
+        }
+    }
+}

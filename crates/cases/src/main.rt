@@ -1,0 +1,38 @@
+//! Runs tables of cases of public calls, which lie in the folder that it is run in, and says which give something else
+//! than they should. It ends with status 1 where some do. Arguments name the tables to run; without any it runs all.
+//!
+//! A table is a file `NAME.cases`. Each line is a case: a call, its arguments and what it gives, with `|` between each
+//! two. Empty lines and lines that begin with `#` are passed over.
+#![tactic(auto)]
+
+mod book_cases;
+mod case;
+mod civic_cases;
+mod descriptions;
+mod fields;
+mod geo_cases;
+mod line_cases;
+mod mapping_cases;
+mod spelling;
+mod stamp_cases;
+mod tables;
+mod trouble;
+mod urn_cases;
+mod words;
+
+use std::io;
+use std::process::ExitCode;
+
+fn main(rt: HostRuntime) -> io::Result<ExitCode> {
+    let mut failed = false;
+    for name in &tables::names(&rt)? {
+        if !tables::is_as_wanted(&rt, name.as_str())? {
+            failed = true;
+        }
+    }
+    Ok(if failed {
+        ExitCode::FAILURE
+    } else {
+        ExitCode::SUCCESS
+    })
+}

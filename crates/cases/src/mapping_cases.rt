@@ -1,0 +1,102 @@
+//! Calls of lost_mapping on mappings.
+use crate::descriptions::{mapping, parts};
+use crate::fields::Fields;
+use crate::geo_cases::shown_positions;
+use crate::stamp_cases::stamp;
+use crate::trouble::Trouble;
+use crate::words::{owned, push_pairs, refused, yes_or_no};
+use lost_mapping::{Expires, Mapping, MappingError, Moment};
+use std::alloc::Global;
+
+/// What a call gives.
+pub(crate) fn said(alloc: Global, call: &str, fields: &Fields) -> Result<String, Trouble> {
+    let text = fields.text(1)?;
+    match call {
+        "mapping build" => build(alloc, text),
+        "mapping read" => {
+            let copy = mapping(alloc, text)?.clone()?;
+            shown(alloc, &copy)
+        }
+        "mapping live" => {
+            let moment = stamp(alloc, fields.bytes(2)?)?.moment();
+            owned(alloc, is_live(&mapping(alloc, text)?, &moment)?)
+        }
+        _ => Err(Trouble::NoCase),
+    }
+}
+
+/// Whether parts make a mapping.
+fn build(alloc: Global, text: &str) -> Result<String, Trouble> {
+    match Mapping::build(alloc, parts(alloc, text)?) {
+        Ok(_) => owned(alloc, "built"),
+        Err(MappingError::Memory) => Err(Trouble::Memory),
+        Err(refusal) => refused(alloc, refusal.code()),
+    }
+}
+
+/// Whether a mapping is live at an instant, and when a copy of its end says so.
+fn is_live(mapping: &Mapping, moment: &Moment) -> Result<&'static str, Trouble> {
+    let end = mapping.expires().clone()?;
+    let live = mapping.is_live(moment);
+    Ok(if end.is_live_at(moment) == live {
+        yes_or_no(live)
+    } else {
+        "at odds"
+    })
+}
+
+/// What each reader of a mapping gives.
+pub(crate) fn shown(alloc: Global, mapping: &Mapping) -> Result<String, Trouble> {
+    let mut text = shown_head(alloc, mapping)?;
+    for uri in mapping.uris() {
+        text.push_str(" at ")?;
+        text.push_str(uri.as_str())?;
+    }
+    if let Some(number) = mapping.number() {
+        text.push_str(" dialled ")?;
+        text.push_str(number)?;
+    }
+    push_regions(alloc, &mut text, mapping)?;
+    for name in mapping.display_names() {
+        text.push_str(" named ")?;
+        text.push_str(name.lang.as_str())?;
+        text.push_str(":")?;
+        text.push_str(name.text.as_str())?;
+    }
+    if let Some(key) = mapping.key() {
+        text.push_str(" under ")?;
+        text.push_str(key)?;
+    }
+    if mapping.is_default() {
+        text.push_str(" by default")?;
+    }
+    Ok(text)
+}
+
+/// The identity, the stamp, the end and the service.
+fn shown_head(alloc: Global, mapping: &Mapping) -> Result<String, Trouble> {
+    let (source, id) = (
+        mapping.identity().source().text(),
+        mapping.identity().source_id(),
+    );
+    let (stamp, service) = (mapping.stamp().text(), mapping.service().text());
+    let end = match mapping.expires() {
+        Expires::NoCache => "NO-CACHE",
+        Expires::NoExpiration => "NO-EXPIRATION",
+        Expires::At(end) => end.text(),
+    };
+    Ok(format!(in alloc; "{source} {id} {stamp} {end} {service}")?)
+}
+
+/// Appends the polygons, and then the patterns.
+fn push_regions(alloc: Global, text: &mut String, mapping: &Mapping) -> Result<(), Trouble> {
+    for polygon in mapping.polygons() {
+        text.push_str(" in ")?;
+        text.push_str(shown_positions(alloc, polygon.positions())?.as_str())?;
+    }
+    for pattern in mapping.patterns() {
+        text.push_str(" where ")?;
+        push_pairs(text, pattern.pairs())?;
+    }
+    Ok(())
+}

@@ -1,0 +1,120 @@
+//! Calls of lost_mapping that need no mapping: stamps, instants, sources and identities.
+use crate::fields::Fields;
+use crate::trouble::Trouble;
+use crate::words::{compared, owned, refused};
+use lost_mapping::{Identity, MappingError, Moment, Source, SourceError, Stamp, StampError};
+use std::alloc::Global;
+
+/// What a call gives.
+pub(crate) fn said(alloc: Global, call: &str, fields: &Fields) -> Result<String, Trouble> {
+    match call {
+        "stamp" => new_stamp(alloc, fields.bytes(1)?),
+        "source" => new_source(alloc, fields.bytes(1)?),
+        "same sources" => {
+            let other = source(alloc, fields.bytes(2)?)?;
+            owned(alloc, compared(&source(alloc, fields.bytes(1)?)?, &other))
+        }
+        "identity" => new_identity(alloc, fields.text(1)?, fields.text(2)?),
+        "same identities" => {
+            let other = identity(alloc, fields.text(3)?, fields.text(4)?)?;
+            let one = identity(alloc, fields.text(1)?, fields.text(2)?)?;
+            owned(alloc, compared(&one, &other))
+        }
+        "moment" => match moment(fields, 1)? {
+            Some(_) => owned(alloc, "kept"),
+            None => owned(alloc, "none"),
+        },
+        "moments" => {
+            let one = moment(fields, 1)?.ok_or(Trouble::NoCase)?;
+            let other = moment(fields, 3)?.ok_or(Trouble::NoCase)?;
+            owned(alloc, order(&one, &other))
+        }
+        _ => Err(Trouble::NoCase),
+    }
+}
+
+/// The stamp of a text that is one.
+pub(crate) fn stamp(alloc: Global, text: &[u8]) -> Result<Stamp, Trouble> {
+    match Stamp::parse(alloc, text) {
+        Ok(stamp) => Ok(stamp),
+        Err(StampError::Memory) => Err(Trouble::Memory),
+        Err(StampError::Bad) => Err(Trouble::NoCase),
+    }
+}
+
+/// The source of a text that is one.
+pub(crate) fn source(alloc: Global, text: &[u8]) -> Result<Source, Trouble> {
+    match Source::parse(alloc, text) {
+        Ok(source) => Ok(source),
+        Err(SourceError::Memory) => Err(Trouble::Memory),
+        Err(SourceError::Bad) => Err(Trouble::NoCase),
+    }
+}
+
+/// The identity of two texts that make one.
+pub(crate) fn identity(alloc: Global, source: &str, id: &str) -> Result<Identity, Trouble> {
+    match Identity::parse(alloc, source, id) {
+        Ok(identity) => Ok(identity),
+        Err(MappingError::Memory) => Err(Trouble::Memory),
+        Err(_) => Err(Trouble::NoCase),
+    }
+}
+
+/// The text and the instant of a copy of a stamp.
+fn new_stamp(alloc: Global, text: &[u8]) -> Result<String, Trouble> {
+    match Stamp::parse(alloc, text) {
+        Ok(stamp) => {
+            let copy = stamp.clone()?;
+            let (text, moment) = (copy.text(), copy.moment());
+            let (day, nanosecond) = (moment.day(), moment.nanosecond());
+            Ok(format!(in alloc; "{text} day {day}, {nanosecond}")?)
+        }
+        Err(StampError::Memory) => Err(Trouble::Memory),
+        Err(refusal) => refused(alloc, refusal.code()),
+    }
+}
+
+/// The text of a copy of a source.
+fn new_source(alloc: Global, text: &[u8]) -> Result<String, Trouble> {
+    match Source::parse(alloc, text) {
+        Ok(source) => {
+            let copy = source.clone()?;
+            let same = compared(&copy, &source);
+            let text = copy.text();
+            Ok(format!(in alloc; "{text} {same}")?)
+        }
+        Err(SourceError::Memory) => Err(Trouble::Memory),
+        Err(refusal) => refused(alloc, refusal.code()),
+    }
+}
+
+/// The texts of a copy of an identity.
+fn new_identity(alloc: Global, source: &str, id: &str) -> Result<String, Trouble> {
+    match Identity::parse(alloc, source, id) {
+        Ok(identity) => {
+            let copy = identity.clone()?;
+            let same = compared(&copy, &identity);
+            let (source, id) = (copy.source().text(), copy.source_id());
+            Ok(format!(in alloc; "{source} {id} {same}")?)
+        }
+        Err(MappingError::Memory) => Err(Trouble::Memory),
+        Err(refusal) => refused(alloc, refusal.code()),
+    }
+}
+
+/// The instant of a day and a nanosecond, which stand from a place on.
+fn moment(fields: &Fields, place: usize) -> Result<Option<Moment>, Trouble> {
+    let day = i32::try_from(fields.number(place)?).map_err(|_| Trouble::NoCase)?;
+    let nanosecond = fields.count(place.saturating_add(1))?;
+    Ok(Moment::new(day, nanosecond))
+}
+
+/// How one instant lies to another by each way of comparing.
+fn order(one: &Moment, other: &Moment) -> &'static str {
+    match (one.is_earlier(other), other.is_earlier(one)) {
+        (true, false) if one < other && one != other => "before",
+        (false, true) if one > other && one != other => "after",
+        (false, false) if one == other => "same",
+        _ => "at odds",
+    }
+}

@@ -1,0 +1,55 @@
+//! The tables of the folder that the program is run in.
+use crate::book_cases::Shelf;
+use crate::case::judge;
+use std::rt::{Env, Files};
+use std::{env, fs, io};
+
+/// What ends the name of a table's file.
+const ENDING: &str = ".cases";
+
+/// The names of the tables that are run: those of the arguments, or each of the folder, in order.
+pub(crate) fn names<R: Env + Files + AllocGlobal + Clone + Drop>(
+    rt: &R,
+) -> io::Result<Vec<String>> {
+    let mut names = Vec::new(rt.alloc());
+    for word in env::args(rt)?.skip(1) {
+        names.push(word)?;
+    }
+    if !names.is_empty() {
+        return Ok(names);
+    }
+    for entry in fs::read_dir(rt, ".")? {
+        let entry = entry?;
+        if let Some(name) = entry.file_name().strip_suffix(ENDING) {
+            names.push(String::from_str(rt.alloc(), name)?)?;
+        }
+    }
+    names.sort()?;
+    Ok(names)
+}
+
+/// Runs a table, prints each case that is wrong or no case and how many are as wanted, and says whether all are.
+pub(crate) fn is_as_wanted<R: Files + Print + AllocGlobal>(rt: &R, name: &str) -> io::Result<bool> {
+    let table = fs::read_to_string(rt, format!(in rt.alloc(); "{name}{ENDING}")?.as_str())?;
+    let mut shelf = Shelf::new();
+    let (mut all, mut count) = (true, 0u32);
+    for (number, line) in table.lines().enumerate() {
+        if line.is_empty() || line.starts_with('#') {
+            continue;
+        }
+        let place = number.saturating_add(1);
+        match judge(rt.alloc(), &mut shelf, line) {
+            Ok(None) => count = count.saturating_add(1),
+            Ok(Some(said)) => {
+                println!(rt; "{name}, line {place}, gives {said}")?;
+                all = false;
+            }
+            Err(trouble) => {
+                println!(rt; "{name}, line {place}: {trouble}")?;
+                return Ok(false);
+            }
+        }
+    }
+    println!(rt; "{name}: {count} as wanted")?;
+    Ok(all)
+}

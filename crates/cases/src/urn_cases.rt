@@ -1,0 +1,78 @@
+//! Calls of lost_urn.
+use crate::fields::Fields;
+use crate::trouble::Trouble;
+use crate::words::{compared, copy_of, owned, refused, yes_or_no};
+use lost_urn::{ServiceUrn, UrnError};
+use std::alloc::Global;
+use std::cmp::Ordering;
+
+/// What a call gives.
+pub(crate) fn said(alloc: Global, call: &str, fields: &Fields) -> Result<String, Trouble> {
+    let text = fields.bytes(1)?;
+    match call {
+        "urn parse" => parse(alloc, text),
+        "urn cut" => cut(alloc, &service(alloc, text)?, fields.count(2)?),
+        "urn at or below" => {
+            let other = service(alloc, fields.bytes(2)?)?;
+            owned(
+                alloc,
+                yes_or_no(service(alloc, text)?.is_at_or_below(&other)),
+            )
+        }
+        "urn order" => {
+            let other = service(alloc, fields.bytes(2)?)?;
+            owned(alloc, order(&service(alloc, text)?, &other))
+        }
+        _ => Err(Trouble::NoCase),
+    }
+}
+
+/// The service of a text that is one.
+pub(crate) fn service(alloc: Global, text: &[u8]) -> Result<ServiceUrn, Trouble> {
+    match ServiceUrn::parse(alloc, text) {
+        Ok(service) => Ok(service),
+        Err(UrnError::Memory) => Err(Trouble::Memory),
+        Err(_) => Err(Trouble::NoCase),
+    }
+}
+
+fn parse(alloc: Global, text: &[u8]) -> Result<String, Trouble> {
+    match ServiceUrn::parse(alloc, text) {
+        Ok(service) => shown(alloc, &service),
+        Err(UrnError::Memory) => Err(Trouble::Memory),
+        Err(refusal) => refused(alloc, refusal.code()),
+    }
+}
+
+/// The text and the depth of a copy of a copy, by the method and by the trait.
+fn shown(alloc: Global, service: &ServiceUrn) -> Result<String, Trouble> {
+    let copy = copy_of(&service.clone()?)?;
+    let same = compared(&copy, service);
+    let (text, depth) = (copy.text(), copy.depth());
+    Ok(format!(in alloc; "{text} {depth} {same}")?)
+}
+
+fn cut(alloc: Global, service: &ServiceUrn, labels: u64) -> Result<String, Trouble> {
+    let labels = usize::try_from(labels).map_err(|_| Trouble::NoCase)?;
+    if labels < 1 || labels > service.depth() {
+        return Err(Trouble::NoCase);
+    }
+    let front = service.cut(labels)?;
+    let (text, depth) = (front.text(), front.depth());
+    Ok(format!(in alloc; "{text} {depth}")?)
+}
+
+/// How one service lies to another by each way of comparing.
+fn order(one: &ServiceUrn, other: &ServiceUrn) -> &'static str {
+    let same = compared(one, other);
+    let order = one.cmp(other);
+    if one.partial_cmp(other) != Some(order) {
+        return "at odds";
+    }
+    match order {
+        Ordering::Less if one < other && same == "other" => "before",
+        Ordering::Equal if same == "same" => "same",
+        Ordering::Greater if one > other && same == "other" => "after",
+        _ => "at odds",
+    }
+}
