@@ -1,6 +1,6 @@
 //! The profile of civic addresses.
 
-ghost use Rattle.std.specs.Prelude.{◌≡◌, IfOk, IsTrue, true, refl};
+ghost use Rattle.std.specs.Prelude.{true, refl};
 ghost use Rattle.lost_spec.specs.Civic.{matches};
 ghost use Rattle.lost_civicdex.specs.Keys.{keys_of};
 ghost use Rattle.lost_civicdex.specs.Covers.{civic_cover, IsPattern, IsAddress};
@@ -54,7 +54,7 @@ impl Profile for Civic {
 
     /// The key of the pattern's last element, alone.
     fn cover(alloc: Global, region: &CivicPattern) -> Result<Vec<ElementKey>, AllocError> {
-        // A pattern names some element.
+        // One key, since a pattern names some element.
         let room = region.pairs().len().min(Self::COVER_MAX);
         let mut keys = Vec::with_capacity(alloc, room)?;
         match find_last(region) {

@@ -1,6 +1,6 @@
 //! The profile of elements that are required of patterns.
 
-ghost use Rattle.std.specs.Prelude.{◌≡◌, IfOk, true, refl};
+ghost use Rattle.std.specs.Prelude.{◌≡◌, true, refl};
 ghost use Rattle.lost_spec.specs.Civic.{has_value};
 ghost use Rattle.lost_civic.specs.Element.{element_name};
 ghost use Rattle.lost_civicdex.specs.Keys.{keys_of};

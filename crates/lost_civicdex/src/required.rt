@@ -1,6 +1,6 @@
 //! Elements that a pattern is required to name.
 
-ghost use Rattle.std.specs.Prelude.{◌≡◌, ◌↔◌, ◌<◌, [], IfOk, IfSome, IsNone, MatchOption, filter_map, length};
+ghost use Rattle.std.specs.Prelude.{◌≡◌, ◌↔◌, ◌<◌, [], IfOk, IfSome, IsNone, filter_map, length};
 ghost use Rattle.lost_civicdex.specs.Keys.{key_of};
 
 use crate::ElementKey;
