@@ -9,7 +9,7 @@ use Rattle.std.proofs.lemmas.List.Concat.{flat_map-append}
 use Rattle.lost_grid.specs.declared.cell.Cell.{Cell}
 use Rattle.lost_grid.specs.Lines.{up_to, rows, columns}
 use Rattle.lost_grid.specs.Grid.{cells_in_row, cells_within, level_of}
-use Rattle.lost_grid.specs.Runs.{up_to_none, up_to_more}
+use Rattle.lost_grid.specs.Runs.{up_to_more}
 
 -- the cell of one more column
 pub column_more : (level : ℕ) (row first column : ℤ) (old cells : List Cell) → first ≤ℤ column → cells ≡ old ++ cells_in_row level row (up_to first column) →

@@ -1,9 +1,8 @@
 -- Rows and columns: how large they are, and what the code's shift and cast give.
-use Rattle.std.proofs.Common.{◌≡◌, refl, subst, sym, ℕ, suc, ◌+◌, ◌*◌, ◌/◌, ◌^◌, ◌<◌, ◌≤◌, ℤ, pos, negsuc, ◌≤ℤ◌, arith, rules, SFits, to_z, of_z, w16, w64}
+use Rattle.std.proofs.Common.{◌≡◌, refl, ℕ, ◌*◌, ◌/◌, ◌^◌, ◌≤◌, ℤ, pos, negsuc, arith, rules, SFits, to_z, of_z, w16, w64}
 use Rattle.std.specs.Int.Signed.{shr_z}
-use Rattle.std.proofs.Math.Nat.{div-mul-le_self}
 use Rattle.std.proofs.lemmas.Int.{ints, to_z-of_z}
-use Rattle.std.proofs.lemmas.Nat.{le-div, pow_pos, shr-shr, shr_le}
+use Rattle.std.proofs.lemmas.Nat.{shr-shr, shr_le}
 use Rattle.lost_grid.specs.Lines.{side, line_of, IsOnEarth, IsLine}
 
 -- a shift that copies the sign bit rounds down

@@ -1,6 +1,6 @@
 -- No cell stands twice among those of different rows and columns.
-use Rattle.std.proofs.Common.{◌≡◌, refl, sym, ap, ◌∙◌, ℕ, ◌<◌, Bool, false, ◌&&◌, eqb, List, [], ◌∷◌, ◌++◌, length, map, get_or, ℤ, pos, ◌+ℤ◌, All, arith}
-use Rattle.std.specs.List.{IsDistinct, AllByRecursion, flat_map}
+use Rattle.std.proofs.Common.{◌≡◌, sym, ap, ◌∙◌, ℕ, Bool, false, ◌&&◌, eqb, List, [], ◌∷◌, ◌++◌, get_or, ℤ, pos, ◌+ℤ◌, All, arith}
+use Rattle.std.specs.List.{IsDistinct, flat_map}
 use Rattle.std.specs.Ordering.{int_eq}
 use Rattle.std.proofs.lemmas.Bool.{false_from_ne_true, false≢true, and_parts}
 use Rattle.std.proofs.lemmas.Bool.Decides.{Decides-eqb, Decides-int_eq}

@@ -1,5 +1,5 @@
 -- The level of a cover: it is one of the seven, and bounds meet few of its cells.
-use Rattle.std.proofs.Common.{◌≡◌, refl, sym, ap, ◌∙◌, ℕ, zero, suc, ◌+◌, ◌*◌, ◌<◌, ◌≤◌, Bool, true, false, cond, List, [], ◌∷◌, ◌++◌, length, map, Option, Some, ℤ, pos, neg_ℤ, ◌+ℤ◌, ◌-ℤ◌, ◌≤ℤ◌, All, nat_le, arith}
+use Rattle.std.proofs.Common.{◌≡◌, refl, ℕ, zero, suc, ◌+◌, ◌*◌, ◌<◌, ◌≤◌, Bool, true, false, cond, List, [], ◌∷◌, length, Option, Some, ℤ, pos, neg_ℤ, ◌+ℤ◌, ◌-ℤ◌, ◌≤ℤ◌, nat_le, arith}
 use Rattle.std.specs.List.{find, flat_map, range_with_len}
 use Rattle.std.specs.Option.{unwrap_or}
 use Rattle.std.proofs.Math.Nat.{mul-le-mul}
@@ -9,7 +9,6 @@ use Rattle.std.proofs.lemmas.List.{length-append, length-map}
 use Rattle.lost_spec.specs.Ring.{lat_limit, lon_limit}
 use Rattle.lost_geo.specs.declared.bounds.Bounds.{Bounds}
 use Rattle.lost_geo.specs.Bounds.{AreInRange}
-use Rattle.lost_grid.specs.declared.cell.Cell.{Cell}
 use Rattle.lost_grid.specs.Lines.{line_of, up_to, rows, columns}
 use Rattle.lost_grid.specs.Grid.{levels, are_few, level_of, cells_in_row, cells_within}
 use Rattle.lost_grid.specs.LineOrder.{line_of_rises}

@@ -7,3 +7,4 @@ pub mod Runs
 pub mod CellsApart
 pub mod LevelLaws
 pub mod CoverLaws
+pub mod Rows

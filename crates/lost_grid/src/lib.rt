@@ -11,3 +11,4 @@ mod cover;
 mod geodetic;
 mod lines;
 mod probe;
+pub mod rows;

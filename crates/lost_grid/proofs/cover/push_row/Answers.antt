@@ -1,4 +1,4 @@
-use Rattle.std.proofs.Common.{◌≡◌, ap, ◌∙◌, ◌++◌, pos, ◌+ℤ◌, ◌≤ℤ◌, ◌<ℤ◌, ℤ, to_z, of_z, w16, SFits, arith}
+use Rattle.std.proofs.Common.{◌≡◌, ap, ◌∙◌, ◌++◌, pos, ◌+ℤ◌, ◌<ℤ◌, ℤ, to_z, of_z, w16, SFits, arith}
 use Rattle.std.proofs.lemmas.Int.{ints, to_z-of_z}
 use Rattle.lost_grid.specs.Lines.{up_to}
 use Rattle.lost_grid.specs.Grid.{cells_in_row}

@@ -1,4 +1,4 @@
-use Rattle.std.proofs.Common.{to_z, of_z, w16, SFits, ap, ◌∙◌}
+use Rattle.std.proofs.Common.{w16, SFits}
 use Rattle.std.proofs.lemmas.Int.{to_z-of_z}
 use Rattle.lost_grid.specs.Lines.{line_of, IsLine}
 use Rattle.lost_grid.proofs.Quotients.{IsLine-line_of, IsLine_fits, shifted}

@@ -1,4 +1,4 @@
-use Rattle.std.proofs.Common.{◌≡◌, arith, SFits, w64}
+use Rattle.std.proofs.Common.{◌≡◌, arith}
 use Rattle.std.proofs.lemmas.Int.{ints, to_z-of_z}
 use Rattle.lost_grid.specs.Lines.{line_of}
 use Rattle.lost_grid.specs.LineOrder.{line_of_rises}
