@@ -1,0 +1,32 @@
+-- The keys that a pattern is kept under, and those that are looked up: for an address, and for required elements.
+use Rattle.std.specs.Prelude.{Bool, List, option_to_list, ◌≡◌, ◌<◌, None, length}
+use Rattle.std.specs.List.{list_all}
+use Rattle.lost_spec.specs.Civic.{Pairs, pattern_fault, address_fault, has_value}
+use Rattle.lost_civic.specs.Element.{element_name}
+use Rattle.lost_civicdex.specs.Keys.{Key, last_of, last_key}
+
+-- ---- addresses
+
+-- the cover of a pattern: the key of its last element alone (own)
+abbrev pub civic_cover : Pairs → List Key
+civic_cover pattern = option_to_list (last_key pattern)
+
+abbrev pub IsPattern : Pairs → Type 0
+IsPattern pairs = pattern_fault pairs ≡ None
+
+abbrev pub IsAddress : Pairs → Type 0
+IsAddress pairs = address_fault pairs ≡ None
+
+-- ---- required elements
+
+-- a pattern names each required element with its comparison text (own)
+abbrev pub names_all : Pairs → List Key → Bool
+names_all pattern required = list_all (λ key. has_value pattern (element_name key.0) key.1) required
+
+-- what is looked up: the last required element alone (own)
+abbrev pub required_probes : List Key → List Key
+required_probes required = option_to_list (last_of required)
+
+-- at least one element is required
+abbrev pub IsRequirement : List Key → Type 0
+IsRequirement required = 0 < length required

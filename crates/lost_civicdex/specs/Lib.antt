@@ -1,0 +1,9 @@
+pub mod CoverLaws
+pub mod Covers
+pub mod KeyLemmas
+pub mod KeyOrder
+pub mod KeyPresence
+pub mod Keys
+pub mod KeysApart
+pub mod References
+pub mod Rows

@@ -1,0 +1,86 @@
+//! The profile of civic addresses.
+
+ghost use Rattle.std.specs.Prelude.{true, refl};
+ghost use Rattle.lost_spec.specs.Civic.{matches};
+ghost use Rattle.lost_civicdex.specs.Keys.{keys_of};
+ghost use Rattle.lost_civicdex.specs.Covers.{civic_cover, IsPattern, IsAddress};
+ghost use Rattle.lost_civicdex.specs.CoverLaws.{civic_shares, one_distinct, one_at_most};
+
+use crate::ElementKey;
+use crate::texts::{find_last, make_keys};
+use lost_civic::{CivicAddress, CivicPattern, Element};
+use lost_profile::Profile;
+use std::alloc::{AllocError, Global};
+
+/// Civic addresses among civic patterns (RFC 5222, section 12.3). A pattern is kept under the key of its last element
+/// in the order of the table, and an address is looked up under the keys of all its known elements. An outline tells
+/// nothing.
+pub struct Civic;
+
+impl Profile for Civic {
+    type Location = CivicAddress;
+
+    type Region = CivicPattern;
+
+    type Key = ElementKey;
+
+    type Outline = ();
+
+    ghost COVER_MAX = { 1 };
+
+    const NAME: &'static str = "civic";
+
+    const COVER_MAX: usize = 1;
+
+    ghost is_region = { IsPattern };
+
+    ghost is_location = { IsAddress };
+
+    ghost holds = { matches };
+
+    ghost cover_of = { civic_cover };
+
+    ghost probes_of = { keys_of };
+
+    ghost outline_of = { λ _. tt };
+
+    ghost may_hold = { λ _ _. true };
+
+    /// Whether each element of the pattern stands in the address with an equal comparison text (RFC 5222, section
+    /// 12.3; the comparison is an own rule).
+    fn contains(region: &CivicPattern, location: &CivicAddress) -> bool {
+        region.matches(location)
+    }
+
+    /// The key of the pattern's last element, alone.
+    fn cover(alloc: Global, region: &CivicPattern) -> Result<Vec<ElementKey>, AllocError> {
+        // One key, since a pattern names some element.
+        let room = region.pairs().len().min(Self::COVER_MAX);
+        let mut keys = Vec::with_capacity(alloc, room)?;
+        match find_last(region) {
+            Some((element, text)) => keys.push(ElementKey::new(alloc, element, text)?)?,
+            None => {}
+        }
+        Ok(keys)
+    }
+
+    /// The keys of the address's known elements, in the order of the table.
+    fn probes(alloc: Global, location: &CivicAddress) -> Result<Vec<ElementKey>, AllocError> {
+        let room = location.pairs().len().min(Element::ALL.len());
+        make_keys(alloc, location, &Element::ALL, room)
+    }
+
+    fn outline(_region: &CivicPattern) {}
+
+    fn is_near(_outline: &(), _location: &CivicAddress) -> bool {
+        true
+    }
+
+    ghost cover_meets_probes = { λ region location lawful _ holds. civic_shares region location lawful holds };
+
+    ghost cover_is_distinct = { λ region _. one_distinct _ };
+
+    ghost cover_is_bounded = { λ region _. one_at_most _ };
+
+    ghost holder_is_near = { λ _ _ _ _ _. refl };
+}

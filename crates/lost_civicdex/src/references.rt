@@ -1,0 +1,96 @@
+//! The profile of elements that are required of patterns.
+
+ghost use Rattle.std.specs.Prelude.{◌≡◌, true, refl};
+ghost use Rattle.lost_spec.specs.Civic.{has_value};
+ghost use Rattle.lost_civic.specs.Element.{element_name};
+ghost use Rattle.lost_civicdex.specs.Keys.{keys_of};
+ghost use Rattle.lost_civicdex.specs.Covers.{names_all, required_probes, IsPattern, IsRequirement};
+ghost use Rattle.lost_civicdex.specs.CoverLaws.{required_shares, keys_distinct, keys_bounded};
+
+use crate::texts::make_keys;
+use crate::{ElementKey, RequiredElements};
+use lost_civic::{CivicPattern, Element};
+use lost_profile::Profile;
+use std::alloc::{AllocError, Global};
+
+/// Required elements among civic patterns: a pattern contains them where it names each of them with its comparison
+/// text. So the patterns that are references for an address in a validation (RFC 5222, section 8.4.2; the policy is an
+/// own rule) are found by an index. A pattern is kept under the keys of all its elements, in the order of the table,
+/// and required elements are looked up under the last of them. An outline tells nothing.
+pub struct References;
+
+/// Whether the pattern names the key's element with the key's comparison text.
+fn names_key(pattern: &CivicPattern, key: &ElementKey) -> bool
+    ensures { result ≡ has_value pattern.now (element_name key.now.0) key.now.1 }
+{
+    match pattern.text(key.element()) {
+        Some(own) => own == key.text(),
+        None => false,
+    }
+}
+
+impl Profile for References {
+    type Location = RequiredElements;
+
+    type Region = CivicPattern;
+
+    type Key = ElementKey;
+
+    type Outline = ();
+
+    ghost COVER_MAX = { 31 };
+
+    const NAME: &'static str = "civic-references";
+
+    const COVER_MAX: usize = 31;
+
+    ghost is_region = { IsPattern };
+
+    ghost is_location = { IsRequirement };
+
+    ghost holds = { names_all };
+
+    ghost cover_of = { keys_of };
+
+    ghost probes_of = { required_probes };
+
+    ghost outline_of = { λ _. tt };
+
+    ghost may_hold = { λ _ _. true };
+
+    /// Whether the pattern names each required element with its comparison text.
+    fn contains(region: &CivicPattern, location: &RequiredElements) -> bool {
+        location.keys().iter().all(|key| names_key(region, key))
+    }
+
+    /// The keys of the pattern's elements, in the order of the table.
+    fn cover(alloc: Global, region: &CivicPattern) -> Result<Vec<ElementKey>, AllocError> {
+        let room = region.pairs().len();
+        make_keys(alloc, region, &Element::ALL, room)
+    }
+
+    /// The key of the last required element, alone.
+    fn probes(alloc: Global, location: &RequiredElements) -> Result<Vec<ElementKey>, AllocError> {
+        let last = location.keys().last();
+        let mut keys = Vec::with_capacity(alloc, 1)?;
+        match last {
+            Some(key) => keys.push(key.clone()?)?,
+            None => {}
+        }
+        Ok(keys)
+    }
+
+    fn outline(_region: &CivicPattern) {}
+
+    fn is_near(_outline: &(), _location: &RequiredElements) -> bool {
+        true
+    }
+
+    ghost cover_meets_probes = { λ region location _ some holds. required_shares region location some holds };
+
+    ghost cover_is_distinct = { λ region _. keys_distinct region };
+
+    ghost cover_is_bounded = { λ region _. keys_bounded region };
+
+    ghost holder_is_near = { λ _ _ _ _ _. refl };
+}

@@ -1,0 +1,69 @@
+//! The keys of the elements of an address or a pattern.
+
+ghost use Rattle.std.specs.Prelude.{◌≡◌, IfOk, filter_map, option_map};
+ghost use Rattle.std.specs.Option.{option_copied};
+ghost use Rattle.lost_spec.specs.Civic.{Pairs};
+ghost use Rattle.lost_civic.specs.Texts.{text_of};
+ghost use Rattle.lost_civicdex.specs.Keys.{key_of, last_key};
+
+use crate::ElementKey;
+use lost_civic::{CivicAddress, CivicPattern, Element};
+use std::alloc::{AllocError, Global};
+
+/// What has comparison texts of elements: an address or a pattern.
+pub(crate) trait ElementTexts {
+    ghost pairs_of: { Self → Pairs };
+
+    /// The comparison text of an element, where it stands there.
+    fn text(&self, element: Element) -> Option<&str>
+        ensures { option_copied result ≡ text_of element (pairs_of self.now) };
+}
+
+impl ElementTexts for CivicAddress {
+    ghost pairs_of = { λ address. address };
+
+    fn text(&self, element: Element) -> Option<&str> {
+        CivicAddress::text(self, element)
+    }
+}
+
+impl ElementTexts for CivicPattern {
+    ghost pairs_of = { λ pattern. pattern };
+
+    fn text(&self, element: Element) -> Option<&str> {
+        CivicPattern::text(self, element)
+    }
+}
+
+/// The keys of those of these elements that stand there, in the order given. Room for so many keys is taken at once.
+pub(crate) fn make_keys<T: ElementTexts>(
+    alloc: Global,
+    texts: &T,
+    elements: &[Element],
+    room: usize,
+) -> Result<Vec<ElementKey>, AllocError>
+    ensures { IfOk result (λ keys. keys.items ≡ filter_map (key_of (T.pairs_of texts.now)) elements.now) }
+{
+    let mut keys = Vec::with_capacity(alloc, room)?;
+    for element in elements {
+        match texts.text(*element) {
+            Some(text) => keys.push(ElementKey::new(alloc, *element, text)?)?,
+            None => {}
+        }
+    }
+    Ok(keys)
+}
+
+/// The last element in the order of the table, with its comparison text.
+pub(crate) fn find_last<T: ElementTexts>(texts: &T) -> Option<(Element, &str)>
+    ensures { option_map (λ found. (found.0, found.1.now)) result ≡ last_key (T.pairs_of texts.now) }
+{
+    let mut last = None;
+    for element in Element::ALL {
+        match texts.text(element) {
+            Some(text) => last = Some((element, text)),
+            None => {}
+        }
+    }
+    last
+}

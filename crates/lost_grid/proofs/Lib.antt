@@ -1,0 +1,3 @@
+pub mod Quotients
+pub mod Levels
+pub mod Cells

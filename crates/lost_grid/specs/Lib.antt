@@ -1,0 +1,10 @@
+pub mod Lines
+pub mod Stretch
+pub mod Grid
+pub mod Areas
+pub mod LineOrder
+pub mod Runs
+pub mod CellsApart
+pub mod LevelLaws
+pub mod CoverLaws
+pub mod Rows

@@ -1,0 +1,7 @@
+//! What makes a kind of location searchable (RFC 5222, section 12): when a region contains a location, and the keys
+//! under which regions are kept and locations are looked up. Rules without a section are this profile's own.
+#![tactic(auto)]
+
+mod profile;
+
+pub use profile::Profile;

@@ -1,0 +1,90 @@
+//! The trait of a kind of location, with its laws.
+ghost use Rattle.std.specs.Prelude.{◌≡◌, ℕ, ◌≤◌, Bool, List, length, IsTrue, IfOk};
+ghost use Rattle.std.specs.List.{IsDistinct};
+ghost use Rattle.lost_profile.specs.Keys.{SharesKey};
+
+use std::alloc::{AllocError, Global};
+use std::hash::Hash;
+
+/// A kind of location, and of the regions that contain such locations (RFC 5222, section 12). A region is kept under
+/// the keys of its cover, and a location is looked up under its probes; an outline refuses most regions at a glance.
+/// It is chosen by its type alone, so no call takes a `self`.
+pub trait Profile {
+    /// A location of a request.
+    type Location;
+
+    /// An area that a mapping serves, or a part of it.
+    type Region: Drop;
+
+    /// What regions are kept under.
+    type Key: Ord + Hash + Drop;
+
+    /// What is cheap to copy and tells that a region does not contain a location.
+    type Outline: Copy;
+
+    /// The number `COVER_MAX` in contracts.
+    ghost COVER_MAX: { ℕ };
+
+    /// The name of the profile, as in requests (RFC 5222, section 12).
+    const NAME: &'static str;
+
+    /// The greatest number of keys of a cover.
+    const COVER_MAX: usize;
+
+    /// What every region is.
+    ghost is_region: { Self.Region → Type 0 };
+
+    /// What every location is.
+    ghost is_location: { Self.Location → Type 0 };
+
+    /// Whether the region contains the location.
+    ghost holds: { Self.Region → Self.Location → Bool };
+
+    /// The keys under which a region is kept.
+    ghost cover_of: { Self.Region → List Self.Key };
+
+    /// The keys under which a location is looked up.
+    ghost probes_of: { Self.Location → List Self.Key };
+
+    /// The outline of a region.
+    ghost outline_of: { Self.Region → Self.Outline };
+
+    /// Whether a region with this outline may contain the location.
+    ghost may_hold: { Self.Outline → Self.Location → Bool };
+
+    /// Whether the region contains the location. It takes no memory.
+    fn contains(region: &Self::Region, location: &Self::Location) -> bool
+        ensures { result ≡ holds region.now location.now };
+
+    /// The keys under which the region is kept: each once, and at most `COVER_MAX`; or want of memory.
+    fn cover(alloc: Global, region: &Self::Region) -> Result<Vec<Self::Key>, AllocError>
+        ensures keys { IfOk result (λ keys. keys.items ≡ cover_of region.now) }
+        ensures is_region { is_region region.now };
+
+    /// The keys under which the location is looked up; or want of memory.
+    fn probes(alloc: Global, location: &Self::Location) -> Result<Vec<Self::Key>, AllocError>
+        ensures keys { IfOk result (λ keys. keys.items ≡ probes_of location.now) }
+        ensures is_location { is_location location.now };
+
+    /// The outline of the region. It takes no memory.
+    fn outline(region: &Self::Region) -> Self::Outline
+        ensures { result ≡ outline_of region.now };
+
+    /// Whether a region with this outline may contain the location. It takes no memory.
+    fn is_near(outline: &Self::Outline, location: &Self::Location) -> bool
+        ensures { result ≡ may_hold outline.now location.now };
+
+    /// COVER: where a region contains a location, one key is both in the cover and in the probes.
+    ghost cover_meets_probes: { (region : Self.Region) (location : Self.Location) → is_region region → is_location location
+        → IsTrue (holds region location) → SharesKey (cover_of region) (probes_of location) };
+
+    /// DISTINCT: no key stands twice in a cover.
+    ghost cover_is_distinct: { (region : Self.Region) → is_region region → IsDistinct Self.Key.eq (cover_of region) };
+
+    /// BOUND: a cover has at most `COVER_MAX` keys.
+    ghost cover_is_bounded: { (region : Self.Region) → is_region region → length (cover_of region) ≤ COVER_MAX };
+
+    /// NEAR: where a region contains a location, its outline says that it may.
+    ghost holder_is_near: { (region : Self.Region) (location : Self.Location) → is_region region → is_location location
+        → IsTrue (holds region location) → IsTrue (may_hold (outline_of region) location) };
+}
