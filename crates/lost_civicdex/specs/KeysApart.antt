@@ -1,5 +1,6 @@
 -- The keys of an address or a pattern are all different, and at most 31.
 use Rattle.std.proofs.Common.{◌≡◌, ℕ, ◌+◌, ◌≤◌, Bool, true, false, not, ◌&&◌, List, [], ◌∷◌, length, filter_map, option_map, Option, Some, None, nat_eq, refl, arith, option_to_list}
+use Rattle.std.specs.Cmp.{first_so, second_so}
 use Rattle.std.specs.List.{cons_option, list_all, AllByRecursion, IsDistinct}
 use Rattle.std.proofs.lemmas.Bool.{false≢true}
 use Rattle.std.proofs.lemmas.Map.Keys.{IsDistinct-cons}
@@ -24,14 +25,6 @@ are_apart (element ∷ rest) = differ_from element rest && are_apart rest
 
 elements_apart : are_apart all_elements ≡ true
 elements_apart = refl
-
-first_so : (a b : Bool) → (a && b) ≡ true → a ≡ true
-first_so true b h = refl
-first_so false b h = h
-
-second_so : (a b : Bool) → (a && b) ≡ true → b ≡ true
-second_so true b h = h
-second_so false b h = absurd (false≢true h)
 
 -- ---- their keys
 

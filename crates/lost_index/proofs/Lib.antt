@@ -1,0 +1,3 @@
+pub mod NoteLemmas
+pub mod CutLemmas
+pub mod NotingLemmas

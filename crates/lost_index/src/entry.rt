@@ -1,0 +1,89 @@
+//! The regions of one number.
+ghost use Rattle.std.specs.Prelude.{◌≡◌, ◌≤◌, ◌++◌, [], length, All, IfOk, OnOk, OnErr};
+ghost use Rattle.std.specs.List.{list_any, slice_range};
+
+use crate::kept::Kept;
+use lost_profile::Profile;
+use std::alloc::{AllocError, Global};
+use std::marker::Model;
+
+/// The regions of one number, in order. Contracts see it as their list.
+#[derive(Drop)]
+pub(crate) struct Entry<P: Profile> {
+    kept: Vec<Kept<P>>,
+}
+
+impl<P: Profile> Model for Entry<P> {
+    ghost use Rattle.std.specs.Prelude.{List};
+
+    ghost Value = { List P.Region };
+
+    ghost view = { λ a. a.kept.items };
+}
+
+impl<P: Profile> Entry<P> {
+    /// The regions with what is worked out from them, or want of memory.
+    pub(crate) fn new(alloc: Global, regions: Vec<P::Region>) -> Result<Entry<P>, AllocError>
+        ensures regions { IfOk result (λ entry. entry ≡ regions.items) }
+        ensures are_regions { IfOk result (λ entry. All P.is_region entry) }
+    {
+        let mut kept = Vec::with_capacity(alloc, regions.len())?;
+        for region in regions {
+            kept.push(Kept::new(alloc, region)?)?;
+        }
+        Ok(Entry { kept })
+    }
+
+    /// The regions as they are kept.
+    pub(crate) fn kept(&self) -> &[Kept<P>]
+        ensures { result.now ≡ self.now }
+    {
+        &self.kept
+    }
+
+    /// Puts more regions behind, or want of memory, which changes nothing.
+    pub(crate) fn append(&mut self, more: &mut Entry<P>) -> Result<(), AllocError>
+        ensures appended { OnOk result (self.new ≡ self.old ++ more.old) }
+        ensures refused { OnErr result (self.new ≡ self.old) }
+        ensures given_back { OnErr result (more.new ≡ more.old) }
+    {
+        self.kept.append(&mut more.kept)?;
+        Ok(())
+    }
+
+    /// Keeps the regions at the positions from `from` up to before `to`. It takes no memory.
+    pub(crate) fn cut(&mut self, from: usize, to: usize)
+        requires in_order { from ≤ to }
+        requires within { to ≤ length self.old }
+        ensures { self.new ≡ slice_range self.old from to }
+    {
+        self.kept.truncate(to);
+        self.kept.rotate_left(from);
+        self.kept.truncate(to - from);
+    }
+
+    /// Whether some region contains the location.
+    pub(crate) fn contains(&self, location: &P::Location) -> bool
+        requires { P.is_location location.now }
+        ensures { result ≡ list_any (λ region. P.holds region location.now) self.now }
+    {
+        for one in &self.kept {
+            if one.contains(location) {
+                return true;
+            }
+        }
+        false
+    }
+}
+
+/// Whether this key is in the cover of some region.
+pub(crate) fn has_key<P: Profile>(kept: &[Kept<P>], key: &P::Key) -> bool
+    ensures { result ≡ list_any (λ region. list_any (P.Key.eq key.now) (P.cover_of region)) kept.now }
+{
+    for one in kept {
+        if one.has_key(key) {
+            return true;
+        }
+    }
+    false
+}

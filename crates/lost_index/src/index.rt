@@ -1,0 +1,134 @@
+//! The index.
+ghost use Rattle.std.specs.Prelude.{◌≡◌, ◌≤◌, ◌++◌, ◌∷◌, [], IfOk, OnOk, OnErr};
+ghost use Rattle.std.specs.List.{slice_range};
+ghost use Rattle.std.specs.List.Sorted.{IsStrictlyIncreasing};
+ghost use Rattle.lost_index.specs.Held.{numbers, IsHeld, IsAbove, HasRegions, with_number, without, holders};
+
+use crate::cell::Cell;
+use crate::entry::Entry;
+use crate::kept::Kept;
+use crate::noting;
+use crate::search;
+use lost_profile::Profile;
+use std::alloc::{AllocError, Global};
+use std::collections::{BTreeMap, HashMap};
+use std::marker::Model;
+
+/// Numbers with their regions, by which the numbers of a location are found. Contracts see it as the list of (number,
+/// regions); the numbers rise along it.
+#[derive(Drop)]
+pub struct Index<P: Profile> {
+    alloc: Global,
+    held: BTreeMap<u64, Entry<P>>,
+    cells: HashMap<P::Key, Cell>,
+}
+
+impl<P: Profile> Model for Index<P> {
+    ghost use Rattle.std.specs.Prelude.{ℕ, List};
+    ghost use Rattle.lost_index.specs.Notes.{IsIndexed};
+
+    ghost Value = { List (ℕ × List P.Region) };
+
+    ghost view = { λ a. a.held.entries };
+
+    ghost invariant = { λ a. IsIndexed P.is_region P.cover_of P.Key.eq a.held a.cells };
+}
+
+impl<P: Profile> Index<P> {
+    /// An empty index. It takes no memory.
+    pub fn new(alloc: Global) -> Index<P>
+        ensures { result ≡ [] }
+    {
+        Index {
+            alloc,
+            held: BTreeMap::new(alloc),
+            cells: HashMap::new(alloc),
+        }
+    }
+
+    /// Puts a number with its regions behind all that are held; the number is above them. Or want of memory, which
+    /// leaves the list unchanged; the regions are then dropped.
+    pub fn put(&mut self, number: u64, regions: Vec<P::Region>) -> Result<(), AllocError>
+        requires { IsAbove number self.old }
+        ensures put { OnOk result (self.new ≡ self.old ++ (number, regions.items) ∷ []) }
+        ensures refused { OnErr result (self.new ≡ self.old) }
+    {
+        let entry = Entry::new(self.alloc, regions)?;
+        noting::note_new(&mut self.cells, self.alloc, number, entry.kept(), none(entry.kept()))?;
+        if let Err(refused) = self.held.insert(number, entry) {
+            let kept = refused.value.1.kept();
+            noting::take_back(&mut self.cells, number, kept, none(kept));
+            return Err(AllocError);
+        }
+        Ok(())
+    }
+
+    /// Puts more regions behind those of a number that is held. Or want of memory, which leaves the list unchanged; the
+    /// regions are then dropped.
+    pub fn add(&mut self, number: u64, regions: Vec<P::Region>) -> Result<(), AllocError>
+        requires { IsHeld number self.old }
+        ensures added { OnOk result (self.new ≡ with_number number (λ held. held ++ regions.items) self.old) }
+        ensures refused { OnErr result (self.new ≡ self.old) }
+    {
+        let mut entry = Entry::new(self.alloc, regions)?;
+        let Some(held) = self.held.get_mut(&number) else {
+            unreachable!()
+        };
+        noting::note_new(
+            &mut self.cells,
+            self.alloc,
+            number,
+            entry.kept(),
+            held.kept(),
+        )?;
+        if held.append(&mut entry).is_err() {
+            noting::take_back(&mut self.cells, number, entry.kept(), held.kept());
+            return Err(AllocError);
+        }
+        Ok(())
+    }
+
+    /// Keeps the regions at the positions from `from` up to before `to` of a number that is held; `to` is at most their
+    /// number. It takes no memory.
+    pub fn cut(&mut self, number: u64, from: usize, to: usize)
+        requires held { IsHeld number self.old }
+        requires in_order { from ≤ to }
+        requires within { HasRegions to number self.old }
+        ensures { self.new ≡ with_number number (λ held. slice_range held from to) self.old }
+    {
+        let Some(entry) = self.held.get_mut(&number) else {
+            unreachable!()
+        };
+        let kept = entry.kept();
+        noting::take_back(&mut self.cells, number, &kept[..from], &kept[from..to]);
+        noting::take_back(&mut self.cells, number, &kept[to..], &kept[from..to]);
+        entry.cut(from, to);
+    }
+
+    /// Takes a number that is held out, with its regions. It takes no memory.
+    pub fn take(&mut self, number: u64)
+        requires { IsHeld number self.old }
+        ensures { self.new ≡ without number self.old }
+    {
+        let Some(entry) = self.held.remove(&number) else {
+            unreachable!()
+        };
+        noting::take_back(&mut self.cells, number, entry.kept(), none(entry.kept()));
+    }
+
+    /// The numbers with a region that contains the location, rising, each once. Or want of memory.
+    pub fn holding(&self, location: &P::Location) -> Result<Vec<u64>, AllocError>
+        ensures holding { IfOk result (λ found. found.items ≡ holders P.holds location.now self.now) }
+        ensures rising { IfOk result (λ found. IsStrictlyIncreasing found.items) }
+    {
+        let mut found = search::found(&self.held, &self.cells, self.alloc, location)?;
+        found.sort_unstable();
+        found.dedup();
+        Ok(found)
+    }
+}
+
+/// None of what is kept.
+fn none<P: Profile>(kept: &[Kept<P>]) -> &[Kept<P>] {
+    &kept[..0]
+}

@@ -1,0 +1,13 @@
+//! An index over any profile: which numbers have a region that contains a location (RFC 5222, section 12). Rules without
+//! a section are this profile's own.
+#![tactic(auto)]
+
+mod cell;
+mod cells;
+mod entry;
+mod index;
+mod kept;
+mod noting;
+mod search;
+
+pub use index::Index;

@@ -1,0 +1,110 @@
+//! Noting a number under the keys of its regions, and taking those notes back.
+ghost use Rattle.std.specs.Prelude.{All, OnOk};
+ghost use Rattle.lost_index.specs.Notes.{IsNoted, IsUnder, KeepsNotes, KeepsOthers, KeepsUnder, AreNoted};
+
+use crate::cell::Cell;
+use crate::cells;
+use crate::entry;
+use crate::kept::Kept;
+use lost_profile::Profile;
+use std::alloc::{AllocError, Global};
+use std::collections::HashMap;
+use std::hash::Hash;
+
+/// Notes a number under the keys of new regions, or want of memory, with no new note left. The notes of other numbers
+/// stay, and so do those under the keys of `still`.
+pub(crate) fn note_new<P: Profile>(
+    cells: &mut HashMap<P::Key, Cell>,
+    alloc: Global,
+    number: u64,
+    new: &[Kept<P>],
+    still: &[Kept<P>],
+) -> Result<(), AllocError>
+    ensures noted { OnOk result (AreNoted P.Key.eq P.cover_of number new.now cells.new) }
+    ensures others { KeepsOthers P.Key.eq number cells.old cells.new }
+    ensures still { KeepsUnder P.Key.eq (IsUnder P.cover_of still.now) cells.old cells.new }
+{
+    if note_all(cells, alloc, number, new).is_err() {
+        take_back(cells, number, new, still);
+        return Err(AllocError);
+    }
+    Ok(())
+}
+
+/// Notes a number under the keys of regions, or want of memory. What was noted stays.
+fn note_all<P: Profile>(
+    cells: &mut HashMap<P::Key, Cell>,
+    alloc: Global,
+    number: u64,
+    new: &[Kept<P>],
+) -> Result<(), AllocError>
+    ensures noted { OnOk result (AreNoted P.Key.eq P.cover_of number new.now cells.new) }
+    ensures keeps { KeepsNotes P.Key.eq cells.old cells.new }
+{
+    for one in new {
+        note_keys(cells, alloc, number, one.cover(alloc)?)?;
+    }
+    Ok(())
+}
+
+/// Notes a number under keys, or want of memory. What was noted stays.
+fn note_keys<K: Ord + Hash + Drop>(
+    cells: &mut HashMap<K, Cell>,
+    alloc: Global,
+    number: u64,
+    keys: Vec<K>,
+) -> Result<(), AllocError>
+    ensures noted { OnOk result (All (λ key. IsNoted K.eq cells.new key number) keys.items) }
+    ensures keeps { KeepsNotes K.eq cells.old cells.new }
+{
+    for key in keys {
+        cells::note(cells, alloc, key, number)?;
+    }
+    Ok(())
+}
+
+/// Takes the notes of a number under the keys of regions back, but for those keys that are in the cover of one of
+/// `still` too.
+pub(crate) fn take_back<P: Profile>(
+    cells: &mut HashMap<P::Key, Cell>,
+    number: u64,
+    gone: &[Kept<P>],
+    still: &[Kept<P>],
+)
+    ensures others { KeepsOthers P.Key.eq number cells.old cells.new }
+    ensures still { KeepsUnder P.Key.eq (IsUnder P.cover_of still.now) cells.old cells.new }
+{
+    for one in gone {
+        take_keys_back(cells, number, one.keys(), still);
+    }
+}
+
+/// Takes the notes of a number under keys back, but for the keys of regions.
+fn take_keys_back<P: Profile>(
+    cells: &mut HashMap<P::Key, Cell>,
+    number: u64,
+    keys: &[P::Key],
+    still: &[Kept<P>],
+)
+    ensures others { KeepsOthers P.Key.eq number cells.old cells.new }
+    ensures still { KeepsUnder P.Key.eq (IsUnder P.cover_of still.now) cells.old cells.new }
+{
+    for key in keys {
+        take_key_back(cells, number, key, still);
+    }
+}
+
+/// Takes the note of a number under a key back, but for a key of regions.
+fn take_key_back<P: Profile>(
+    cells: &mut HashMap<P::Key, Cell>,
+    number: u64,
+    key: &P::Key,
+    still: &[Kept<P>],
+)
+    ensures others { KeepsOthers P.Key.eq number cells.old cells.new }
+    ensures still { KeepsUnder P.Key.eq (IsUnder P.cover_of still.now) cells.old cells.new }
+{
+    if !entry::has_key(still, key) {
+        cells::unnote(cells, key, number);
+    }
+}
