@@ -1,5 +1,5 @@
 //! The kinds of values that members have: texts, truth values, services, positions, lists, and pairs of names and texts.
-ghost use Rattle.std.specs.Prelude.{◌≡◌, map, option_and_then, string_bytes};
+ghost use Rattle.std.specs.Prelude.{◌≡◌, None, Err, map, option_and_then, string_bytes};
 ghost use Rattle.serde_json.specs.Find.{as_bool, as_str};
 ghost use Rattle.serde_json.specs.View.{view, items_view, members_view};
 ghost use Rattle.lost_civic.specs.Pairs.{seen_pairs};
@@ -58,7 +58,10 @@ impl Kind for ServiceUrn {
 
     ghost meant = { service_in };
 
-    fn read(alloc: Global, value: &Value) -> Result<ServiceUrn, ReadError> {
+    fn read(alloc: Global, value: &Value) -> Result<ServiceUrn, ReadError>
+        ensures given { Gives (λ service. service) result (service_in (view value.now)) }
+        ensures refused { service_in (view value.now) ≡ None → result ≡ Err ReadError.BadRequest }
+    {
         match value.as_str() {
             Some(text) => read_service(alloc, text),
             None => Err(ReadError::BadRequest),
@@ -66,9 +69,10 @@ impl Kind for ServiceUrn {
     }
 }
 
-/// The service of a text.
+/// The service of a text. What is none is refused though memory is short.
 fn read_service(alloc: Global, text: &str) -> Result<ServiceUrn, ReadError>
-    ensures { Gives (λ service. service) result (result_ok (read_service text.now)) }
+    ensures given { Gives (λ service. service) result (result_ok (read_service text.now)) }
+    ensures refused { result_ok (read_service text.now) ≡ None → result ≡ Err ReadError.BadRequest }
 {
     match ServiceUrn::parse(alloc, text.as_bytes()) {
         Ok(service) => Ok(service),
