@@ -5,3 +5,4 @@ mod faults;
 mod lines;
 mod memory;
 mod row;
+mod texts;

@@ -51,7 +51,10 @@ fn a_failed_write_leaves_a_front(rt: HostRuntime) -> Result<(), Fail> {
         for failing in 1..whole.writes.saturating_add(1) {
             let outcome = failing_write(rt.alloc(), failing, takes_none).ok_or("memory")?;
             assert!(rt; is_front(&outcome, ServeError::Write), "write {failing}");
-            assert!(rt; read < outcome.reads && outcome.reads < whole.reads, "write {failing}");
+            assert!(rt;
+                read < outcome.reads && outcome.reads < whole.reads,
+                "write {failing}"
+            );
             read = outcome.reads;
         }
     }

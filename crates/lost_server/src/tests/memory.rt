@@ -59,7 +59,10 @@ fn a_refused_growth_marks_one_line(rt: HostRuntime) -> Result<(), Fail> {
     let lines = without(rt.alloc(), ROW.as_bytes(), marked)?;
     let others = replayed(rt.alloc(), lines.as_slice()).ok_or("memory")?;
     assert!(rt; others.result.is_ok());
-    assert_eq!(rt; without(rt.alloc(), text, marked)?.as_slice(), others.text.as_slice());
+    assert_eq!(rt;
+        without(rt.alloc(), text, marked)?.as_slice(),
+        others.text.as_slice()
+    );
     Ok(())
 }
 
