@@ -91,7 +91,7 @@ two_of-above (value ∷ second ∷ third ∷ rest) h = two_past (whole_in (view 
 
 -- ---- objects
 
-pairs_of-member : (done : List Entry) (e : Entry) (pairs : Pairs) (text : Text) → as_str (view e.1) ≡ Some text → pairs_of (members_view done) ≡ Some pairs
+pub pairs_of-member : (done : List Entry) (e : Entry) (pairs : Pairs) (text : Text) → as_str (view e.1) ≡ Some text → pairs_of (members_view done) ≡ Some pairs
     → pairs_of (members_view (done ++ e ∷ [])) ≡ Some (pairs ++ (string_bytes e.0, text) ∷ [])
 pairs_of-member [] e pairs text now h =
     let none : [] ≡ pairs = cc in

@@ -4,3 +4,4 @@ pub mod DeskLemmas
 pub mod EachLemmas
 pub mod LocationLemmas
 pub mod TreeLemmas
+pub mod ServiceLemmas

@@ -1,10 +1,9 @@
 //! The desk's replies.
-ghost use Rattle.std.specs.Prelude.{◌≡◌, ◌<◌, ◌≤◌, ◌+◌, [], ◌++◌, length, decimal};
+ghost use Rattle.std.specs.Prelude.{◌≡◌};
 ghost use Rattle.lost_json.specs.DeskReplies.{desk_text, IsCode, IsInTable, refusal_name as refusal_name_of};
 ghost use Rattle.lost_json.specs.PlainNames.{IsPlainName};
 
-use itoa::Buffer;
-use std::marker::Model;
+use lost_text::DeskText;
 
 /// A reply to a desk line (own format).
 #[derive(Clone, Copy, PartialEq, Eq, Debug)]
@@ -15,65 +14,6 @@ pub enum DeskReply {
     Committed(u64),
     /// The line is refused, with the number of the refusal.
     Refused(u8),
-}
-
-/// The line of a desk's reply, kept without memory (own rule). Contracts see it as its bytes.
-#[derive(Drop)]
-pub struct DeskText {
-    bytes: [u8; 64],
-    len: usize,
-}
-
-impl Model for DeskText {
-    ghost use Rattle.std.specs.Prelude.{◌≤◌, take};
-    ghost use Rattle.lost_spec.specs.Text.{Text};
-
-    ghost Value = { Text };
-
-    ghost view = { λ text. take text.len text.bytes };
-
-    ghost invariant = { λ text. text.len ≤ 64 };
-}
-
-impl DeskText {
-    fn new() -> DeskText
-        ensures { result ≡ [] }
-    {
-        DeskText {
-            bytes: [0; 64],
-            len: 0,
-        }
-    }
-
-    /// Appends a part.
-    fn push(&mut self, part: &[u8])
-        requires { length self.old + length part.now ≤ 64 }
-        ensures text { self.new ≡ self.old ++ part.now }
-        ensures len { length self.new ≡ length self.old + length part.now }
-    {
-        let end = self.len + part.len();
-        self.bytes[self.len..end].copy_from_slice(part);
-        self.len = end;
-    }
-
-    /// Appends the digits of a number: at most 20, and at most two of a number below 100.
-    fn push_number(&mut self, number: u64)
-        requires { length self.old ≤ 44 }
-        ensures digits { self.new ≡ self.old ++ decimal number }
-        ensures short { length self.new ≤ length self.old + 20 }
-        ensures two { number < 100 → length self.new ≤ length self.old + 2 }
-    {
-        let mut buffer = Buffer::new();
-        self.push(buffer.format(number).as_bytes());
-    }
-
-    /// The line, its byte 10 too: at most 64 bytes (own rule).
-    pub fn bytes(&self) -> &[u8]
-        ensures bytes { result.now ≡ self.now }
-        ensures short { length result.now ≤ 64 }
-    {
-        &self.bytes[..self.len]
-    }
 }
 
 /// The name of a refusal, from 1 to 20.

@@ -1,14 +1,14 @@
 //! The kinds of values that members have: texts, truth values, services, positions, lists, and pairs of names and texts.
-ghost use Rattle.std.specs.Prelude.{◌≡◌, map, option_and_then, string_bytes};
+ghost use Rattle.std.specs.Prelude.{◌≡◌, None, Some, Ok, Err, is_some, map, option_and_then, option_map, string_bytes};
 ghost use Rattle.serde_json.specs.Find.{as_bool, as_str};
 ghost use Rattle.serde_json.specs.View.{view, items_view, members_view};
 ghost use Rattle.lost_civic.specs.Pairs.{seen_pairs};
 ghost use Rattle.std.specs.Result.{result_ok};
 ghost use Rattle.lost_spec.specs.Service.{read_service};
 ghost use Rattle.lost_json.specs.Gives.{Gives};
-ghost use Rattle.lost_json.specs.Members.{each_of, list_in, whole_in, service_in, two_of, position_in, pairs_of, pairs_in};
+ghost use Rattle.lost_json.specs.Members.{required, each_of, list_in, whole_in, service_in, two_of, position_in, pairs_of, pairs_in};
 
-use crate::reading::Kind;
+use crate::reading::{Kind, member};
 use crate::request::ReadError;
 use lost_spec::faults::UrnError;
 use lost_urn::ServiceUrn;
@@ -58,7 +58,10 @@ impl Kind for ServiceUrn {
 
     ghost meant = { service_in };
 
-    fn read(alloc: Global, value: &Value) -> Result<ServiceUrn, ReadError> {
+    fn read(alloc: Global, value: &Value) -> Result<ServiceUrn, ReadError>
+        ensures given { Gives (λ service. service) result (service_in (view value.now)) }
+        ensures refused { service_in (view value.now) ≡ None → result ≡ Err ReadError.BadRequest }
+    {
         match value.as_str() {
             Some(text) => read_service(alloc, text),
             None => Err(ReadError::BadRequest),
@@ -66,9 +69,10 @@ impl Kind for ServiceUrn {
     }
 }
 
-/// The service of a text.
+/// The service of a text. What is none is refused though memory is short.
 fn read_service(alloc: Global, text: &str) -> Result<ServiceUrn, ReadError>
-    ensures { Gives (λ service. service) result (result_ok (read_service text.now)) }
+    ensures given { Gives (λ service. service) result (result_ok (read_service text.now)) }
+    ensures refused { result_ok (read_service text.now) ≡ None → result ≡ Err ReadError.BadRequest }
 {
     match ServiceUrn::parse(alloc, text.as_bytes()) {
         Ok(service) => Ok(service),
@@ -158,7 +162,10 @@ impl Kind for NamedTexts {
 
     ghost meant = { pairs_in };
 
-    fn read(alloc: Global, value: &Value) -> Result<NamedTexts, ReadError> {
+    fn read(alloc: Global, value: &Value) -> Result<NamedTexts, ReadError>
+        ensures given { Gives (λ pairs. seen_pairs pairs.0.items) result (pairs_in (view value.now)) }
+        ensures refused { pairs_in (view value.now) ≡ None → result ≡ Err ReadError.BadRequest }
+    {
         match value.as_object() {
             Some(members) => Ok(NamedTexts(read_pairs(alloc, members)?)),
             None => Err(ReadError::BadRequest),
@@ -166,8 +173,55 @@ impl Kind for NamedTexts {
     }
 }
 
-/// The names and texts of an object whose values are texts.
+/// The names and texts of a member, or nothing where it is missing or another thing. Nothing is found though memory is
+/// short.
+pub(crate) fn named_texts(
+    alloc: Global,
+    members: &Map<String, Value>,
+    name: &str,
+) -> Result<Option<NamedTexts>, ReadError>
+    ensures given { Gives (λ found. option_map (λ pairs. seen_pairs pairs.0.items) found) result
+        (Some (required pairs_in name.now (members_view members.now.entries))) }
+    ensures nothing { required pairs_in name.now (members_view members.now.entries) ≡ None → result ≡ Ok None }
+{
+    let Some(value) = member(members, name) else {
+        return Ok(None);
+    };
+    match NamedTexts::read(alloc, value) {
+        Ok(pairs) => Ok(Some(pairs)),
+        Err(ReadError::BadRequest) => Ok(None),
+        Err(ReadError::Memory) => Err(ReadError::Memory),
+    }
+}
+
+/// The names and texts of an object whose values are texts. Another object is refused though memory is short.
 fn read_pairs(
+    alloc: Global,
+    members: &Map<String, Value>,
+) -> Result<Vec<(String, String)>, ReadError>
+    ensures given { Gives (λ pairs. seen_pairs pairs.items) result (pairs_of (members_view members.now.entries)) }
+    ensures refused { pairs_of (members_view members.now.entries) ≡ None → result ≡ Err ReadError.BadRequest }
+{
+    if !are_texts(members) {
+        return Err(ReadError::BadRequest);
+    }
+    copy_pairs(alloc, members)
+}
+
+/// Whether the values of an object are texts.
+fn are_texts(members: &Map<String, Value>) -> bool
+    ensures { result ≡ is_some (pairs_of (members_view members.now.entries)) }
+{
+    for (_name, value) in members.iter() {
+        if value.as_str().is_none() {
+            return false;
+        }
+    }
+    true
+}
+
+/// Copies of the names and texts of an object whose values are texts.
+fn copy_pairs(
     alloc: Global,
     members: &Map<String, Value>,
 ) -> Result<Vec<(String, String)>, ReadError>

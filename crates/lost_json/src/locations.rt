@@ -1,13 +1,14 @@
 //! Locations of a request (RFC 5222, section 12).
-ghost use Rattle.std.specs.Prelude.{◌≡◌, Some, map, codes};
+ghost use Rattle.std.specs.Prelude.{◌≡◌, None, Some, Ok, map, codes};
 ghost use Rattle.serde_json.specs.View.{view, members_view};
 ghost use Rattle.lost_spec.specs.Text.{is_among, has_repeat};
 ghost use Rattle.lost_query.specs.Request.{body_of, location_of, locations_of};
 ghost use Rattle.lost_json.specs.Gives.{Gives};
+ghost use Rattle.lost_json.specs.Members as kinds;
 ghost use Rattle.lost_json.specs.Members.{the_member};
 ghost use Rattle.lost_json.specs.Requests.{point_body, address_body, body_in, is_known_system, srs_known_in, location_of_members, location_in, are_locations, locations_in};
 
-use crate::kinds::NamedTexts;
+use crate::kinds::named_texts;
 use crate::reading::{Kind, member, readable, required};
 use crate::request::ReadError;
 use lost_query::{Body, Location};
@@ -160,11 +161,13 @@ fn read_point(alloc: Global, members: &Map<String, Value>) -> Result<Body, ReadE
     }
 }
 
-/// The content of a location of `civic`.
+/// The content of a location of `civic`. What is no object of texts is unreadable though memory is short.
 fn read_address(alloc: Global, members: &Map<String, Value>) -> Result<Body, ReadError>
-    ensures { Gives body_of result (Some (address_body (the_member (codes "address") (members_view members.now.entries)))) }
+    ensures given { Gives body_of result (Some (address_body (the_member (codes "address") (members_view members.now.entries)))) }
+    ensures unreadable { kinds.required kinds.pairs_in (codes "address") (members_view members.now.entries) ≡ None
+        → result ≡ Ok Body.Unreadable }
 {
-    match readable::<NamedTexts>(alloc, members, "address")? {
+    match named_texts(alloc, members, "address")? {
         Some(pairs) => Ok(Body::Address(pairs.0)),
         None => Ok(Body::Unreadable),
     }

@@ -1,12 +1,13 @@
 //! Regions of a mapping that a map desk hands in (RFC 5222, section 5.5).
-ghost use Rattle.std.specs.Prelude.{◌≡◌, Some, codes};
+ghost use Rattle.std.specs.Prelude.{◌≡◌, None, Some, Ok, codes};
 ghost use Rattle.serde_json.specs.View.{view, members_view};
 ghost use Rattle.lost_mapping.specs.Parts.{region_of};
 ghost use Rattle.lost_json.specs.Gives.{Gives};
+ghost use Rattle.lost_json.specs.Members as kinds;
 ghost use Rattle.lost_json.specs.Members.{the_member};
 ghost use Rattle.lost_json.specs.Desk.{ring_region, pattern_region, region_with, region_of_members, region_in};
 
-use crate::kinds::NamedTexts;
+use crate::kinds::named_texts;
 use crate::locations::{CIVIC, GEODETIC};
 use crate::reading::{Kind, readable, text_member};
 use crate::request::ReadError;
@@ -68,10 +69,13 @@ fn read_ring(alloc: Global, members: &Map<String, Value>) -> Result<Region, Read
     }
 }
 
+/// The pattern of a region. What is no object of texts is unreadable though memory is short.
 fn read_pattern(alloc: Global, members: &Map<String, Value>) -> Result<Region, ReadError>
-    ensures { Gives region_of result (Some (pattern_region (the_member (codes "pattern") (members_view members.now.entries)))) }
+    ensures given { Gives region_of result (Some (pattern_region (the_member (codes "pattern") (members_view members.now.entries)))) }
+    ensures unreadable { kinds.required kinds.pairs_in (codes "pattern") (members_view members.now.entries) ≡ None
+        → result ≡ Ok Region.Unreadable }
 {
-    match readable::<NamedTexts>(alloc, members, "pattern")? {
+    match named_texts(alloc, members, "pattern")? {
         Some(pairs) => Ok(Region::Pattern(pairs.0)),
         None => Ok(Region::Unreadable),
     }

@@ -1,16 +1,17 @@
 //! Request lines.
-ghost use Rattle.std.specs.Prelude.{◌≡◌, option_and_then};
+ghost use Rattle.std.specs.Prelude.{◌≡◌, None, Err, option_and_then, codes};
 ghost use Rattle.serde_json.specs.Find.{as_object};
 ghost use Rattle.serde_json.specs.View.{view, members_view};
 ghost use Rattle.lost_query.specs.Request.{request_of};
 ghost use Rattle.lost_json.specs.Gives.{Gives, read_code};
+ghost use Rattle.lost_json.specs.Members as kinds;
 ghost use Rattle.lost_json.specs.Requests.{find_service_of, services_at_of, services_of, boundary_of, request_named, request_in, line_request};
 
 use crate::locations::Locations;
 use crate::options::{ByValue, read_path};
-use crate::reading::{defaulting, only_member, optional, read_tree, required};
+use crate::reading::{defaulting, only_member, read_tree, required};
+use crate::services::{optional_service, required_service};
 use lost_query::Request;
-use lost_urn::ServiceUrn;
 use serde_json::{Map, Value};
 use std::alloc::Global;
 use thiserror::Error;
@@ -94,9 +95,11 @@ fn read_named_request(
 
 /// `findService` (RFC 5222, section 8).
 fn read_find_service(alloc: Global, members: &Map<String, Value>) -> Result<Request, ReadError>
-    ensures { Gives request_of result (find_service_of (members_view members.now.entries)) }
+    ensures given { Gives request_of result (find_service_of (members_view members.now.entries)) }
+    ensures service_first { kinds.required kinds.service_in (codes "service") (members_view members.now.entries) ≡ None
+        → result ≡ Err ReadError.BadRequest }
 {
-    let service = required::<ServiceUrn>(alloc, members, "service")?;
+    let service = required_service(alloc, members)?;
     let locations = required::<Locations>(alloc, members, "location")?;
     let validate = defaulting(alloc, members, "validateLocation", false)?;
     let by_value = defaulting(alloc, members, "serviceBoundary", ByValue(false))?;
@@ -112,9 +115,11 @@ fn read_find_service(alloc: Global, members: &Map<String, Value>) -> Result<Requ
 
 /// `listServicesByLocation` (RFC 5222, section 11).
 fn read_services_at(alloc: Global, members: &Map<String, Value>) -> Result<Request, ReadError>
-    ensures { Gives request_of result (services_at_of (members_view members.now.entries)) }
+    ensures given { Gives request_of result (services_at_of (members_view members.now.entries)) }
+    ensures service_first { kinds.optional kinds.service_in (codes "service") (members_view members.now.entries) ≡ None
+        → result ≡ Err ReadError.BadRequest }
 {
-    let service = optional::<ServiceUrn>(alloc, members, "service")?;
+    let service = optional_service(alloc, members)?;
     let locations = required::<Locations>(alloc, members, "location")?;
     let path = read_path(alloc, members)?;
     Ok(Request::ListServicesByLocation {
@@ -126,9 +131,11 @@ fn read_services_at(alloc: Global, members: &Map<String, Value>) -> Result<Reque
 
 /// `listServices` (RFC 5222, section 10).
 fn read_services(alloc: Global, members: &Map<String, Value>) -> Result<Request, ReadError>
-    ensures { Gives request_of result (services_of (members_view members.now.entries)) }
+    ensures given { Gives request_of result (services_of (members_view members.now.entries)) }
+    ensures service_first { kinds.optional kinds.service_in (codes "service") (members_view members.now.entries) ≡ None
+        → result ≡ Err ReadError.BadRequest }
 {
-    let service = optional::<ServiceUrn>(alloc, members, "service")?;
+    let service = optional_service(alloc, members)?;
     let path = read_path(alloc, members)?;
     Ok(Request::ListServices { service, path })
 }

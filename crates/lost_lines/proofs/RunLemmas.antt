@@ -26,4 +26,4 @@ pub long_count-append : (ls ms : List Text) → long_count (ls ++ ms) ≡ long_c
 long_count-append ls ms = sum_by-append (λ line. cond (is_long line) 1 0) ls ms
 
 pub memory_count-append : (rs ss : List Reply) → memory_count (rs ++ ss) ≡ memory_count rs + memory_count ss
-memory_count-append rs ss = sum_by-append (λ (reply : Reply). cond (reply.is_memory) 1 0) rs ss
+memory_count-append rs ss = sum_by-append (λ (reply : Reply). cond (reply.is_internal_error) 1 0) rs ss

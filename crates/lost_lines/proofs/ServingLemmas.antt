@@ -38,11 +38,11 @@ Adds-append a b c ls ms rs ss first second = record {
   faults = second.faults ∙ first.faults;
 }
 
-Adds-one : (a b : Counts) (line : Text) (reply : Reply) (is_long is_memory : Bool) → is_long ≡ is_line_long line → is_memory ≡ reply.is_memory → Counted a b is_long is_memory → Adds a b (line ∷ []) (reply ∷ [])
-Adds-one a b line reply is_long is_memory long unread counted = record {
+Adds-one : (a b : Counts) (line : Text) (reply : Reply) (is_long is_internal_error : Bool) → is_long ≡ is_line_long line → is_internal_error ≡ reply.is_internal_error → Counted a b is_long is_internal_error → Adds a b (line ∷ []) (reply ∷ [])
+Adds-one a b line reply is_long is_internal_error long unread counted = record {
   lines_answered = counted.lines;
   long_lines = counted.long_lines ∙ ap (λ t. a.long_lines + cond t 1 0) long ∙ ap (λ n. a.long_lines + n) (sym (zero-add (cond (is_line_long line) 1 0)));
-  memory = counted.memory ∙ ap (λ t. a.memory + cond t 1 0) unread ∙ ap (λ n. a.memory + n) (sym (zero-add (cond (reply.is_memory) 1 0)));
+  memory = counted.memory ∙ ap (λ t. a.memory + cond t 1 0) unread ∙ ap (λ n. a.memory + n) (sym (zero-add (cond (reply.is_internal_error) 1 0)));
   faults = counted.faults;
 }
 
@@ -104,13 +104,13 @@ module _ {State : Type 0} (step : State → Cut → Reply → State → Type 0) 
       }
 
   -- the line is answered and counted, and the reply gathered
-  pub Serves-line : (a b : Point State) (line : Text) (reply : Reply) (text : Text) → text ≡ reply.text → Answers step a.answerer line reply b.answerer → (is_long is_memory : Bool) → is_long ≡ is_line_long line → is_memory ≡ reply.is_memory
-      → Counted (server_counts a.server) (server_counts b.server) is_long is_memory → Sends a.contents (gathered_of a.server) b.contents (gathered_of b.server) text → Serves step a b (line ∷ [])
-  Serves-line a b line reply text same answers is_long is_memory long unread counted sends = record {
+  pub Serves-line : (a b : Point State) (line : Text) (reply : Reply) (text : Text) → text ≡ reply.text → Answers step a.answerer line reply b.answerer → (is_long is_internal_error : Bool) → is_long ≡ is_line_long line → is_internal_error ≡ reply.is_internal_error
+      → Counted (server_counts a.server) (server_counts b.server) is_long is_internal_error → Sends a.contents (gathered_of a.server) b.contents (gathered_of b.server) text → Serves step a b (line ∷ [])
+  Serves-line a b line reply text same answers is_long is_internal_error long unread counted sends = record {
     replies = reply ∷ [];
     run = Run-one step a.answerer b.answerer line reply answers;
     sending = rw append-nil (rw (← same) sends);
-    counted = Adds-one (server_counts a.server) (server_counts b.server) line reply is_long is_memory long unread counted;
+    counted = Adds-one (server_counts a.server) (server_counts b.server) line reply is_long is_internal_error long unread counted;
   }
 
   pub Breaks-line : (a b : Point State) (line : Text) (reply : Reply) (text : Text) → text ≡ reply.text → Answers step a.answerer line reply b.answerer

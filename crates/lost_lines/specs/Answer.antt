@@ -13,4 +13,4 @@ bytes_of (Constant bytes) = bytes.now
 
 -- the reply that an answer is
 abbrev pub reply_of : Answer → Reply
-reply_of answer = record { text = bytes_of answer.text; is_memory = answer.is_memory }
+reply_of answer = record { text = bytes_of answer.text; is_internal_error = answer.is_internal_error }

@@ -6,7 +6,7 @@ use Rattle.lost_lines.specs.declared.cutter.Cutter.{Cutter}
 use Rattle.lost_lines.specs.declared.server.LineServer.{LineServer}
 use Rattle.lost_lines.specs.Cutting.{cut, ended_lines}
 use Rattle.lost_lines.specs.Run.{Cut, Reply, Run, text_of, long_count, memory_count}
-use Rattle.lost_lines.specs.Cutter.{IsHolding, length_of}
+use Rattle.lost_lines.specs.Cutter.{IsHolding, count_of}
 use Rattle.lost_lines.specs.Tally.{counts_of, most_of}
 use Rattle.lost_lines.specs.Sending.{Sends}
 use Rattle.lost_lines.specs.Stream.{AppendsFront}
@@ -79,7 +79,7 @@ point_of answerer contents server = record { answerer = answerer; contents = con
 
 -- where a line is begun, one more may be answered
 abbrev pub MayEnd : LineServer → Type 0
-MayEnd s = 0 < length_of (cutter_of s) → (server_counts s).lines < server_most s
+MayEnd s = 0 < count_of (cutter_of s) → (server_counts s).lines < server_most s
 
 -- a front of the bytes was taken
 pub record TakesFront {State : Type 0} (step : State → Cut → Reply → State → Type 0) (old new : Point State) (bytes rest : Text) : Type 0 where

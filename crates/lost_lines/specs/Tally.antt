@@ -12,8 +12,8 @@ abbrev pub most_of : Tally → ℕ
 most_of t = t.most
 
 -- one line more was counted
-pub record Counted (old new : Counts) (is_long is_memory : Bool) : Type 0 where
+pub record Counted (old new : Counts) (is_long is_internal_error : Bool) : Type 0 where
   pub lines : new.lines ≡ old.lines + 1
   pub long_lines : new.long_lines ≡ old.long_lines + (if is_long then 1 else 0)
-  pub memory : new.memory ≡ old.memory + (if is_memory then 1 else 0)
+  pub memory : new.memory ≡ old.memory + (if is_internal_error then 1 else 0)
   pub faults : new.faults ≡ old.faults

@@ -14,6 +14,10 @@ has_failed w = w.failed
 abbrev pub has_ended : {T : Type 0} → Watched T → Bool
 has_ended w = w.ended
 
+-- a write was made after the last flush that did not fail
+abbrev pub is_unflushed : {T : Type 0} → Watched T → Bool
+is_unflushed w = w.unflushed
+
 -- how many reads were made; it stays at its greatest value
 abbrev pub reads_of : {T : Type 0} → Watched T → ℕ
 reads_of w = w.reads

@@ -3,7 +3,7 @@ ghost use Rattle.std.specs.Prelude.{◌≡◌};
 ghost use Rattle.lost_lines.specs.Run.{Cut, Whole, TooLong, Unread, Reply};
 ghost use Rattle.lost_lines.specs.Answer.{bytes_of, reply_of};
 
-use crate::short_text::ShortText;
+use lost_text::DeskText;
 use std::alloc::Global;
 
 /// What answers lines, one after another, and may change with each (own rule).
@@ -30,7 +30,7 @@ pub struct Answer {
     /// The text that is written.
     pub text: Text,
     /// Whether the line was answered `internalError` for want of memory.
-    pub is_memory: bool,
+    pub is_internal_error: bool,
 }
 
 impl Answer {
@@ -48,7 +48,7 @@ pub enum Text {
     /// A text of its own.
     Kept(Vec<u8>),
     /// A text of at most 64 bytes, which takes no memory.
-    Short(ShortText),
+    Short(DeskText),
     /// A text of the program.
     Constant(&'static [u8]),
 }

@@ -1,83 +1,91 @@
 //! The line that is being read.
-ghost use Rattle.std.specs.Prelude.{◌≡◌, ◌≢◌, ◌==◌, ◌++◌, List, ℕ, [], All};
-ghost use Rattle.lost_lines.specs.Cutter.{IsHolding, length_of};
-ghost use Rattle.lost_lines.specs.Cutting.{is_long};
-ghost use Rattle.lost_lines.specs.Run.{Answers};
+ghost use Rattle.std.specs.Prelude.{◌≡◌, ◌≢◌, ◌≤◌, ◌==◌, ◌++◌, false, List, ℕ, [], All, length};
+ghost use Rattle.lost_lines.specs.Cutting.{is_long, line_limit};
+ghost use Rattle.lost_lines.specs.Run.{Answers, AnswersRead};
 ghost use Rattle.lost_lines.specs.Answer.{reply_of};
 
 use crate::answerer::{Answer, Answerer};
 use std::alloc::Global;
 
 /// The most bytes of a line, its byte 10 not counted.
-const LINE_LIMIT: usize = 1_048_576;
+const MAX_LINE: usize = 1_048_576;
 
 /// The line that is being read: its bytes while they are within the limit and memory was not refused, and their number,
-/// which stops at one more than the limit.
+/// which stops at one more than the limit. What is kept is never over the limit.
 #[derive(Drop)]
 pub(crate) struct Cutter {
     line: Vec<u8>,
-    length: usize,
+    count: usize,
     is_refused: bool,
+    ghost within: { length line.items ≤ line_limit },
+    ghost counted: { length line.items ≤ count },
 }
 
 impl Cutter {
+    ghost use Rattle.lost_lines.specs.Cutter.{IsHolding, count_of, kept_count, was_refused};
+
     pub(crate) fn new(alloc: Global) -> Cutter
-        ensures { IsHolding result [] }
+        ensures holding { IsHolding result [] }
+        ensures unrefused { was_refused result ≡ false }
     {
         Cutter {
             line: Vec::new(alloc),
-            length: 0,
+            count: 0,
             is_refused: false,
         }
     }
 
     /// Whether no byte of the line was read yet.
     pub(crate) fn is_empty(&self) -> bool
-        ensures { result ≡ (length_of self.now == 0) }
+        ensures { result ≡ (count_of self.now == 0) }
     {
-        self.length == 0
+        self.count == 0
     }
 
     /// Whether the line is over the limit.
     pub(crate) fn is_long(&self) -> bool
         ensures { (piece : List ℕ) → IsHolding self.now piece → result ≡ is_long piece }
     {
-        self.length > LINE_LIMIT
+        self.count > MAX_LINE
     }
 
-    /// Takes further bytes of the line.
+    /// Takes further bytes of the line, and keeps them while the line is within the limit.
     pub(crate) fn take(&mut self, run: &[u8])
         requires { All (λ b. b ≢ 10) run.now }
-        ensures { (piece : List ℕ) → IsHolding self.old piece → IsHolding self.new (piece ++ run.now) }
+        ensures holding { (piece : List ℕ) → IsHolding self.old piece → IsHolding self.new (piece ++ run.now) }
+        ensures within { kept_count self.new ≤ line_limit }
     {
-        let length = self.length.saturating_add(run.len());
-        if length > LINE_LIMIT {
-            self.length = LINE_LIMIT + 1;
+        let count = self.count.saturating_add(run.len());
+        if count > MAX_LINE {
+            self.count = MAX_LINE + 1;
             return;
         }
-        self.length = length;
+        self.count = count;
         if !self.is_refused && self.line.extend_from_slice(run).is_err() {
             self.is_refused = true;
         }
     }
 
-    /// Goes on to the next line.
+    /// Goes on to the next line: nothing of the one before is kept, nor that memory was refused for it.
     pub(crate) fn clear(&mut self)
-        ensures { IsHolding self.new [] }
+        ensures holding { IsHolding self.new [] }
+        ensures unrefused { was_refused self.new ≡ false }
     {
         self.line.clear();
-        self.length = 0;
+        self.count = 0;
         self.is_refused = false;
     }
 
-    /// The answer to the line.
+    /// The answer to the line: `internalError` without a look at it only where memory was refused while it was read.
     pub(crate) fn answer<A: Answerer>(&self, alloc: Global, answerer: &mut A) -> Answer
-        ensures { (piece : List ℕ) → IsHolding self.now piece
+        ensures answers { (piece : List ℕ) → IsHolding self.now piece
             → Answers A.step answerer.old piece (reply_of result) answerer.new }
+        ensures read { (piece : List ℕ) → IsHolding self.now piece → was_refused self.now ≡ false
+            → AnswersRead A.step answerer.old piece (reply_of result) answerer.new }
     {
         if self.is_refused {
             answerer.answer_unread()
-        } else if self.length > LINE_LIMIT {
+        } else if self.count > MAX_LINE {
             answerer.answer_long()
         } else {
             answerer.answer(alloc, self.line.as_slice())

@@ -9,7 +9,6 @@ mod fault;
 mod lines;
 mod output;
 mod server;
-mod short_text;
 mod tally;
 mod turns;
 mod watched;
@@ -18,8 +17,7 @@ pub use answerer::{Answer, Answerer, Text};
 pub use counts::Counts;
 pub use fault::ServeError;
 pub use lines::run_lines;
-pub use short_text::ShortText;
-pub use turns::Turns;
+pub use turns::{Turns, law_usual_turns};
 pub use watched::Watched;
 
 #[cfg(test)]

@@ -2,7 +2,7 @@
 ghost use Rattle.std.specs.Prelude.{◌≡◌, ◌≢◌, ◌≤◌, true, false, IfOk, OnOk, OnErr, IsErrOf, Err};
 ghost use Rattle.std.specs.Io.KnownBytes.{IsAtEnd};
 ghost use Rattle.lost_lines.specs.Stream.{IsServed, IsCutOff, IsWholeSoFar, IsSpent};
-ghost use Rattle.lost_lines.specs.Watched.{inner_of, has_failed, has_ended, reads_of};
+ghost use Rattle.lost_lines.specs.Watched.{inner_of, has_failed, has_ended, is_unflushed, reads_of};
 
 use crate::answerer::Answerer;
 use crate::counts::Counts;
@@ -14,7 +14,7 @@ use std::alloc::Global;
 use std::io::{Read, Write};
 
 /// The most bytes of one read.
-const CHUNK: usize = 32_768;
+const MAX_READ: usize = 32_768;
 
 /// Reads lines from `input` to its end, has `answerer` answer each, and writes the replies to `output` in order. A line
 /// ends at byte 10 or at the end of the input; a last piece without byte 10 is a line where it has a byte. A line over
@@ -60,13 +60,15 @@ pub fn run_lines<R: Read, W: Write, A: Answerer>(
         (R.remaining (inner_of input.old)) (R.remaining (inner_of input.new))
         (W.contents (inner_of output.old)) (W.contents (inner_of output.new)) (reads_of input.new) (has_ended input.new) }
     ensures memory { result ≢ Err ServeError.Memory }
+    // Nothing is left unflushed, but for a failed write or flush.
+    ensures flushed { result ≢ Err ServeError.Write → is_unflushed output.old ≡ false → is_unflushed output.new ≡ false }
     ensures whole { IsErrOf result ServeError.Read → IsWholeSoFar A.step answerer.old answerer.new turns.lines
         (R.remaining (inner_of input.old)) (R.remaining (inner_of input.new))
         (W.contents (inner_of output.old)) (W.contents (inner_of output.new)) }
     ensures reads { reads_of input.new ≤ turns.reads }
 {
     let mut server = LineServer::new(alloc, turns.lines);
-    let mut chunk = [0u8; CHUNK];
+    let mut chunk = [0u8; MAX_READ];
     for _turn in 0..turns.reads {
         let Ok(count) = input.read(&mut chunk) else {
             return Err(ServeError::Read);

@@ -1,7 +1,7 @@
 //! Replies on their way to the output: they are gathered, and sent together.
-ghost use Rattle.std.specs.Prelude.{◌≡◌, ◌<◌, ◌≤◌, ◌++◌, [], if◌then◌else◌, take, length, IfOk, OnOk, OnErr};
+ghost use Rattle.std.specs.Prelude.{◌≡◌, ◌<◌, ◌≤◌, ◌++◌, [], false, if◌then◌else◌, take, length, IfOk, OnOk, OnErr};
 ghost use Rattle.std.specs.Io.KnownBytes.{Keeps, Appends};
-ghost use Rattle.lost_lines.specs.Watched.{inner_of};
+ghost use Rattle.lost_lines.specs.Watched.{inner_of, is_unflushed};
 ghost use Rattle.lost_lines.specs.Sending.{Sends, SetsFlag};
 ghost use Rattle.lost_lines.specs.Stream.{AppendsFront};
 
@@ -10,7 +10,7 @@ use crate::watched::Watched;
 use std::io::Write;
 
 /// The most bytes that are gathered before they are sent.
-const GATHERED_LIMIT: usize = 65_536;
+const MAX_GATHERED: usize = 65_536;
 
 /// Adds a text to what is gathered; where there is no room for it, what is gathered and then the text are sent.
 pub(crate) fn gather<W: Write>(
@@ -36,7 +36,7 @@ fn add(gathered: &mut Vec<u8>, text: &[u8]) -> bool
     ensures { gathered.new.items
         ≡ (if result then gathered.old.items ++ text.now else gathered.old.items) }
 {
-    gathered.len().saturating_add(text.len()) <= GATHERED_LIMIT
+    gathered.len().saturating_add(text.len()) <= MAX_GATHERED
         && gathered.extend_from_slice(text).is_ok()
 }
 
@@ -51,6 +51,7 @@ pub(crate) fn settle<W: Write>(
     ensures err { OnErr result (AppendsFront (W.contents (inner_of output.old)) (W.contents (inner_of output.new))
         gathered.old.items) }
     ensures flag { SetsFlag output.old output.new result }
+    ensures flushed { OnOk result (is_unflushed output.new ≡ false) }
 {
     release(gathered, output)?;
     output.flush().map_err(|_| ServeError::Write)

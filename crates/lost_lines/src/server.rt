@@ -1,10 +1,10 @@
 //! Serves the lines of a stream, as its bytes come.
-ghost use Rattle.std.specs.Prelude.{◌≡◌, ◌<◌, ◌≤◌, List, ℕ, [], ◌∷◌, length, IfOk, OnOk, OnErr};
-ghost use Rattle.lost_lines.specs.Cutter.{IsHolding};
+ghost use Rattle.std.specs.Prelude.{◌≡◌, ◌<◌, ◌≤◌, false, List, ℕ, [], ◌∷◌, length, IfOk, OnOk, OnErr};
+ghost use Rattle.lost_lines.specs.Cutter.{IsHolding, was_refused};
 ghost use Rattle.lost_lines.specs.Cutting.{piece_lines};
 ghost use Rattle.lost_lines.specs.Sending.{SetsFlag};
 ghost use Rattle.lost_lines.specs.Serving.{cutter_of, gathered_of, server_counts, server_most, point_of, MayEnd, Serves, Breaks, Fails, TakesFront, TakesUpTo};
-ghost use Rattle.lost_lines.specs.Watched.{inner_of};
+ghost use Rattle.lost_lines.specs.Watched.{inner_of, is_unflushed};
 
 use crate::answerer::Answerer;
 use crate::counts::Counts;
@@ -29,6 +29,7 @@ pub(crate) struct LineServer {
 impl LineServer {
     pub(crate) fn new(alloc: Global, most: u64) -> LineServer
         ensures cutter { IsHolding (cutter_of result) [] }
+        ensures unrefused { was_refused (cutter_of result) ≡ false }
         ensures gathered { gathered_of result ≡ [] }
         ensures counts { server_counts result
             ≡ record { lines = 0; long_lines = 0; memory = 0; faults = 0 } }
@@ -62,6 +63,7 @@ impl LineServer {
             (point_of answerer.old (W.contents (inner_of output.old)) self.old)
             (point_of answerer.new (W.contents (inner_of output.new)) self.new) chunk.now rest.now) }
         ensures settled { OnOk result (gathered_of self.new ≡ []) }
+        ensures flushed { OnOk result (is_unflushed output.new ≡ false) }
         ensures may_end { OnOk result (MayEnd self.new) }
         ensures err { OnErr result (Fails A.step
             (point_of answerer.old (W.contents (inner_of output.old)) self.old)
@@ -146,6 +148,7 @@ impl LineServer {
             (point_of answerer.old (W.contents (inner_of output.old)) self.old)
             (point_of answerer.new (W.contents (inner_of output.new)) self.new) (piece_lines piece)) }
         ensures settled { OnOk result (gathered_of self.new ≡ []) }
+        ensures flushed { OnOk result (is_unflushed output.new ≡ false) }
         ensures err { (piece : List ℕ) → IsHolding (cutter_of self.old) piece
             → OnErr result (Breaks A.step
             (point_of answerer.old (W.contents (inner_of output.old)) self.old)
@@ -199,11 +202,13 @@ impl LineServer {
             (point_of answerer.old (W.contents (inner_of output.old)) self.old)
             (point_of answerer.new (W.contents (inner_of output.new)) self.new) (piece ∷ [])) }
         ensures cutter { IsHolding (cutter_of self.new) [] }
+        ensures unrefused { was_refused (cutter_of self.new) ≡ false }
         ensures most { server_most self.new ≡ server_most self.old }
         ensures flag { SetsFlag output.old output.new result }
     {
         let answer = self.cutter.answer(alloc, answerer);
-        self.tally.count(self.cutter.is_long(), answer.is_memory);
+        self.tally
+            .count(self.cutter.is_long(), answer.is_internal_error);
         self.cutter.clear();
         gather(&mut self.gathered, output, answer.bytes())
     }

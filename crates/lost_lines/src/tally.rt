@@ -41,13 +41,13 @@ impl Tally {
     }
 
     /// Counts a line that was answered.
-    pub(crate) fn count(&mut self, is_long: bool, is_memory: bool)
+    pub(crate) fn count(&mut self, is_long: bool, is_internal_error: bool)
         requires { (counts_of self.old).lines < most_of self.old }
-        ensures counted { Counted (counts_of self.old) (counts_of self.new) is_long is_memory }
+        ensures counted { Counted (counts_of self.old) (counts_of self.new) is_long is_internal_error }
         ensures most { most_of self.new ≡ most_of self.old }
     {
         self.counts.lines += 1;
         self.counts.long_lines += u64::from(is_long);
-        self.counts.memory += u64::from(is_memory);
+        self.counts.memory += u64::from(is_internal_error);
     }
 }

@@ -1,4 +1,5 @@
 //! How long a stream is served at most.
+ghost use Rattle.std.specs.Prelude.{◌≡◌};
 
 /// The most lines that are answered, and the most reads that are made (own rule): a stream that has more is ended, so
 /// that no input keeps a call for ever.
@@ -17,3 +18,8 @@ impl Turns {
         reads: 100_000_000,
     };
 }
+
+/// [`Turns::USUAL`] is 1,000,000 lines and 100,000,000 reads (own rule).
+pub fn law_usual_turns()
+    ensures { Turns.USUAL ≡ record { lines = 1_000_000; reads = 100_000_000 } }
+{}

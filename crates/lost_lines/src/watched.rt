@@ -1,20 +1,22 @@
 //! A reader or a writer that remembers how its calls went.
-ghost use Rattle.std.specs.Prelude.{◌≡◌, ◌+◌, ◌-◌, ◌^◌, ◌||◌, false, min, length, is_err};
+ghost use Rattle.std.specs.Prelude.{◌≡◌, ◌+◌, ◌-◌, ◌^◌, ◌||◌, ◌&&◌, true, false, min, length, is_err};
 ghost use Rattle.std.specs.Io.{ReadsAtMost, WritesAtMost};
 ghost use Rattle.std.specs.Io.KnownBytes.{Keeps, ReadConsumes, WriteAppends};
-ghost use Rattle.lost_lines.specs.Watched.{inner_of, has_failed, has_ended, reads_of, gives_none};
+ghost use Rattle.lost_lines.specs.Watched.{inner_of, has_failed, has_ended, is_unflushed, reads_of, gives_none};
 
 use std::io;
 use std::io::{Read, Write};
 
-/// A reader or a writer, with two flags that stay once they are set, and a count of its reads (own rule). Each call is
-/// passed on. `failed` is set where a read, a write or a flush failed, an interrupted one too, or where a write that was
-/// given a byte took none; `ended` is set where a read with room for a byte gave none.
+/// A reader or a writer, with two flags that stay once they are set, one that a flush takes back, and a count of its
+/// reads (own rule). Each call is passed on. `failed` is set where a read, a write or a flush failed, an interrupted one
+/// too, or where a write that was given a byte took none; `ended` is set where a read with room for a byte gave none;
+/// `unflushed` is set from a write to the next flush that does not fail.
 #[derive(Drop)]
 pub struct Watched<T> {
     inner: T,
     failed: bool,
     ended: bool,
+    unflushed: bool,
     reads: u64,
 }
 
@@ -24,12 +26,14 @@ impl<T> Watched<T> {
         ensures inner { inner_of result ≡ inner }
         ensures failed { has_failed result ≡ false }
         ensures ended { has_ended result ≡ false }
+        ensures unflushed { is_unflushed result ≡ false }
         ensures reads { reads_of result ≡ 0 }
     {
         Watched {
             inner,
             failed: false,
             ended: false,
+            unflushed: false,
             reads: 0,
         }
     }
@@ -46,6 +50,13 @@ impl<T> Watched<T> {
         ensures { result ≡ has_ended self.now }
     {
         self.ended
+    }
+
+    /// Whether a write was made after the last flush that did not fail (own rule).
+    pub fn unflushed(&self) -> bool
+        ensures { result ≡ is_unflushed self.now }
+    {
+        self.unflushed
     }
 
     /// How many reads were made; at 2^64 - 1 the count stays (own rule).
@@ -70,6 +81,7 @@ impl<T> Watched<T> {
             inner,
             failed: _,
             ended: _,
+            unflushed: _,
             reads: _,
         } = self;
         inner
@@ -85,6 +97,7 @@ impl<T: Read> Read for Watched<T> {
             result buf.new }
         ensures failed { has_failed self.new ≡ (has_failed self.old || is_err result) }
         ensures ended { has_ended self.new ≡ (has_ended self.old || gives_none result (length buf.old)) }
+        ensures unflushed { is_unflushed self.new ≡ is_unflushed self.old }
         ensures reads { reads_of self.new ≡ min (reads_of self.old + 1) (2 ^ 64 - 1) }
     {
         let given = self.inner.read(buf);
@@ -105,10 +118,12 @@ impl<T: Write> Write for Watched<T> {
         ensures failed { has_failed self.new
             ≡ (has_failed self.old || (is_err result || gives_none result (length buf.now))) }
         ensures ended { has_ended self.new ≡ has_ended self.old }
+        ensures unflushed { is_unflushed self.new ≡ true }
         ensures reads { reads_of self.new ≡ reads_of self.old }
     {
         let taken = self.inner.write(buf);
         self.failed = self.failed || taken.is_err() || is_none(&taken, buf.len());
+        self.unflushed = true;
         taken
     }
 
@@ -116,10 +131,12 @@ impl<T: Write> Write for Watched<T> {
         ensures bytes { Keeps (T.contents (inner_of self.old)) (T.contents (inner_of self.new)) }
         ensures failed { has_failed self.new ≡ (has_failed self.old || is_err result) }
         ensures ended { has_ended self.new ≡ has_ended self.old }
+        ensures unflushed { is_unflushed self.new ≡ (is_unflushed self.old && is_err result) }
         ensures reads { reads_of self.new ≡ reads_of self.old }
     {
         let flushed = self.inner.flush();
         self.failed = self.failed || flushed.is_err();
+        self.unflushed = self.unflushed && flushed.is_err();
         flushed
     }
 }

@@ -136,7 +136,7 @@ pub record IsCountedStep (name : Text) (t : Instant) (before : List Line) (text 
   pub mark : Mark
   pub is_mark : IsMark before (marked_line text mark) mark
   pub text_is : reply.text ≡ text_after name t before (marked_line text mark)
-  pub memory_is : reply.is_memory ≡ is_short mark
+  pub memory_is : reply.is_internal_error ≡ is_short mark
   pub books_are : next ≡ books_at (before ++ marked_line text mark ∷ [])
 
 -- the good line of a text that is not over the limit
@@ -184,7 +184,7 @@ good_text name t before text (Some (Ok Commit)) short is =
 
 -- a line that was kept whole
 whole_step : (name : Text) (t : Instant) (before : List Line) (text : Text) (reply : Reply) (next : Books) → is_long text ≡ false → (mark : Mark) → MayHave (books_at before) (desk_line text) mark →
-    reply.text ≡ text_with name t (books_at before) text (desk_line text) mark → reply.is_memory ≡ is_short mark → next ≡ after_with (books_at before) (desk_line text) mark → IsCountedStep name t before text reply next
+    reply.text ≡ text_with name t (books_at before) text (desk_line text) mark → reply.is_internal_error ≡ is_short mark → next ≡ after_with (books_at before) (desk_line text) mark → IsCountedStep name t before text reply next
 whole_step name t before text reply next short Unmarked may text_is memory_is books_are =
     record {
       mark = Unmarked;
@@ -266,6 +266,6 @@ counted_run name t before (text ∷ lines) (reply ∷ replies) old new from (cut
       texts_are = ap (λ texts. text ∷ texts) more.texts_are;
       are_marks = (one.is_mark, more.are_marks);
       text_is = ap (λ said. said ++ text_of replies) one.text_is ∙ ap (λ said. text_after name t before line ++ said) more.text_is;
-      memory_is = count_by_alike (λ (r : Reply). r.is_memory) (λ (l : Line). is_short l.mark) reply line replies more.marked one.memory_is more.memory_is;
+      memory_is = count_by_alike (λ (r : Reply). r.is_internal_error) (λ (l : Line). is_short l.mark) reply line replies more.marked one.memory_is more.memory_is;
       books_are = more.books_are ∙ ap books_at (append_assoc before (line ∷ []) more.marked);
     }

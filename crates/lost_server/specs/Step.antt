@@ -58,13 +58,13 @@ pub record IsAnswered (name : Text) (t : Instant) (old : Books) (text : Text) (o
   pub mark : Mark
   pub may_have : MayHave old order mark
   pub text_is : reply.text ≡ text_with name t old text order mark
-  pub memory_is : reply.is_memory ≡ is_short mark
+  pub memory_is : reply.is_internal_error ≡ is_short mark
   pub books_are : new ≡ after_with old order mark
 
 -- the step by a line whose content is not looked at
-pub record IsSaid (said : Text) (is_memory : Bool) (old : Books) (reply : Reply) (new : Books) : Type 0 where
+pub record IsSaid (said : Text) (is_internal_error : Bool) (old : Books) (reply : Reply) (new : Books) : Type 0 where
   pub text_is : reply.text ≡ said
-  pub memory_is : reply.is_memory ≡ is_memory
+  pub memory_is : reply.is_internal_error ≡ is_internal_error
   pub books_are : new ≡ old
 
 -- the step by a line as it was cut

@@ -1,5 +1,5 @@
 //! The book that is published, and the book of what is staged too.
-ghost use Rattle.std.specs.Prelude.{◌≡◌, ◌≢◌, ◌-◌, None, Some, Ok, Err, IfOk, Option, Result};
+ghost use Rattle.std.specs.Prelude.{◌≡◌, ◌≢◌, ◌-◌, false, None, Some, Ok, Err, IfOk, IsErr, Option, Result};
 ghost use Rattle.lost_spec.specs.Text.{Text};
 ghost use Rattle.lost_spec.specs.Moment.{Instant};
 ghost use Rattle.lost_spec.specs.Book.{empty_book};
@@ -18,10 +18,10 @@ use std::alloc::{AllocError, Global};
 use std::marker::Model;
 
 /// The most mappings that are held.
-const MAPPINGS: u32 = 65_536;
+const MAX_MAPPINGS: u32 = 65_536;
 
 /// The most edits that are accepted.
-const EDITS: u32 = 4_294_967_295;
+const MAX_EDITS: u32 = 4_294_967_295;
 
 /// The number of the refusal for want of memory.
 const MEMORY: u8 = 20;
@@ -54,10 +54,11 @@ impl Books {
         })
     }
 
-    /// Stages an edit: its refusal, or how many edits are staged and not published.
+    /// Stages an edit: its refusal, or how many edits are staged and not published. Want of memory is code 20.
     pub(crate) fn stage(&mut self, edit: Edit) -> Answer
-        ensures { (name : Text) (t : Instant) (line : Text) →
+        ensures answered { (name : Text) (t : Instant) (line : Text) →
             IsAnswered name t self.old line (Some (Ok (Stage (edit_of edit)))) (reply_of result) self.new }
+        ensures desk_reply { (reply_of result).is_internal_error ≡ false }
     {
         match self.staged.apply(edit) {
             Ok(()) => desk_answer(DeskReply::Staged(self.pending())),
@@ -75,14 +76,27 @@ impl Books {
             .saturating_sub(self.published.edition())
     }
 
-    /// Publishes all that is staged, whole, or changes nothing for want of memory.
+    /// Publishes all that is staged, whole, or changes nothing for want of memory, which is code 20.
     pub(crate) fn commit(&mut self) -> Answer
-        ensures { (name : Text) (t : Instant) (line : Text) →
+        ensures answered { (name : Text) (t : Instant) (line : Text) →
             IsAnswered name t self.old line (Some (Ok Commit)) (reply_of result) self.new }
+        ensures desk_reply { (reply_of result).is_internal_error ≡ false }
     {
-        match self.staged.clone() {
-            Ok(copy) => {
-                self.published = copy;
+        let copy = self.staged.clone();
+        self.publish(copy)
+    }
+
+    /// Publishes a copy of what is staged, or changes nothing where there was no memory for it.
+    pub(crate) fn publish(&mut self, copy: Result<Book, AllocError>) -> Answer
+        requires { IfOk copy (λ book. book ≡ self.old.staged) }
+        ensures answered { (name : Text) (t : Instant) (line : Text) →
+            IsAnswered name t self.old line (Some (Ok Commit)) (reply_of result) self.new }
+        ensures desk_reply { (reply_of result).is_internal_error ≡ false }
+        ensures memory { IsErr copy → reply_of result ≡ record { text = stream.refused_text 20; is_internal_error = false } }
+    {
+        match copy {
+            Ok(book) => {
+                self.published = book;
                 desk_answer(DeskReply::Committed(self.published.edition()))
             }
             Err(_) => desk_answer(DeskReply::Refused(MEMORY)),
@@ -102,7 +116,7 @@ impl Books {
         match reply_line(alloc, &self.published, name, moment, line) {
             Ok(text) => Answer {
                 text: ReplyText::Kept(text),
-                is_memory: false,
+                is_internal_error: false,
             },
             Err(_) => internal_error(),
         }
@@ -113,5 +127,5 @@ impl Books {
 fn widest() -> Limits
     ensures { result ≡ stream.widest }
 {
-    Limits::new(MAPPINGS, EDITS).unwrap()
+    Limits::new(MAX_MAPPINGS, MAX_EDITS).unwrap()
 }

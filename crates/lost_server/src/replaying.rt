@@ -1,7 +1,7 @@
 //! The replay of a stream of lines by one thread.
 ghost use Rattle.std.specs.Prelude.{◌≡◌, ◌≢◌, ◌≤◌, true, false, IfOk, IfErr, OnOk, OnErr, IsErrOf, Err};
 ghost use Rattle.std.specs.Io.KnownBytes.{IsAtEnd};
-ghost use Rattle.lost_lines.specs.Watched.{inner_of, has_failed, has_ended, reads_of};
+ghost use Rattle.lost_lines.specs.Watched.{inner_of, has_failed, has_ended, is_unflushed, reads_of};
 ghost use Rattle.lost_server.specs.Replay.{IsReplayed, IsReplayedInPart, IsReplayedSoFar, IsReplaySpent};
 
 use crate::books::Books;
@@ -62,6 +62,8 @@ pub fn replay<R: Read, W: Write>(
         (W.contents (inner_of output.new)) (reads_of input.new) (has_ended input.new) }
     ensures unread { result ≡ Err ServeError.Memory → input.new ≡ input.old }
     ensures unwritten { result ≡ Err ServeError.Memory → output.new ≡ output.old }
+    // Nothing is left unflushed, but for a failed write or flush.
+    ensures flushed { result ≢ Err ServeError.Write → is_unflushed output.old ≡ false → is_unflushed output.new ≡ false }
     ensures reads { reads_of input.new ≤ turns.reads }
 {
     let Ok(books) = Books::new(alloc) else {

@@ -5,38 +5,37 @@ ghost use Rattle.lost_lines.specs.Answer.{reply_of};
 ghost use Rattle.lost_server.specs.Stream as stream;
 
 use lost_json::{BAD_REQUEST, DeskReply, INTERNAL_ERROR, law_constant_lines, write_desk};
-use lost_lines::{Answer, ShortText, Text};
+use lost_lines::{Answer, Text};
 
 /// The desk's reply. The caller has: a refusal is one of the table.
 pub(crate) fn desk_answer(reply: DeskReply) -> Answer
     requires { IsInTable reply }
-    ensures { reply_of result ≡ record { text = desk_text reply; is_memory = false } }
+    ensures { reply_of result ≡ record { text = desk_text reply; is_internal_error = false } }
 {
-    let text = write_desk(&reply);
     Answer {
-        text: Text::Short(ShortText::of(text.bytes())),
-        is_memory: false,
+        text: Text::Short(write_desk(&reply)),
+        is_internal_error: false,
     }
 }
 
 /// The reply `internalError`, for want of memory (RFC 5222, section 13.1).
 pub(crate) fn internal_error() -> Answer
-    ensures { reply_of result ≡ record { text = stream.internal_error; is_memory = true } }
+    ensures { reply_of result ≡ record { text = stream.internal_error; is_internal_error = true } }
 {
     law_constant_lines();
     Answer {
         text: Text::Constant(INTERNAL_ERROR),
-        is_memory: true,
+        is_internal_error: true,
     }
 }
 
 /// The reply `badRequest` (RFC 5222, section 13.1).
 pub(crate) fn bad_request() -> Answer
-    ensures { reply_of result ≡ record { text = stream.bad_request; is_memory = false } }
+    ensures { reply_of result ≡ record { text = stream.bad_request; is_internal_error = false } }
 {
     law_constant_lines();
     Answer {
         text: Text::Constant(BAD_REQUEST),
-        is_memory: false,
+        is_internal_error: false,
     }
 }

@@ -1,12 +1,24 @@
--- The exit statuses of the program.
-use Rattle.std.specs.Prelude.{ℕ}
+-- What ends the program early, and the exit statuses.
+use Rattle.std.specs.Prelude.{ℕ, not, ◌∷◌, [], Option, Result, Ok, Err}
+use Rattle.lost_spec.specs.Text.{Text, first_fault}
+use Rattle.lost_spec.specs.Mapping.{is_source}
+use Rattle.lost_spec.specs.Moment.{is_stamp}
 use Rattle.lostd.specs.declared.trouble.Trouble.{Trouble}
 use Rattle.lostd.specs.declared.trouble.Trouble.TheVariants.{Words, CommandLine, Name, Now, Run}
 
 -- 1 for a fault of the run, 2 for a mistake on the command line (own)
-abbrev pub exit_status : Trouble → ℕ
-exit_status Words = 2
-exit_status CommandLine = 2
-exit_status Name = 2
-exit_status Now = 2
-exit_status (Run _) = 1
+abbrev pub trouble_status : Trouble → ℕ
+trouble_status Words = 2
+trouble_status CommandLine = 2
+trouble_status Name = 2
+trouble_status Now = 2
+trouble_status (Run _) = 1
+
+-- 0 where all went well (own)
+abbrev pub status_of : Result (Unit {0}) Trouble → ℕ
+status_of (Ok _) = 0
+status_of (Err trouble) = trouble_status trouble
+
+-- the first mistake in the name of a server and a moment (own order)
+abbrev pub begin_fault : Text → Text → Option Trouble
+begin_fault name now = first_fault ((not (is_source name), Name) ∷ (not (is_stamp now), Now) ∷ [])

@@ -1,6 +1,10 @@
 //! `lostd`: a LoST server (RFC 5222) of JSON lines. `lostd replay` answers standard input on standard output.
 #![tactic(auto)]
 
+ghost use Rattle.std.specs.Prelude.{◌≡◌};
+ghost use Rattle.std.specs.Process.{exit_status};
+ghost use Rattle.lostd.specs.Trouble.{status_of};
+
 mod arguments;
 mod replaying;
 mod trouble;
@@ -11,9 +15,16 @@ use std::rt::Env;
 use trouble::Trouble;
 
 fn main(rt: HostRuntime) -> ExitCode {
-    match run(&rt) {
+    end(&rt, run(&rt))
+}
+
+/// Says what went wrong, if anything did, and gives the exit status: 0 where all went well.
+fn end<R: Eprint>(rt: &R, outcome: Result<(), Trouble>) -> ExitCode
+    ensures { exit_status result ≡ status_of outcome }
+{
+    match outcome {
         Ok(()) => ExitCode::SUCCESS,
-        Err(trouble) => trouble.report(&rt),
+        Err(trouble) => trouble.report(rt),
     }
 }
 
@@ -36,8 +47,8 @@ fn obey<'a, R: Print + Eprint + Input + AllocGlobal>(
     };
     match command.try_get_matches_from(words) {
         Ok(matches) => match matches.subcommand() {
-            Some((_, given)) => replaying::replay_standard_streams(rt, given),
-            None => Err(Trouble::Words),
+            Some(("replay", given)) => replaying::replay_standard_streams(rt, given),
+            _ => Err(Trouble::Words),
         },
         Err(error) => trouble::show(rt, rt.alloc(), &error),
     }

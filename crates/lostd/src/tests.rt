@@ -1,174 +1,217 @@
-//! What a mistake on the command line, or a fault of the run, says and gives.
+//! What the program prints, and the status that it ends with.
 mod console;
 
-use crate::arguments::command;
-use crate::replaying::{moment_of, name_of};
-use crate::trouble::{Trouble, show};
+use crate::trouble::Trouble;
+use crate::{end, obey};
 use console::Console;
+use lost_fakes::NEVER;
 use lost_server::ServeError;
-use std::alloc::Global;
-use std::io;
+use std::alloc::{AllocError, Global};
+use std::process::ExitCode;
+use std::test::Fail;
 
-/// The words of a command line.
-type Words = &'static [&'static str];
+/// The words of a run.
+const GOOD: &str = "lostd replay --name lost.example --now 2026-01-01T00:00:00Z";
 
 /// The command of the example that help shows.
 const EXAMPLE: &str =
     "lostd replay --name lost.example --now 2026-01-01T00:00:00Z < examples/one-mapping.jsonl";
 
-/// Prints on a console what the words of a command line give before anything is run, and tells the trouble.
-fn read(console: &Console, alloc: Global, words: Words) -> Option<Trouble> {
-    let Ok(command) = command(alloc) else {
-        return Some(Trouble::MEMORY);
-    };
-    match command.try_get_matches_from(words) {
-        Ok(_) => None,
-        Err(error) => show(console, alloc, &error).err(),
+const BAD_NAME: &str =
+    "lostd: --name is no server name: it has 1 to 253 characters, in labels of letters, digits and hyphens joined by single dots, as lost.example\n";
+
+const BAD_TIME: &str =
+    "lostd: --now is no time: it is written in UTC as 2026-01-01T00:00:00Z, with up to nine digits of a fraction of a second before the Z\n";
+
+/// The words of a command line, which no spaces stand in.
+fn words(alloc: Global, line: &str) -> Result<Vec<String>, AllocError> {
+    let mut words = Vec::new(alloc);
+    for word in line.split_ascii_whitespace() {
+        words.push(String::from_str(alloc, word)?)?;
+    }
+    Ok(words)
+}
+
+/// Does what a command line says, and gives the exit status as it is shown.
+fn ended(console: &Console, alloc: Global, line: &str) -> Result<String, Fail> {
+    let words = words(alloc, line)?;
+    let code: ExitCode = end(console, obey(console, words.as_slice()));
+    Ok(format!(in alloc; "{code:?}")?)
+}
+
+fn shown(status: u8) -> &'static str {
+    match status {
+        0 => "ExitCode(unix_exit_status(0))",
+        1 => "ExitCode(unix_exit_status(1))",
+        _ => "ExitCode(unix_exit_status(2))",
     }
 }
 
-/// Whether words are a mistake on the command line that is said by this line on standard error, and by nothing else.
-fn is_said(alloc: Global, words: Words, line: &'static str) -> bool {
-    let console = Console::new(alloc);
-    read(&console, alloc, words) == Some(Trouble::CommandLine)
-        && console.errors().as_str() == line
-        && console.output().is_empty()
-}
+/// What goes in: the words, the input, the read that fails, and whether the output is broken. What comes out: the status,
+/// the output and the errors.
+type Row = (
+    &'static str,
+    &'static str,
+    u64,
+    bool,
+    u8,
+    &'static str,
+    &'static str,
+);
 
 #[test]
-fn mistakes_are_one_line(rt: HostRuntime) {
-    let alloc = rt.alloc();
-    assert!(rt;
-        is_said(
-            alloc,
-            &["lostd"],
-            "lostd: 'lostd' requires a subcommand but one was not provided [subcommands: replay, help]\n",
-        )
-    );
-    assert!(rt;
-        is_said(
-            alloc,
-            &["lostd", "answer"],
-            "lostd: unrecognized subcommand 'answer'\n",
-        )
-    );
-    assert!(rt;
-        is_said(
-            alloc,
-            &["lostd", "replay"],
-            "lostd: the following required arguments were not provided: --name <NAME> --now <TIME>\n",
-        )
-    );
-    assert!(rt;
-        is_said(
-            alloc,
-            &["lostd", "replay", "--name", "a", "--then", "b"],
-            "lostd: unexpected argument '--then' found\n",
-        )
-    );
-}
-
-/// Whether words are no mistake, and give a text on standard output that has all of these, and nothing on standard error.
-fn is_shown(alloc: Global, words: Words, texts: &'static [&'static str]) -> bool {
-    let console = Console::new(alloc);
-    if read(&console, alloc, words).is_some() || !console.errors().is_empty() {
-        return false;
-    }
-    let output = console.output();
-    texts.iter().all(|text| output.as_str().contains(*text))
-}
-
-#[test]
-fn help_and_version_are_no_mistakes(rt: HostRuntime) {
-    let alloc = rt.alloc();
-    assert!(rt; is_shown(alloc, &["lostd", "--version"], &["lostd 0.1.0\n"]));
-    assert!(rt; is_shown(alloc, &["lostd", "--help"], &["replay", EXAMPLE]));
-    assert!(rt;
-        is_shown(
-            alloc,
-            &["lostd", "replay", "--help"],
-            &["--name <NAME>", "--now <TIME>", "Exit status", EXAMPLE],
-        )
-    );
-    assert_eq!(rt;
-        read(
-            &Console::new(alloc),
-            alloc,
-            &["lostd", "replay", "--name", "a", "--now", "b"]
-        ),
-        None
-    );
-}
-
-#[test]
-fn bad_names_and_times(rt: HostRuntime) {
-    assert_eq!(rt; name_of(rt.alloc(), "a..b").err(), Some(Trouble::Name));
-    assert_eq!(rt; name_of(rt.alloc(), "lost.example").err(), None);
-    assert_eq!(rt;
-        moment_of(rt.alloc(), "2026-02-29T00:00:00Z").err(),
-        Some(Trouble::Now)
-    );
-    assert_eq!(rt; moment_of(rt.alloc(), "2026-01-01T00:00:00Z").err(), None);
-}
-
-/// Whether trouble is reported by this line on standard error, and by nothing else.
-fn is_reported(alloc: Global, trouble: Trouble, line: &'static str) -> bool {
-    let console = Console::new(alloc);
-    let _code = trouble.report(&console);
-    console.errors().as_str() == line && console.output().is_empty()
-}
-
-#[test]
-fn each_trouble_is_one_line(rt: HostRuntime) {
-    for (trouble, status, line) in [
+fn each_run_ends_with_its_status(rt: HostRuntime) -> Result<(), Fail> {
+    let rows: [Row; 12] = [
         (
-            Trouble::Words,
-            2,
-            "lostd: the command line could not be read: is it UTF-8?\n",
-        ),
-        (Trouble::CommandLine, 2, ""),
-        (
-            Trouble::Name,
-            2,
-            "lostd: --name is no server name: it has 1 to 253 characters, in labels of letters, digits and hyphens joined by single dots, as lost.example\n",
+            GOOD,
+            "{}\n",
+            NEVER,
+            false,
+            0,
+            "{\"errors\":{\"error\":\"badRequest\"}}\n",
+            "",
         ),
         (
-            Trouble::Now,
-            2,
-            "lostd: --now is no time: it is written in UTC as 2026-01-01T00:00:00Z, with up to nine digits of a fraction of a second before the Z\n",
-        ),
-        (
-            Trouble::Run(ServeError::Read),
+            GOOD,
+            "{}\n",
             1,
+            false,
+            1,
+            "",
             "lostd: standard input could not be read\n",
         ),
         (
-            Trouble::Run(ServeError::Write),
+            GOOD,
+            "{}\n",
+            NEVER,
+            true,
             1,
+            "",
             "lostd: standard output could not be written\n",
         ),
         (
-            Trouble::Run(ServeError::TurnsSpent),
-            1,
-            "lostd: the input is too long: at most 1,000,000 lines are answered\n",
+            "lostd replay --name a..b --now soon",
+            "{}\n",
+            NEVER,
+            false,
+            2,
+            "",
+            BAD_NAME,
         ),
         (
-            Trouble::Run(ServeError::Memory),
-            1,
-            "lostd: memory ran out\n",
+            "lostd replay --name a --now 2026-02-29T00:00:00Z",
+            "{}\n",
+            NEVER,
+            false,
+            2,
+            "",
+            BAD_TIME,
         ),
-    ] {
-        assert_eq!(rt; trouble.status(), status, "{line}");
-        assert!(rt; is_reported(rt.alloc(), trouble, line), "{line}");
+        (
+            "lostd",
+            "",
+            NEVER,
+            false,
+            2,
+            "",
+            "lostd: 'lostd' requires a subcommand but one was not provided [subcommands: replay, help]\n",
+        ),
+        (
+            "lostd answer",
+            "",
+            NEVER,
+            false,
+            2,
+            "",
+            "lostd: unrecognized subcommand 'answer'\n",
+        ),
+        (
+            "lostd replay",
+            "",
+            NEVER,
+            false,
+            2,
+            "",
+            "lostd: the following required arguments were not provided: --name <NAME> --now <TIME>\n",
+        ),
+        (
+            "lostd replay --name a --then b",
+            "",
+            NEVER,
+            false,
+            2,
+            "",
+            "lostd: unexpected argument '--then' found\n",
+        ),
+        (
+            "lostd replay --name",
+            "",
+            NEVER,
+            false,
+            2,
+            "",
+            "lostd: a value is required for '--name <NAME>' but none was supplied\n",
+        ),
+        ("lostd --version", "", NEVER, false, 0, "lostd 0.1.0\n", ""),
+        (
+            "lostd --help",
+            "",
+            NEVER,
+            true,
+            1,
+            "",
+            "lostd: standard output could not be written\n",
+        ),
+    ];
+    for (line, input, failing_read, is_output_broken, status, output, errors) in rows {
+        let mut console = Console::new(rt.alloc(), input);
+        console.failing_read = failing_read;
+        console.is_output_broken = is_output_broken;
+        let code = ended(&console, rt.alloc(), line)?;
+        assert_eq!(rt; code.as_str(), shown(status), "{line}");
+        assert_eq!(rt; console.output().as_str(), output, "{line}");
+        assert_eq!(rt; console.errors().as_str(), errors, "{line}");
     }
+    Ok(())
 }
 
 #[test]
-fn want_of_memory_is_no_mistake(rt: HostRuntime) {
-    for (kind, trouble) in [
-        (io::ErrorKind::OutOfMemory, Trouble::MEMORY),
-        (io::ErrorKind::InvalidData, Trouble::Words),
+fn help_has_an_example(rt: HostRuntime) -> Result<(), Fail> {
+    for (line, texts) in [
+        ("lostd --help", ["replay", EXAMPLE]),
+        ("lostd replay --help", ["--name <NAME>", "Exit status"]),
     ] {
-        assert_eq!(rt; Trouble::of_words(&io::Error::from(kind)), trouble);
+        let console = Console::new(rt.alloc(), "");
+        let code = ended(&console, rt.alloc(), line)?;
+        assert_eq!(rt; code.as_str(), shown(0));
+        let output = console.output();
+        assert!(rt;
+            texts.iter().all(|text| output.as_str().contains(*text)),
+            "{line}"
+        );
+        assert!(rt; console.errors().is_empty(), "{line}");
+    }
+    Ok(())
+}
+
+/// The troubles that no console can bring about.
+#[test]
+fn each_trouble_is_one_line(rt: HostRuntime) {
+    for (trouble, line) in [
+        (
+            Trouble::Words,
+            "lostd: the command line could not be read: is it UTF-8?\n",
+        ),
+        (Trouble::CommandLine, ""),
+        (
+            Trouble::Run(ServeError::TurnsSpent),
+            "lostd: the input is too long: at most 1,000,000 lines are answered\n",
+        ),
+        (Trouble::Run(ServeError::Memory), "lostd: memory ran out\n"),
+    ] {
+        let console = Console::new(rt.alloc(), "");
+        let _code = trouble.report(&console);
+        assert_eq!(rt; console.errors().as_str(), line);
+        assert!(rt; console.output().is_empty());
     }
 }

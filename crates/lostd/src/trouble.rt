@@ -1,12 +1,15 @@
 //! What ends the program early: one line on standard error, and the exit status.
-ghost use Rattle.std.specs.Prelude.{◌≡◌};
-ghost use Rattle.lostd.specs.Trouble.{exit_status};
+ghost use Rattle.std.specs.Prelude.{◌≡◌, ◌≢◌};
+ghost use Rattle.std.specs.IoError.{error_kind};
+ghost use Rattle.std.specs.Process.{exit_status};
+ghost use Rattle.lostd.specs.Trouble.{trouble_status};
 
 use clap::Error;
-use clap::error::ErrorKind;
+use clap::error::ErrorKind as ClapKind;
 use lost_server::ServeError;
 use std::alloc::{AllocError, Global};
 use std::io;
+use std::io::ErrorKind;
 use std::process::ExitCode;
 
 /// The status of a run that could not be begun or ended.
@@ -35,9 +38,12 @@ impl Trouble {
     pub(crate) const MEMORY: Trouble = Trouble::Run(ServeError::Memory);
 
     /// Why the words of the command line could not be read.
-    pub(crate) fn of_words(error: &io::Error) -> Trouble {
+    pub(crate) fn of_words(error: &io::Error) -> Trouble
+        ensures memory { error_kind error.now ≡ ErrorKind.OutOfMemory → result ≡ Trouble.Run ServeError.Memory }
+        ensures words { error_kind error.now ≢ ErrorKind.OutOfMemory → result ≡ Trouble.Words }
+    {
         match error.kind() {
-            io::ErrorKind::OutOfMemory => Trouble::MEMORY,
+            ErrorKind::OutOfMemory => Trouble::MEMORY,
             _ => Trouble::Words,
         }
     }
@@ -64,7 +70,7 @@ impl Trouble {
 
     /// The exit status: 1 for a fault of the run, 2 for a mistake on the command line.
     pub(crate) fn status(self) -> u8
-        ensures { result ≡ exit_status self }
+        ensures { result ≡ trouble_status self }
     {
         match self {
             Trouble::Run(_) => RUN_FAULT,
@@ -73,7 +79,9 @@ impl Trouble {
     }
 
     /// Says it on standard error, and gives the exit status.
-    pub(crate) fn report<R: Eprint>(self, rt: &R) -> ExitCode {
+    pub(crate) fn report<R: Eprint>(self, rt: &R) -> ExitCode
+        ensures { exit_status result ≡ trouble_status self }
+    {
         let text = self.text();
         if !text.is_empty() {
             // Where standard error fails too, the status still tells.
@@ -87,8 +95,8 @@ impl Trouble {
 /// mistake as one line on standard error.
 pub(crate) fn show<R: Print + Eprint>(rt: &R, alloc: Global, error: &Error) -> Result<(), Trouble> {
     match error.kind() {
-        ErrorKind::OutOfMemory => Err(Trouble::MEMORY),
-        ErrorKind::DisplayHelp | ErrorKind::DisplayVersion => {
+        ClapKind::OutOfMemory => Err(Trouble::MEMORY),
+        ClapKind::DisplayHelp | ClapKind::DisplayVersion => {
             error.print(rt).map_err(|_| Trouble::Run(ServeError::Write))
         }
         _ => {

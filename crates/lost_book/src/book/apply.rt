@@ -1,7 +1,7 @@
 //! How edits change a book.
-ghost use Rattle.std.specs.Prelude.{◌≡◌, ◌≢◌, None, Some, IfErr, OnOk, OnErr};
+ghost use Rattle.std.specs.Prelude.{◌≡◌, ◌≢◌, true, None, Some, IfErr, OnOk, OnErr};
 ghost use Rattle.lost_spec.specs.Book.{Publish, Replace, Withdraw, refusal, after};
-ghost use Rattle.lost_book.specs.Applied.{IsApplied};
+ghost use Rattle.lost_book.specs.Applied.{IsApplied, is_publish};
 ghost use Rattle.lost_book.specs.Edit.{edit_of};
 
 use crate::book::Book;
@@ -23,6 +23,7 @@ impl Book {
         ensures changed { OnOk result (self.new ≡ after self.old (edit_of edit)) }
         ensures refused { IfErr result (λ e. e ≢ EditError.Memory → refusal self.old (edit_of edit) ≡ Some e) }
         ensures memory_last { result ≡ Err EditError.Memory → refusal self.old (edit_of edit) ≡ None }
+        ensures memory_of_publish { result ≡ Err EditError.Memory → is_publish (edit_of edit) ≡ true }
         ensures unchanged { OnErr result (self.new ≡ self.old) }
     {
         match edit {

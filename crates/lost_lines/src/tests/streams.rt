@@ -1,99 +1,80 @@
 //! Whole streams, in whatever pieces they come.
 
-use super::fakes::{Outcome, assert_served, make_counts, make_sink, make_source, run};
+use super::lengths::{Outcome, assert_served, run};
 use crate::Turns;
+use lost_fakes::{Feed, Sink};
 use std::alloc::{AllocError, Global};
 use std::test::Fail;
 
-/// Bytes, each with the number of times that it comes.
-type Runs = &'static [(u8, usize)];
-
-fn served(alloc: Global, runs: Runs, most: usize) -> Result<Outcome, AllocError> {
-    let sink = make_sink(alloc, usize::MAX)?;
-    Ok(run(alloc, make_source(runs, most), sink, Turns::USUAL))
-}
-
-#[test]
-fn an_empty_input_has_no_line(rt: HostRuntime) -> Result<(), Fail> {
-    let outcome = served(rt.alloc(), &[], 10)?;
-    assert_served(&rt, &outcome, make_counts(0, 0), b"");
-    assert_eq!(rt; outcome.reads, 1);
-    Ok(())
+/// Serves a text that is read, and answered, in pieces of at most so many bytes.
+fn served(alloc: Global, text: &[u8], most: usize) -> Result<Outcome, AllocError> {
+    let sink = Sink::new(alloc, most)?;
+    Ok(run(alloc, Feed::of(text, most), sink, Turns::USUAL))
 }
 
 #[test]
 fn lines_are_cut_in_whatever_pieces(rt: HostRuntime) -> Result<(), Fail> {
-    let rows: [(Runs, u64, &[u8]); 6] = [
-        (
-            &[(b'a', 12), (b'\n', 1), (b'b', 1), (b'\n', 1)],
-            2,
-            b"12\n1\n",
-        ),
-        (&[(b'a', 12), (b'\n', 1), (b'b', 1)], 2, b"12\n1\n"),
-        (&[(b'\n', 3)], 3, b"0\n0\n0\n"),
-        (&[(b'\n', 1), (b'c', 3)], 2, b"0\n3\n"),
-        (&[(b'd', 4), (b'\n', 2)], 2, b"4\n0\n"),
-        (&[(b'\r', 1), (b'\n', 1)], 1, b"1\n"),
-    ];
-    for (runs, lines, text) in rows {
-        for most in [1, 2, 5, 1_000_000] {
-            let outcome = served(rt.alloc(), runs, most)?;
-            assert_served(&rt, &outcome, make_counts(lines, 0), text);
+    for (input, lines, text) in [
+        ("", 0, ""),
+        ("aaaaaaaaaaaa\nb\n", 2, "12\n1\n"),
+        ("aaaaaaaaaaaa\nb", 2, "12\n1\n"),
+        ("\n\n\n", 3, "0\n0\n0\n"),
+        ("\nccc", 2, "0\n3\n"),
+        ("dddd\n\n", 2, "4\n0\n"),
+        ("\r\n", 1, "1\n"),
+    ] {
+        for most in [1, 2, 5, usize::MAX] {
+            let outcome = served(rt.alloc(), input.as_bytes(), most)?;
+            assert_served(&rt, &outcome, lines, 0, text);
         }
     }
     Ok(())
 }
 
+/// Bytes, each with the number of times that it comes.
+type Runs = &'static [(u8, usize)];
+
+fn repeated(alloc: Global, runs: Runs) -> Result<Vec<u8>, AllocError> {
+    let mut text = Vec::new(alloc);
+    for (byte, times) in runs {
+        for _ in 0..*times {
+            text.push(*byte)?;
+        }
+    }
+    Ok(text)
+}
+
 #[test]
-fn a_line_of_the_limit_is_whole(rt: HostRuntime) -> Result<(), Fail> {
-    let rows: [(Runs, u64, u64, &[u8]); 4] = [
-        (&[(b'x', 1_048_576)], 1, 0, b"1048576\n"),
+fn lines_over_the_limit_are_read_to_their_end(rt: HostRuntime) -> Result<(), Fail> {
+    let rows: [(Runs, u64, u64, &str); 4] = [
+        (&[(b'x', 1_048_576)], 1, 0, "1048576\n"),
         (
             &[(b'x', 1_048_576), (b'\n', 1), (b'y', 1)],
             2,
             0,
-            b"1048576\n1\n",
+            "1048576\n1\n",
         ),
         (
             &[(b'x', 1_048_577), (b'\n', 1), (b'y', 1)],
             2,
             1,
-            b"long\n1\n",
+            "long\n1\n",
         ),
         (
             &[(b'z', 2), (b'\n', 1), (b'x', 3_000_000)],
             2,
             1,
-            b"2\nlong\n",
+            "2\nlong\n",
         ),
     ];
-    for (runs, lines, long_lines, text) in rows {
-        let outcome = served(rt.alloc(), runs, usize::MAX)?;
-        assert_served(&rt, &outcome, make_counts(lines, long_lines), text);
+    for (runs, lines, long, text) in rows {
+        let input = repeated(rt.alloc(), runs)?;
+        let outcome = served(rt.alloc(), input.as_slice(), usize::MAX)?;
+        assert_served(&rt, &outcome, lines, long, text);
     }
-    Ok(())
-}
-
-#[test]
-fn a_writer_may_take_a_byte_at_once(rt: HostRuntime) -> Result<(), Fail> {
-    let alloc = rt.alloc();
-    let runs = &[(b'a', 12), (b'\n', 1), (b'b', 1)];
-    let outcome = run(
-        alloc,
-        make_source(runs, 100),
-        make_sink(alloc, 1)?,
-        Turns::USUAL,
-    );
-    assert_served(&rt, &outcome, make_counts(2, 0), b"12\n1\n");
-    Ok(())
-}
-
-#[test]
-fn replies_beyond_what_is_gathered_are_written_in_order(rt: HostRuntime) -> Result<(), Fail> {
-    let runs = &[(b'\n', 100_000), (b'a', 3)];
-    let outcome = served(rt.alloc(), runs, usize::MAX)?;
-    assert_eq!(rt; outcome.result, Ok(make_counts(100_001, 0)));
-    assert_eq!(rt; outcome.text.len(), 200_002);
+    let input = repeated(rt.alloc(), &[(b'\n', 100_000), (b'a', 3)])?;
+    let outcome = served(rt.alloc(), input.as_slice(), usize::MAX)?;
+    assert_eq!(rt; outcome.text.len(), 200_002, "more than is gathered");
     assert!(rt; outcome.text.starts_with(b"0\n0\n") && outcome.text.ends_with(b"0\n3\n"));
     Ok(())
 }
@@ -101,13 +82,8 @@ fn replies_beyond_what_is_gathered_are_written_in_order(rt: HostRuntime) -> Resu
 /// Under a run where an allocation fails, a line is answered for want of memory, and the others as ever.
 #[test]
 fn a_refused_growth_is_answered(rt: HostRuntime) -> Result<(), Fail> {
-    let outcome = served(
-        rt.alloc(),
-        &[(b'a', 12), (b'\n', 1), (b'b', 1), (b'\n', 1)],
-        1,
-    )?;
-    let text = outcome.text.as_slice();
-    let memory = match text {
+    let outcome = served(rt.alloc(), b"aaaaaaaaaaaa\nb\n", 1)?;
+    let memory = match outcome.text.as_slice() {
         b"12\n1\n" => 0,
         b"refused\n1\n" | b"12\nrefused\n" => 1,
         _ => 2,

@@ -1,6 +1,10 @@
 //! Refused memory: the line that met it is answered so, and counts for nothing else.
-use super::fakes::{REPLIES, ROW, make_lines, make_sink, replies, run};
-use crate::{ServeError, Turns};
+use super::row::{REPLIES, ROW, replayed};
+use crate::ServeError;
+use crate::books::Books;
+use crate::replayer::Replayer;
+use lost_lines::{Answer, Answerer};
+use lost_mapping::{Moment, Source};
 use std::alloc::{AllocError, Global};
 use std::test::Fail;
 
@@ -41,13 +45,7 @@ fn is_desk_line(line: &[u8]) -> bool {
 /// met the refusal, which is answered `internalError` or code 20.
 #[test]
 fn a_refused_growth_marks_one_line(rt: HostRuntime) -> Result<(), Fail> {
-    let outcome = run(
-        rt.alloc(),
-        make_lines(ROW.as_bytes()),
-        make_sink(rt.alloc())?,
-        Turns::USUAL,
-    )
-    .ok_or("memory")?;
+    let outcome = replayed(rt.alloc(), ROW.as_bytes()).ok_or("memory")?;
     if outcome.result == Err(ServeError::Memory) {
         assert!(rt; outcome.text.is_empty());
         return Ok(());
@@ -58,14 +56,36 @@ fn a_refused_growth_marks_one_line(rt: HostRuntime) -> Result<(), Fail> {
         assert_eq!(rt; text, REPLIES.as_bytes());
         return Ok(());
     };
-    let others = replies(
-        rt.alloc(),
-        without(rt.alloc(), ROW.as_bytes(), marked)?.as_slice(),
-    )
-    .ok_or("a fault")?;
+    let lines = without(rt.alloc(), ROW.as_bytes(), marked)?;
+    let others = replayed(rt.alloc(), lines.as_slice()).ok_or("memory")?;
+    assert!(rt; others.result.is_ok());
     assert_eq!(rt;
         without(rt.alloc(), text, marked)?.as_slice(),
-        others.as_slice()
+        others.text.as_slice()
     );
+    Ok(())
+}
+
+/// Whether an answer is this line, and counts as one for want of memory.
+fn is_answer(answer: &Answer, line: &[u8], is_internal_error: bool) -> bool {
+    answer.bytes().strip_suffix(b"\n") == Some(line)
+        && answer.is_internal_error == is_internal_error
+}
+
+/// Where the memory for a commit is refused, the answer is code 20, and counts for nothing; where a line could
+/// not be kept, it is `internalError`, and is counted.
+#[test]
+fn each_mark_has_its_answer(rt: HostRuntime) -> Result<(), Fail> {
+    let mut books = Books::new(rt.alloc())?;
+    let committed = books.publish(Err(AllocError));
+    assert!(rt; is_answer(&committed, MEMORY, false));
+    let name = Source::parse(rt.alloc(), b"lost.example").map_err(|_| "memory")?;
+    let moment = Moment::new(0, 0).ok_or("a moment")?;
+    let mut replayer = Replayer {
+        name: &name,
+        moment,
+        books,
+    };
+    assert!(rt; is_answer(&replayer.answer_unread(), INTERNAL, true));
     Ok(())
 }

@@ -1,21 +1,32 @@
-//! A console that keeps what is printed on it.
-use std::alloc::Global;
+//! A console that gives lines, and keeps what is printed on it.
+use lost_fakes::{Feed, NEVER};
+use std::alloc::{Alloc, Allocator, Global};
 use std::cell::Cell;
 use std::fmt::Display;
 use std::io;
+use std::io::{BufRead, Lines};
 
-/// What is printed, kept as texts.
+/// Standard input, output and error, with no file or terminal behind them.
 #[derive(Drop)]
 pub(super) struct Console {
     alloc: Global,
+    input: &'static str,
+    /// The number of the read of the input that fails.
+    pub(super) failing_read: u64,
+    /// Whether writes to the output fail.
+    pub(super) is_output_broken: bool,
     output: Cell<Option<String>>,
     errors: Cell<Option<String>>,
 }
 
 impl Console {
-    pub(super) fn new(alloc: Global) -> Console {
+    /// A console with this input, and with no fault.
+    pub(super) fn new(alloc: Global, input: &'static str) -> Console {
         Console {
             alloc,
+            input,
+            failing_read: NEVER,
+            is_output_broken: false,
             output: Cell::new(None),
             errors: Cell::new(None),
         }
@@ -33,30 +44,63 @@ impl Console {
 
     fn keep<D: Display + Drop>(
         &self,
-        place: &Cell<Option<String>>,
+        kept: &Cell<Option<String>>,
         value: D,
         end: &str,
     ) -> io::Result<()> {
         let added = format!(in self.alloc; "{value}{end}")?;
-        let mut text = place.take().unwrap_or(String::new(self.alloc));
+        let mut text = kept.take().unwrap_or(String::new(self.alloc));
         text.push_str(added.as_str())?;
-        place.set(Some(text));
+        kept.set(Some(text));
         Ok(())
+    }
+
+    fn keep_output<D: Display + Drop>(&self, value: D, end: &str) -> io::Result<()> {
+        if self.is_output_broken {
+            return Err(io::Error::from(io::ErrorKind::BrokenPipe));
+        }
+        self.keep(&self.output, value, end)
+    }
+}
+
+impl Alloc for Console {
+    type A = Global;
+
+    fn alloc(&self) -> Global {
+        self.alloc
+    }
+}
+
+impl Input for Console {
+    type Reader = Feed<'static>;
+
+    fn read_line<A: Allocator + Clone>(&self, _buf: &mut String<A>) -> io::Result<usize> {
+        Err(io::Error::from(io::ErrorKind::Unsupported))
+    }
+
+    fn lines<A: Allocator>(&self, alloc: A) -> Lines<Feed<'static>, A> {
+        self.reader().lines(alloc)
+    }
+
+    fn reader(&self) -> Feed<'static> {
+        let mut feed = Feed::of(self.input.as_bytes(), usize::MAX);
+        feed.failing = self.failing_read;
+        feed
     }
 }
 
 impl Print for Console {
     fn print<D: Display + Drop>(&self, value: D) -> io::Result<()> {
-        self.keep(&self.output, value, "")
+        self.keep_output(value, "")
     }
 
     fn println<D: Display + Drop>(&self, value: D) -> io::Result<()> {
-        self.keep(&self.output, value, "\n")
+        self.keep_output(value, "\n")
     }
 
     fn write_all(&self, bytes: &[u8]) -> io::Result<()> {
         match std::str::from_utf8(bytes) {
-            Ok(text) => self.keep(&self.output, text, ""),
+            Ok(text) => self.keep_output(text, ""),
             Err(_) => Err(io::Error::from(io::ErrorKind::InvalidData)),
         }
     }

@@ -17,6 +17,7 @@ loop-turn-init g c =
       not_ended = c.requires.not_ended;
       made = c.requires.no_read;
       output_sound = c.requires.output_sound;
+      flushed = λ before. before;
     }
 
 pub returns-in_default-clause-cut_off : goal.returns-in_default-clause-cut_off
@@ -80,6 +81,7 @@ loop-turn-preserved g c =
       not_ended = search (rules, tests);
       made = search rules;
       output_sound = search rules;
+      flushed = search rules;
     }
 
 pub returns-clause-cut_off : goal.returns-clause-cut_off

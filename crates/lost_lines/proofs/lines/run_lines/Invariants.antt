@@ -1,5 +1,5 @@
 use Rattle.std.proofs.Common.{◌≡◌, false, length}
-use Rattle.lost_lines.specs.Watched.{inner_of, has_failed, has_ended, reads_of}
+use Rattle.lost_lines.specs.Watched.{inner_of, has_failed, has_ended, is_unflushed, reads_of}
 use Rattle.lost_lines.specs.Serving.{MayEnd, point_of, server_most}
 use Rattle.lost_lines.proofs.StreamLemmas.{IsStart, Reads}
 use Rattle.lost_lines.proofs.lines.run_lines.Given as goal
@@ -15,4 +15,5 @@ invariant-loop-turn g l = record {
   not_ended : has_ended l.input ≡ false;
   made : reads_of l.input ≡ l._turn;
   output_sound : has_failed l.output ≡ false;
+  flushed : is_unflushed l.initial.output ≡ false → is_unflushed l.output ≡ false;
 }

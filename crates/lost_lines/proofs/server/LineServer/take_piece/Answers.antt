@@ -10,7 +10,7 @@ pub returns-in_default-clause-ok : goal.returns-in_default-clause-ok
 returns-in_default-clause-ok g c = record {
   front = c.args.bytes.now;
   splits = rw (take_rest, drop_all (length c.args.bytes.now) c.args.bytes.now (omega arith)) (sym (append-nil c.args.bytes.now));
-  advances = Advances-run g.A.Answerer.step _ _ _ (Serves-none g.A.Answerer.step _ _ refl refl refl refl) c.take.ensures;
+  advances = Advances-run g.A.Answerer.step _ _ _ (Serves-none g.A.Answerer.step _ _ refl refl refl refl) c.take.ensures.holding;
 }
 
 pub take-requires-2 : goal.take-requires-2
@@ -22,14 +22,14 @@ returns-in_err-end_line-clause-err g c =
     let high = c.in-Some.ensures.0.high in
     let splits = split_at_first c.args.bytes.now c.in-Some.end high c.in-Some.ensures.1 in
     let step = g.A.Answerer.step in
-    let taken = Advances-run step _ _ _ (Serves-none step _ _ refl refl refl refl) c.take-2.ensures in
+    let taken = Advances-run step _ _ _ (Serves-none step _ _ refl refl refl refl) c.take-2.ensures.holding in
     rw p.1 (rw splits (Fails-more step _ _ _ _ (Fails-after step _ _ _ _ _ taken (Fails-line step _ _ c.in_err-end_line.ensures.err))))
 
 pub returns-clause-ok : goal.returns-clause-ok
 returns-clause-ok g c =
     let high = c.in-Some.ensures.0.high in
     let step = g.A.Answerer.step in
-    let taken = Advances-run step _ _ _ (Serves-none step _ _ refl refl refl refl) c.take-2.ensures in
+    let taken = Advances-run step _ _ _ (Serves-none step _ _ refl refl refl refl) c.take-2.ensures.holding in
     record {
       front = take c.in-Some.end c.args.bytes.now ++ newline ∷ [];
       splits = rw take_rest (split_at_first c.args.bytes.now c.in-Some.end high c.in-Some.ensures.1);

@@ -5,7 +5,7 @@ use Rattle.serde_json.specs.View.{view, members_view}
 use Rattle.serde_json.proofs.Views.{Entry}
 use Rattle.lost_json.specs.Members.{pairs_of}
 use Rattle.lost_json.proofs.EachLemmas.{Refuses-whole, pairs_of-more, pairs_of-None}
-use Rattle.lost_json.proofs.kinds.read_pairs.Goals as goal
+use Rattle.lost_json.proofs.kinds.copy_pairs.Goals as goal
 
 pub returns-in_err-text : goal.returns-in_err-text
 returns-in_err-text c =

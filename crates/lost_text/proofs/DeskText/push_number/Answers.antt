@@ -1,6 +1,6 @@
 use Rattle.std.proofs.Common.{length, ap, arith, lit<}
 use Rattle.std.proofs.lemmas.Fmt.{length-decimal-le}
-use Rattle.lost_json.proofs.desk_reply.DeskText.push_number.Goals as goal
+use Rattle.lost_text.proofs.DeskText.push_number.Goals as goal
 
 pub returns-clause-two : goal.returns-clause-two
 returns-clause-two c = λ small.
