@@ -13,13 +13,16 @@ use std::alloc::Global;
 use std::io;
 
 /// Answers standard input on standard output, as the arguments say.
-pub(crate) fn replay_standard_streams<R: Print + Input + AllocGlobal>(
+pub(crate) fn replay_standard_streams<R: Print + Eprint + Input + AllocGlobal>(
     rt: &R,
     given: &ArgMatches<'_>,
 ) -> Result<(), Trouble> {
     let name = given.get_str("name").unwrap_or("");
     let now = given.get_str("now").unwrap_or("");
-    let (name, moment) = begin(rt.alloc(), name, now)?;
+    let (name, moment) = match begin(rt.alloc(), name, now) {
+        Ok(begun) => begun,
+        Err(trouble) => return Err(said(rt, trouble, name, now)),
+    };
     let mut input = Watched::new(rt.reader());
     let mut output = Watched::new(io::writer(rt));
     outcome_of(replay(
@@ -30,6 +33,19 @@ pub(crate) fn replay_standard_streams<R: Print + Input + AllocGlobal>(
         &moment,
         Turns::USUAL,
     ))
+}
+
+/// Says of a bad name or a bad moment which word it is, and gives the trouble of a mistake that was said already; any
+/// other trouble is given as it is.
+fn said<R: Eprint>(rt: &R, trouble: Trouble, name: &str, now: &str) -> Trouble {
+    let text = trouble.text();
+    // Where standard error fails, the status still tells.
+    let _said = match trouble {
+        Trouble::Name => eprintln!(rt; "lostd: --name '{name}' {text}"),
+        Trouble::Now => eprintln!(rt; "lostd: --now '{now}' {text}"),
+        _ => return trouble,
+    };
+    Trouble::CommandLine
 }
 
 /// The server's name and the moment of every answer. A bad name is found before a bad moment, and though memory is

@@ -18,10 +18,10 @@ const EXAMPLE: &str =
     "lostd replay --name lost.example --now 2026-01-01T00:00:00Z < examples/one-mapping.jsonl";
 
 const BAD_NAME: &str =
-    "lostd: --name is no server name: it has 1 to 253 characters, in labels of letters, digits and hyphens joined by single dots, as lost.example\n";
+    "lostd: --name 'a..b' is not a server name: it must have 1 to 253 characters, in labels of letters, digits and hyphens joined by single dots, as lost.example\n";
 
 const BAD_TIME: &str =
-    "lostd: --now is no time: it is written in UTC as 2026-01-01T00:00:00Z, with up to nine digits of a fraction of a second before the Z\n";
+    "lostd: --now '2026-02-29T00:00:00Z' is not a time: it must be written in UTC as 2026-01-01T00:00:00Z, with up to nine digits of a fraction of a second before the Z\n";
 
 /// The words of a command line, which no spaces stand in.
 fn words(alloc: Global, line: &str) -> Result<Vec<String>, AllocError> {
@@ -61,7 +61,7 @@ type Row = (
 
 #[test]
 fn each_run_ends_with_its_status(rt: HostRuntime) -> Result<(), Fail> {
-    let rows: [Row; 12] = [
+    let rows: [Row; 13] = [
         (
             GOOD,
             "{}\n",
@@ -114,7 +114,7 @@ fn each_run_ends_with_its_status(rt: HostRuntime) -> Result<(), Fail> {
             false,
             2,
             "",
-            "lostd: 'lostd' requires a subcommand but one was not provided [subcommands: replay, help]\n",
+            "lostd: 'lostd' requires a subcommand but one was not provided [subcommands: replay, help]; see `lostd --help`\n",
         ),
         (
             "lostd answer",
@@ -123,7 +123,7 @@ fn each_run_ends_with_its_status(rt: HostRuntime) -> Result<(), Fail> {
             false,
             2,
             "",
-            "lostd: unrecognized subcommand 'answer'\n",
+            "lostd: unrecognized subcommand 'answer'; see `lostd --help`\n",
         ),
         (
             "lostd replay",
@@ -132,7 +132,7 @@ fn each_run_ends_with_its_status(rt: HostRuntime) -> Result<(), Fail> {
             false,
             2,
             "",
-            "lostd: the following required arguments were not provided: --name <NAME> --now <TIME>\n",
+            "lostd: the following required arguments were not provided: --name <NAME> --now <TIME>; see `lostd replay --help`\n",
         ),
         (
             "lostd replay --name a --then b",
@@ -141,7 +141,16 @@ fn each_run_ends_with_its_status(rt: HostRuntime) -> Result<(), Fail> {
             false,
             2,
             "",
-            "lostd: unexpected argument '--then' found\n",
+            "lostd: unexpected argument '--then' found; see `lostd replay --help`\n",
+        ),
+        (
+            "lostd replay --name a --now b map.jsonl",
+            "",
+            NEVER,
+            false,
+            2,
+            "",
+            "lostd: unexpected argument 'map.jsonl' found; standard input is read: use `< FILE`\n",
         ),
         (
             "lostd replay --name",
@@ -150,7 +159,7 @@ fn each_run_ends_with_its_status(rt: HostRuntime) -> Result<(), Fail> {
             false,
             2,
             "",
-            "lostd: a value is required for '--name <NAME>' but none was supplied\n",
+            "lostd: a value is required for '--name <NAME>' but none was supplied; see `lostd replay --help`\n",
         ),
         ("lostd --version", "", NEVER, false, 0, "lostd 0.1.0\n", ""),
         (

@@ -48,16 +48,16 @@ impl Trouble {
         }
     }
 
-    /// What is said of it; nothing where it was said already.
-    fn text(self) -> &'static str {
+    /// What is said of it; nothing where it was said already. Of a bad word it is what stands behind the word.
+    pub(crate) fn text(self) -> &'static str {
         match self {
             Trouble::Words => "the command line could not be read: is it UTF-8?",
             Trouble::CommandLine => "",
             Trouble::Name => {
-                "--name is no server name: it has 1 to 253 characters, in labels of letters, digits and hyphens joined by single dots, as lost.example"
+                "is not a server name: it must have 1 to 253 characters, in labels of letters, digits and hyphens joined by single dots, as lost.example"
             }
             Trouble::Now => {
-                "--now is no time: it is written in UTC as 2026-01-01T00:00:00Z, with up to nine digits of a fraction of a second before the Z"
+                "is not a time: it must be written in UTC as 2026-01-01T00:00:00Z, with up to nine digits of a fraction of a second before the Z"
             }
             Trouble::Run(ServeError::Read) => "standard input could not be read",
             Trouble::Run(ServeError::Write) => "standard output could not be written",
@@ -103,10 +103,22 @@ pub(crate) fn show<R: Print + Eprint>(rt: &R, alloc: Global, error: &Error) -> R
             let Ok(line) = mistake_line(alloc, error) else {
                 return Err(Trouble::MEMORY);
             };
+            let hint = hint_of(error.kind(), line.as_str());
             // Where standard error fails too, the status still tells.
-            let _said = eprintln!(rt; "lostd: {line}");
+            let _said = eprintln!(rt; "lostd: {line}; {hint}");
             Err(Trouble::CommandLine)
         }
+    }
+}
+
+/// What to do about a mistake on the command line.
+fn hint_of(kind: ClapKind, line: &str) -> &'static str {
+    match kind {
+        ClapKind::MissingSubcommand | ClapKind::InvalidSubcommand => "see `lostd --help`",
+        ClapKind::UnknownArgument if !line.starts_with("unexpected argument '-") => {
+            "standard input is read: use `< FILE`"
+        }
+        _ => "see `lostd replay --help`",
     }
 }
 
