@@ -1,4 +1,4 @@
-//! The book: the mappings that are held, in order.
+//! The book: the mappings that are held, in order. Rules without a section are this profile's own.
 ghost use Rattle.std.specs.Prelude.{◌≡◌, ◌<◌, Some, IfOk, length, slice_get};
 ghost use Rattle.lost_spec.specs.Book.{empty_book};
 
@@ -11,7 +11,7 @@ mod apply;
 mod check;
 mod scans;
 
-/// The mappings that are held, in order, with the limits and the number of edits that were accepted (own rule).
+/// The mappings that are held, in order, with the limits and the number of edits that were accepted.
 /// Contracts see it as the record `Book`.
 #[derive(Drop)]
 pub struct Book {
@@ -32,7 +32,7 @@ impl Model for Book {
 }
 
 impl Book {
-    /// An empty book within these limits (own rule).
+    /// An empty book within these limits.
     pub fn new(alloc: Global, limits: Limits) -> Result<Book, AllocError>
         ensures { IfOk result (λ book. book ≡ empty_book limits) }
     {
@@ -45,21 +45,21 @@ impl Book {
         })
     }
 
-    /// How many edits were accepted (own rule).
+    /// How many edits were accepted.
     pub fn edition(&self) -> u64
         ensures { result ≡ self.now.edits }
     {
         self.edits
     }
 
-    /// How many mappings are held (own rule).
+    /// How many mappings are held.
     pub fn len(&self) -> usize
         ensures { result ≡ length self.now.mappings }
     {
         self.mappings.len()
     }
 
-    /// The mapping at a position, which is below `len` (own rule).
+    /// The mapping at a position, which is below `len`.
     pub fn mapping(&self, position: usize) -> &Mapping
         requires { position < length self.now.mappings }
         ensures { slice_get self.now.mappings position ≡ Some result.now }
@@ -86,7 +86,7 @@ impl Book {
         *self.mappings.allocator()
     }
 
-    /// An equal book, or want of memory (own rule). It costs a pointer for each mapping.
+    /// An equal book, or want of memory. It costs a pointer for each mapping.
     pub fn clone(&self) -> Result<Book, AllocError>
         ensures { IfOk result (λ copy. copy ≡ self.now) }
     {

@@ -1,10 +1,10 @@
-//! The edits of a map desk.
+//! The edits of a map desk. Rules without a section are this profile's own.
 ghost use Rattle.std.specs.Prelude.{◌≡◌, IfOk};
 
 use lost_mapping::{Identity, Mapping, Stamp};
 use std::alloc::AllocError;
 
-/// An edit by the map desk (own rule).
+/// An edit by the map desk.
 #[derive(Drop)]
 pub enum Edit {
     /// Holds a mapping of a new identity, behind the ones that are held.
@@ -18,7 +18,7 @@ pub enum Edit {
 impl Edit {
     ghost use Rattle.lost_book.specs.Edit.{edit_of};
 
-    /// The same edit, or want of memory (own rule). A mapping costs a pointer.
+    /// The same edit, or want of memory. A mapping costs a pointer.
     pub fn clone(&self) -> Result<Edit, AllocError>
         ensures { IfOk result (λ copy. edit_of copy ≡ edit_of self.now) }
     {

@@ -1,14 +1,14 @@
-//! How much a book may hold and accept.
+//! How much a book may hold and accept. Rules without a section are this profile's own.
 ghost use Rattle.std.specs.Prelude.{◌≡◌};
 ghost use Rattle.lost_spec.specs.Book.{limits_of};
 ghost use Rattle.lost_book.specs.Bounds.{AreAllowed};
 
 use std::marker::Model;
 
-/// The most mappings that a book may hold (own rule).
+/// The most mappings that a book may hold.
 const GREATEST_MAPPINGS: u32 = 65_536;
 
-/// How many mappings a book may hold, 1 to 65,536, and how many edits it may accept, at least 1 (own rule). Contracts
+/// How many mappings a book may hold, 1 to 65,536, and how many edits it may accept, at least 1. Contracts
 /// see them as the record `Limits`.
 #[derive(Clone, Copy, PartialEq, Eq, Debug)]
 pub struct Limits {
@@ -30,7 +30,7 @@ impl Model for Limits {
 }
 
 impl Limits {
-    /// These limits, or `None` unless `mappings` is 1 to 65,536 and `edits` is at least 1 (own rule).
+    /// These limits, or `None` unless `mappings` is 1 to 65,536 and `edits` is at least 1.
     pub fn new(mappings: u32, edits: u32) -> Option<Limits>
         ensures { result ≡ limits_of mappings edits }
     {
@@ -41,7 +41,7 @@ impl Limits {
         }
     }
 
-    /// How many mappings may be held (own rule).
+    /// How many mappings may be held.
     pub fn mappings(&self) -> u32
         ensures mappings { result ≡ self.now.mappings }
         ensures allowed { AreAllowed self.now }
@@ -49,7 +49,7 @@ impl Limits {
         self.mappings
     }
 
-    /// How many edits may be accepted (own rule).
+    /// How many edits may be accepted.
     pub fn edits(&self) -> u32
         ensures edits { result ≡ self.now.edits }
         ensures allowed { AreAllowed self.now }

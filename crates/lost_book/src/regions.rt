@@ -1,4 +1,4 @@
-//! Whether two mappings have the same regions, and the same key.
+//! Whether two mappings have the same regions, and the same key. Rules without a section are this profile's own.
 ghost use Rattle.std.specs.Prelude.{◌≡◌};
 ghost use lib.Pointwise.{pointwise};
 ghost use Rattle.lost_spec.specs.Ring.{same_point};
@@ -8,7 +8,7 @@ use lost_geo::Polygon;
 use lost_mapping::Mapping;
 
 /// Whether the regions are the same: polygons by positions, patterns by names and values as given, each list in its
-/// order (own rule).
+/// order.
 pub(crate) fn have_same_regions(one: &Mapping, other: &Mapping) -> bool
     ensures { result ≡ same_regions one.now other.now }
 {

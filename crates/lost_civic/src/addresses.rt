@@ -1,4 +1,4 @@
-//! Civic addresses.
+//! Civic addresses. Rules without a section are this profile's own.
 
 ghost use Rattle.std.specs.Prelude.{◌≡◌, ◌≢◌, None, Some, IfOk, IfErr, OnOk, IfSome};
 ghost use Rattle.std.specs.Option.{option_copied};
@@ -18,7 +18,7 @@ use std::marker::Model;
 
 /// A civic address (RFC 5222, section 12.3; RFC 4119, section 2.2.1): pairs of a name and a value, in the order in
 /// which they were given. Contracts see an address as its pairs. A name that is that of no element may stand beside
-/// one that is (own rule).
+/// one that is.
 #[derive(Drop)]
 pub struct CivicAddress {
     pairs: Vec<(String, String)>,
@@ -40,7 +40,7 @@ impl Model for CivicAddress {
 }
 
 impl CivicAddress {
-    /// The address of these pairs. The refusals, in the order of the checks (own rule): `TooLong` for more than 128
+    /// The address of these pairs. The refusals, in the order of the checks: `TooLong` for more than 128
     /// pairs, or a name or a value of more than 512 bytes; `Repeated` for a name that stands twice; `NoKnownElement`
     /// where no name is that of an element; `Memory`.
     pub fn from_pairs(
@@ -74,7 +74,7 @@ impl CivicAddress {
     }
 
     /// The comparison text of an element, where it stands in the address: its value with each run of white space
-    /// (bytes 9 to 13, and 32) as one space, both ends trimmed, and ASCII letters in lower case (own rule).
+    /// (bytes 9 to 13, and 32) as one space, both ends trimmed, and ASCII letters in lower case.
     pub fn text(&self, element: Element) -> Option<&str>
         ensures { option_copied result ≡ text_of element self.now }
     {
@@ -105,7 +105,7 @@ impl CivicAddress {
     }
 }
 
-/// Two addresses are equal where their pairs are, names and values byte for byte and in their order (own rule).
+/// Two addresses are equal where their pairs are, names and values byte for byte and in their order.
 impl PartialEq for CivicAddress {
     ghost eq = { same_pairs };
 

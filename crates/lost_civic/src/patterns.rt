@@ -1,4 +1,4 @@
-//! Civic patterns.
+//! Civic patterns. Rules without a section are this profile's own.
 
 ghost use Rattle.std.specs.Prelude.{◌≡◌, ◌≢◌, None, Some, IsTrue, IfOk, IfErr, OnOk, IfSome};
 ghost use Rattle.std.specs.Option.{option_copied};
@@ -38,7 +38,7 @@ impl Model for CivicPattern {
 }
 
 impl CivicPattern {
-    /// The pattern of these pairs. The refusals, in the order of the checks (own rule): `TooLong` for more than 128
+    /// The pattern of these pairs. The refusals, in the order of the checks: `TooLong` for more than 128
     /// pairs, or a name or a value of more than 512 bytes; `Repeated` for a name that stands twice; `UnknownElement`
     /// where a name is that of no element; `NoKnownElement` where there is no pair; `Memory`.
     pub fn from_pairs(
@@ -104,7 +104,7 @@ impl CivicPattern {
     }
 }
 
-/// Two patterns are equal where their pairs are, names and values byte for byte and in their order (own rule).
+/// Two patterns are equal where their pairs are, names and values byte for byte and in their order.
 impl PartialEq for CivicPattern {
     ghost eq = { same_pairs };
 

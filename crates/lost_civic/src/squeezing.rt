@@ -1,4 +1,4 @@
-//! Comparison texts: what two values are compared by.
+//! Comparison texts: what two values are compared by. Rules without a section are this profile's own.
 
 ghost use Rattle.std.specs.Prelude.{◌≡◌, ◌==◌, ◌<◌, ◌++◌, not, IfOk, OnOk, string_bytes, string_len, encode_utf8};
 ghost use Rattle.std.specs.Char.{to_ascii_lowercase};
@@ -7,7 +7,7 @@ ghost use Rattle.lost_civic.specs.Squeezed.{gap};
 
 use std::alloc::{AllocError, Global};
 
-/// Whether the character is white space: one of the codes 9 to 13, and 32 (own rule).
+/// Whether the character is white space: one of the codes 9 to 13, and 32.
 fn is_white_space(character: char) -> bool
     ensures { result ≡ is_white character }
 {
@@ -29,7 +29,7 @@ fn push_character(text: &mut String, after_white: bool, character: char) -> Resu
 }
 
 /// The comparison text of a value: each run of white space is one space, both ends are trimmed, and ASCII letters
-/// are in lower case (own rule). It is never longer than the value.
+/// are in lower case. It is never longer than the value.
 pub(crate) fn make_comparison_text(alloc: Global, value: &str) -> Result<String, AllocError>
     ensures { IfOk result (λ text. string_bytes text ≡ comparison_text value.now) }
 {

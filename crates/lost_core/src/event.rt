@@ -1,8 +1,8 @@
-//! Events of the world.
+//! Events of the world. Rules without a section are this profile's own.
 
 use lost_book::EditError;
 
-/// What a step of the world gives (own rule).
+/// What a step of the world gives.
 #[derive(Drop)]
 pub enum Event {
     /// The edit is accepted: how many edits are accepted and not published.

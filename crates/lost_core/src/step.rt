@@ -1,9 +1,9 @@
-//! Steps of the world.
+//! Steps of the world. Rules without a section are this profile's own.
 
 use lost_book::Edit;
 use lost_mapping::Moment;
 
-/// A step of the world (own rule). A worker goes by its number, from 0.
+/// A step of the world. A worker goes by its number, from 0.
 #[derive(Drop)]
 pub enum Step {
     /// The publisher stages an edit.

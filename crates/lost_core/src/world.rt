@@ -1,4 +1,4 @@
-//! The machine that runs the steps of a world.
+//! The machine that runs the steps of a world. Rules without a section are this profile's own.
 ghost use Rattle.std.specs.Prelude.{◌≡◌, ◌-◌, if◌then◌else◌, map, length, max, nat_lt, slice_index, Some, None, IfOk, OnOk};
 ghost use Rattle.lost_book.specs.Edit.{edit_of};
 ghost use Rattle.lost_core.specs.World.{Replying, Stage, Publish, Enter, Tell, Answer, events};
@@ -15,7 +15,7 @@ use std::alloc::{AllocError, Global};
 use std::marker::Model;
 
 /// What a run of steps keeps: the edits that were accepted, how many of them are published, and how many each worker
-/// has met (own rule). Contracts see it as the record `State`.
+/// has met. Contracts see it as the record `State`.
 #[derive(Drop)]
 pub struct World {
     limits: Limits,
@@ -36,7 +36,7 @@ impl Model for World {
 
 impl World {
     /// Runs steps in order, in a world of books within these limits and so many workers, whose lines are answered by the
-    /// server of this name, and gives one event for each step (own rule). Want of memory ends the run, and no event is
+    /// server of this name, and gives one event for each step. Want of memory ends the run, and no event is
     /// given then.
     ///
     /// An edit is staged unless the book of those accepted before refuses it. A publish publishes all that is accepted.

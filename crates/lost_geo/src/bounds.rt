@@ -1,4 +1,4 @@
-//! The least and the greatest latitude and longitude of a ring.
+//! The least and the greatest latitude and longitude of a ring. Rules without a section are this profile's own.
 
 ghost use Rattle.std.specs.Prelude.{◌≡◌, [], ◌∷◌};
 ghost use Rattle.std.specs.Int.{int_min, int_max};
@@ -6,7 +6,7 @@ ghost use Rattle.lost_geo.specs.Bounds.{is_from_to as is_in_order};
 
 use crate::point::GeoPoint;
 
-/// The least and the greatest latitude and longitude of a ring's positions, in whole 1e-7 degrees (own rule).
+/// The least and the greatest latitude and longitude of a ring's positions, in whole 1e-7 degrees.
 #[derive(Clone, Copy, PartialEq, Eq, Hash, Debug)]
 pub struct Bounds {
     /// The least latitude.

@@ -1,4 +1,4 @@
-//! A point of the plane of latitudes and longitudes.
+//! A point of the plane of latitudes and longitudes. Rules without a section are this profile's own.
 
 ghost use Rattle.std.specs.Prelude.{◌≡◌, IfOk, if◌then◌else◌, pos, neg_ℤ, ◌-ℤ◌};
 ghost use Rattle.std.specs.Ordering.{int_eq};
@@ -70,7 +70,7 @@ impl GeoPoint {
     }
 
     /// The normal form: longitude 1,800,000,000 is taken at -1,800,000,000, and latitude 900,000,000 at
-    /// 899,999,999 (own rule).
+    /// 899,999,999.
     pub fn normal(&self) -> GeoPoint
         ensures normal { result ≡ normal self.now }
         ensures in_range { IsInRange result }

@@ -1,4 +1,4 @@
-//! Desk lines.
+//! Desk lines. Rules without a section are this profile's own.
 ghost use Rattle.std.specs.Prelude.{◌≡◌, ◌≢◌, true, false, None, Some, Ok, Err, option_map, unwrap_or, IfOk, IfErr, IfSome, OnOk};
 ghost use Rattle.serde_json.specs.Find.{as_object};
 ghost use Rattle.serde_json.specs.View.{view, members_view};
@@ -19,7 +19,7 @@ use serde_json::{Map, Value};
 use std::alloc::Global;
 use thiserror::Error;
 
-/// What a desk line orders (own rule).
+/// What a desk line orders.
 #[derive(Drop)]
 pub enum DeskLine {
     /// An edit to stage.
@@ -28,7 +28,7 @@ pub enum DeskLine {
     Commit,
 }
 
-/// Why a desk line is refused (own rule).
+/// Why a desk line is refused.
 #[derive(Clone, Copy, PartialEq, Eq, Debug, Error)]
 pub enum DeskFault {
     /// A member is missing or of another kind.
@@ -40,7 +40,7 @@ pub enum DeskFault {
 }
 
 impl DeskFault {
-    /// The number of the refusal on the desk's lines: 1 to 12, and 20 for want of memory (own rule).
+    /// The number of the refusal on the desk's lines: 1 to 12, and 20 for want of memory.
     pub fn code(self) -> u8
         ensures { result ≡ desk_fault_code self }
     {

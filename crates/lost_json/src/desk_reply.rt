@@ -1,4 +1,4 @@
-//! The desk's replies.
+//! The desk's replies. Rules without a section are this profile's own.
 ghost use Rattle.std.specs.Prelude.{◌≡◌};
 ghost use Rattle.lost_json.specs.DeskReplies.{desk_text, IsCode, IsInTable, refusal_name as refusal_name_of};
 ghost use Rattle.lost_json.specs.PlainNames.{IsPlainName};
@@ -83,7 +83,7 @@ fn write_refused(code: u8) -> DeskText
     text
 }
 
-/// Writes a desk's reply (own rule). The caller has: a refusal is one of the table, 1 to 20.
+/// Writes a desk's reply. The caller has: a refusal is one of the table, 1 to 20.
 pub fn write_desk(reply: &DeskReply) -> DeskText
     requires { IsInTable reply.now }
     ensures { result ≡ desk_text reply.now }

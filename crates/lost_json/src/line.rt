@@ -1,4 +1,4 @@
-//! The line that answers a line.
+//! The line that answers a line. Rules without a section are this profile's own.
 ghost use Rattle.std.specs.Prelude.{◌≡◌, IfOk};
 ghost use Rattle.lost_spec.specs.Request.{BadRequest, InternalError};
 ghost use Rattle.lost_query.specs.Reply.{reply_of};
@@ -18,7 +18,7 @@ pub const INTERNAL_ERROR: &[u8] = b"{\"errors\":{\"error\":\"internalError\"}}\n
 /// The line of the error `badRequest` (RFC 5222, section 13.1).
 pub const BAD_REQUEST: &[u8] = b"{\"errors\":{\"error\":\"badRequest\"}}\n";
 
-/// The two lines above are those of the replies `internalError` and `badRequest` (own rule).
+/// The two lines above are those of the replies `internalError` and `badRequest`.
 #[tactic(auto, unfolding(crate::specs::Replies::reply_text, serde_json::proofs::OnLiterals::serde_json_on_literals))]
 pub fn law_constant_lines()
     ensures internal_error { INTERNAL_ERROR.now ≡ reply_text InternalError }

@@ -1,4 +1,4 @@
-//! Locations of a request (RFC 5222, section 12).
+//! Locations of a request (RFC 5222, section 12). Rules without a section are this profile's own.
 ghost use Rattle.std.specs.Prelude.{◌≡◌, None, Some, Ok, map, codes};
 ghost use Rattle.serde_json.specs.View.{view, members_view};
 ghost use Rattle.lost_spec.specs.Text.{is_among, has_repeat};
@@ -23,7 +23,7 @@ pub(crate) const GEODETIC: &str = "geodetic-2d";
 
 pub(crate) const CIVIC: &str = "civic";
 
-/// The most locations of a request (own rule).
+/// The most locations of a request.
 const MOST_LOCATIONS: usize = 8;
 
 /// A list of 1 to 8 locations, no two of one profile (RFC 5222, section 8.3.1; bounds own).

@@ -1,4 +1,4 @@
-//! The path of a request, and how it wants boundaries.
+//! The path of a request, and how it wants boundaries. Rules without a section are this profile's own.
 ghost use Rattle.std.specs.Prelude.{◌≡◌, option_map};
 ghost use Rattle.serde_json.specs.View.{members_view};
 ghost use Rattle.lost_mapping.specs.Texts.{texts_of};
@@ -10,7 +10,7 @@ use crate::request::ReadError;
 use serde_json::{Map, Value};
 use std::alloc::Global;
 
-/// The most names of a path (own rule).
+/// The most names of a path.
 const MOST_NAMES: usize = 32;
 
 /// At most 32 texts: the names of the servers that a request came by (RFC 5222, section 6; bound own).

@@ -1,4 +1,4 @@
-//! Request lines.
+//! Request lines. Rules without a section are this profile's own.
 ghost use Rattle.std.specs.Prelude.{◌≡◌, None, Err, option_and_then, codes};
 ghost use Rattle.serde_json.specs.Find.{as_object};
 ghost use Rattle.serde_json.specs.View.{view, members_view};
@@ -16,7 +16,7 @@ use serde_json::{Map, Value};
 use std::alloc::Global;
 use thiserror::Error;
 
-/// Why a line was not read as a request (own rule).
+/// Why a line was not read as a request.
 #[derive(Clone, Copy, PartialEq, Eq, Debug, Error)]
 pub enum ReadError {
     /// The line is no request.
@@ -28,7 +28,7 @@ pub enum ReadError {
 }
 
 impl ReadError {
-    /// The number of the refusal, 1 or 2 in the order of the variants (own rule).
+    /// The number of the refusal, 1 or 2 in the order of the variants.
     pub fn code(self) -> u8
         ensures { result ≡ read_code self }
     {

@@ -1,4 +1,4 @@
-//! What answers a line, and its replies.
+//! What answers a line, and its replies. Rules without a section are this profile's own.
 ghost use Rattle.std.specs.Prelude.{◌≡◌};
 ghost use Rattle.lost_lines.specs.Run.{Cut, Whole, TooLong, Unread, Reply};
 ghost use Rattle.lost_lines.specs.Answer.{bytes_of, reply_of};
@@ -6,25 +6,25 @@ ghost use Rattle.lost_lines.specs.Answer.{bytes_of, reply_of};
 use lost_text::DeskText;
 use std::alloc::Global;
 
-/// What answers lines, one after another, and may change with each (own rule).
+/// What answers lines, one after another, and may change with each.
 pub trait Answerer {
     /// How it answers: from what it is, by a line as it was cut and a reply, to what it then is.
     ghost step: { Self → Cut → Reply → Self → Type 0 };
 
-    /// Answers a line that was kept whole, without its byte 10 (own rule).
+    /// Answers a line that was kept whole, without its byte 10.
     fn answer(&mut self, alloc: Global, line: &[u8]) -> Answer
         ensures { step self.old (Whole line.now) (reply_of result) self.new };
 
-    /// Answers a line over the limit of 1,048,576 bytes (own rule).
+    /// Answers a line over the limit of 1,048,576 bytes.
     fn answer_long(&mut self) -> Answer
         ensures { step self.old TooLong (reply_of result) self.new };
 
-    /// Answers a line that could not be kept, since memory was refused while it was read (own rule).
+    /// Answers a line that could not be kept, since memory was refused while it was read.
     fn answer_unread(&mut self) -> Answer
         ensures { step self.old Unread (reply_of result) self.new };
 }
 
-/// The reply to a line: its text, the byte 10 at its end too, and whether it says that a growth was refused (own rule).
+/// The reply to a line: its text, the byte 10 at its end too, and whether it says that a growth was refused.
 #[derive(Drop)]
 pub struct Answer {
     /// The text that is written.
@@ -34,7 +34,7 @@ pub struct Answer {
 }
 
 impl Answer {
-    /// The bytes that are written (own rule).
+    /// The bytes that are written.
     pub fn bytes(&self) -> &[u8]
         ensures { result.now ≡ (reply_of self.now).text }
     {
@@ -42,7 +42,7 @@ impl Answer {
     }
 }
 
-/// The text of a reply (own rule).
+/// The text of a reply.
 #[derive(Drop)]
 pub enum Text {
     /// A text of its own.
@@ -54,7 +54,7 @@ pub enum Text {
 }
 
 impl Text {
-    /// Its bytes (own rule).
+    /// Its bytes.
     pub fn bytes(&self) -> &[u8]
         ensures { result.now ≡ bytes_of self.now }
     {

@@ -1,6 +1,6 @@
-//! How many lines were answered, and how.
+//! How many lines were answered, and how. Rules without a section are this profile's own.
 
-/// What was counted while lines were served (own rule).
+/// What was counted while lines were served.
 #[derive(Clone, Copy, PartialEq, Eq, Debug, Default)]
 pub struct Counts {
     /// The lines that were answered.

@@ -1,10 +1,10 @@
-//! Why a stream was not served to its end.
+//! Why a stream was not served to its end. Rules without a section are this profile's own.
 ghost use Rattle.std.specs.Prelude.{◌≡◌};
 ghost use Rattle.lost_lines.specs.Fault.{serve_code};
 
 use thiserror::Error;
 
-/// Why a stream was not served to its end (own rule).
+/// Why a stream was not served to its end.
 #[derive(Clone, Copy, PartialEq, Eq, Debug, Error)]
 pub enum ServeError {
     /// A read of the input failed.
@@ -22,7 +22,7 @@ pub enum ServeError {
 }
 
 impl ServeError {
-    /// The number of the fault, from 1 to 4 in the order of the variants (own rule).
+    /// The number of the fault, from 1 to 4 in the order of the variants.
     pub fn code(self) -> u8
         ensures { result ≡ serve_code self }
     {

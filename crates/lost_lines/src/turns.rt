@@ -1,7 +1,7 @@
-//! How long a stream is served at most.
+//! How long a stream is served at most. Rules without a section are this profile's own.
 ghost use Rattle.std.specs.Prelude.{◌≡◌};
 
-/// The most lines that are answered, and the most reads that are made (own rule): a stream that has more is ended, so
+/// The most lines that are answered, and the most reads that are made: a stream that has more is ended, so
 /// that no input keeps a call for ever.
 #[derive(Clone, Copy, PartialEq, Eq, Debug)]
 pub struct Turns {
@@ -12,14 +12,14 @@ pub struct Turns {
 }
 
 impl Turns {
-    /// What the programs use: 1,000,000 lines and 100,000,000 reads (own rule).
+    /// What the programs use: 1,000,000 lines and 100,000,000 reads.
     pub const USUAL: Turns = Turns {
         lines: 1_000_000,
         reads: 100_000_000,
     };
 }
 
-/// [`Turns::USUAL`] is 1,000,000 lines and 100,000,000 reads (own rule).
+/// [`Turns::USUAL`] is 1,000,000 lines and 100,000,000 reads.
 pub fn law_usual_turns()
     ensures { Turns.USUAL ≡ record { lines = 1_000_000; reads = 100_000_000 } }
 {}

@@ -1,4 +1,4 @@
-//! A reader or a writer that remembers how its calls went.
+//! A reader or a writer that remembers how its calls went. Rules without a section are this profile's own.
 ghost use Rattle.std.specs.Prelude.{◌≡◌, ◌+◌, ◌-◌, ◌^◌, ◌||◌, ◌&&◌, true, false, min, length, is_err};
 ghost use Rattle.std.specs.Io.{ReadsAtMost, WritesAtMost};
 ghost use Rattle.std.specs.Io.KnownBytes.{Keeps, ReadConsumes, WriteAppends};
@@ -8,7 +8,7 @@ use std::io;
 use std::io::{Read, Write};
 
 /// A reader or a writer, with two flags that stay once they are set, one that a flush takes back, and a count of its
-/// reads (own rule). Each call is passed on. `failed` is set where a read, a write or a flush failed, an interrupted one
+/// reads. Each call is passed on. `failed` is set where a read, a write or a flush failed, an interrupted one
 /// too, or where a write that was given a byte took none; `ended` is set where a read with room for a byte gave none;
 /// `unflushed` is set from a write to the next flush that does not fail.
 #[derive(Drop)]
@@ -21,7 +21,7 @@ pub struct Watched<T> {
 }
 
 impl<T> Watched<T> {
-    /// Watches `inner` from here on: no flag is set, and no read was made (own rule).
+    /// Watches `inner` from here on: no flag is set, and no read was made.
     pub fn new(inner: T) -> Watched<T>
         ensures inner { inner_of result ≡ inner }
         ensures failed { has_failed result ≡ false }
@@ -38,42 +38,42 @@ impl<T> Watched<T> {
         }
     }
 
-    /// Whether a read, a write or a flush failed, or a write that was given a byte took none (own rule).
+    /// Whether a read, a write or a flush failed, or a write that was given a byte took none.
     pub fn failed(&self) -> bool
         ensures { result ≡ has_failed self.now }
     {
         self.failed
     }
 
-    /// Whether a read with room for a byte gave none (own rule).
+    /// Whether a read with room for a byte gave none.
     pub fn ended(&self) -> bool
         ensures { result ≡ has_ended self.now }
     {
         self.ended
     }
 
-    /// Whether a write was made after the last flush that did not fail (own rule).
+    /// Whether a write was made after the last flush that did not fail.
     pub fn unflushed(&self) -> bool
         ensures { result ≡ is_unflushed self.now }
     {
         self.unflushed
     }
 
-    /// How many reads were made; at 2^64 - 1 the count stays (own rule).
+    /// How many reads were made; at 2^64 - 1 the count stays.
     pub fn reads(&self) -> u64
         ensures { result ≡ reads_of self.now }
     {
         self.reads
     }
 
-    /// What is watched (own rule).
+    /// What is watched.
     pub fn inner(&self) -> &T
         ensures { result.now ≡ inner_of self.now }
     {
         &self.inner
     }
 
-    /// Gives back what was watched (own rule).
+    /// Gives back what was watched.
     pub fn into_inner(self) -> T
         ensures { result ≡ inner_of self }
     {

@@ -1,4 +1,4 @@
-//! When a mapping ceases to be live.
+//! When a mapping ceases to be live. Rules without a section are this profile's own.
 ghost use Rattle.std.specs.Prelude.{◌≡◌, ◌↔◌, false, IsTrue, IfOk, IsOkUnless};
 ghost use Rattle.lost_spec.specs.Mapping.{is_expires, expires_of, is_unexpired};
 
@@ -42,7 +42,7 @@ impl Expires {
     }
 
     /// Whether a mapping that expires then is live at an instant: always with one of the two words, and else before
-    /// the stamp's instant (own rule).
+    /// the stamp's instant.
     pub fn is_live_at(&self, now: &Moment) -> bool
         ensures { result ≡ is_unexpired (expires_seen self.now) now.now }
     {
@@ -52,7 +52,7 @@ impl Expires {
         }
     }
 
-    /// A copy, or want of memory (own rule).
+    /// A copy, or want of memory.
     pub fn clone(&self) -> Result<Expires, AllocError>
         ensures { IfOk result (λ e. expires_seen e ≡ expires_seen self.now) }
     {

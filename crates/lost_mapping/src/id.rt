@@ -1,12 +1,12 @@
-//! Which texts are sourceIds and keys.
+//! Which texts are sourceIds and keys. Rules without a section are this profile's own.
 ghost use Rattle.std.specs.Prelude.{◌≡◌, ◌&&◌, ◌==◌, not, nat_le};
 ghost use Rattle.std.specs.List.{list_all};
 ghost use Rattle.lost_spec.specs.Mapping.{is_id};
 
-/// The most bytes that a sourceId or a key has (own rule).
+/// The most bytes that a sourceId or a key has.
 const MAX_LEN: usize = 128;
 
-/// Whether a text is a sourceId or a key: 1 to 128 bytes, none below 32 and none 127 (own rule).
+/// Whether a text is a sourceId or a key: 1 to 128 bytes, none below 32 and none 127.
 pub(crate) fn is_id(text: &str) -> bool
     ensures { result ≡ is_id text.now }
 {

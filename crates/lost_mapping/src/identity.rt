@@ -1,4 +1,4 @@
-//! What names a mapping over the whole server.
+//! What names a mapping over the whole server. Rules without a section are this profile's own.
 ghost use Rattle.std.specs.Prelude.{◌≡◌, ◌&&◌, ◌++◌, bytes_eq, IsTrue, IsNone, IfSome, IfOk, IsOkUnless};
 ghost use Rattle.std.specs.Hash as fed;
 ghost use Rattle.std.proofs.Common.{rules};
@@ -16,7 +16,7 @@ use std::hash::{Hash, Hasher};
 use std::marker::Model;
 
 /// The source and the sourceId of a mapping, which name it over the whole server (RFC 5222, section 5.1; own scope).
-/// A sourceId is 1 to 128 bytes without bytes below 32 and without byte 127, and is compared byte for byte (own rule).
+/// A sourceId is 1 to 128 bytes without bytes below 32 and without byte 127, and is compared byte for byte.
 #[derive(Drop, Debug)]
 pub struct Identity {
     source: Source,
@@ -36,7 +36,7 @@ impl Model for Identity {
 }
 
 impl Identity {
-    /// Reads the source, in any case, and the sourceId (own rule). `BadSource` comes first, then `BadSourceId`, and
+    /// Reads the source, in any case, and the sourceId. `BadSource` comes first, then `BadSourceId`, and
     /// `Memory` is want of memory.
     pub fn parse(alloc: Global, source: &str, source_id: &str) -> Result<Identity, MappingError>
         ensures refused { IfSome (identity_fault source.now source_id.now) (λ e. result ≡ Err e) }
@@ -66,7 +66,7 @@ impl Identity {
         })
     }
 
-    /// The source (own rule).
+    /// The source.
     pub fn source(&self) -> &Source
         ensures value { result.now ≡ self.now.source }
         ensures well_formed { IsTrue (is_source self.now.source) }
@@ -74,7 +74,7 @@ impl Identity {
         &self.source
     }
 
-    /// The sourceId, as it was given (own rule).
+    /// The sourceId, as it was given.
     pub fn source_id(&self) -> &str
         ensures text { result.now ≡ self.now.source_id }
         ensures well_formed { IsTrue (is_id self.now.source_id) }
@@ -82,7 +82,7 @@ impl Identity {
         self.source_id.as_str()
     }
 
-    /// A copy, or want of memory (own rule).
+    /// A copy, or want of memory.
     pub fn clone(&self) -> Result<Identity, AllocError>
         ensures { IfOk result (λ i. i ≡ self.now) }
     {

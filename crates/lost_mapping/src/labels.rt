@@ -1,4 +1,4 @@
-//! Which texts are sources: their length, and each of their labels.
+//! Which texts are sources: their length, and each of their labels. Rules without a section are this profile's own.
 ghost use Rattle.std.specs.Prelude.{◌≡◌, ◌||◌, is_none};
 ghost use Rattle.std.specs.List.{list_all};
 ghost use Rattle.std.specs.Char.{to_ascii_lowercase};
@@ -6,10 +6,10 @@ ghost use Rattle.lost_spec.specs.Text.{lowered, first_is, last_is, is_hyphen};
 ghost use Rattle.lost_spec.specs.Service.{is_label_byte, label_fault, split_at_dots};
 ghost use Rattle.lost_spec.specs.Mapping.{is_source};
 
-/// The most bytes that a source has (own rule).
+/// The most bytes that a source has.
 const MAX_LEN: usize = 253;
 
-/// The most bytes that a label has (own rule).
+/// The most bytes that a label has.
 const MAX_LABEL_LEN: usize = 63;
 
 /// Whether a text is a source: 1 to 253 bytes, and labels joined by single dots, in any case (RFC 5222, section 5.1;
@@ -26,7 +26,7 @@ fn has_labels(text: &[u8]) -> bool
     text.split(|b| *b == b'.').all(is_label)
 }
 
-/// Whether a text is a label: 1 to 63 ASCII letters, digits and hyphens, and no hyphen at either end (own rule).
+/// Whether a text is a label: 1 to 63 ASCII letters, digits and hyphens, and no hyphen at either end.
 fn is_label(text: &[u8]) -> bool
     ensures { result ≡ is_none (label_fault (lowered text.now)) }
 {

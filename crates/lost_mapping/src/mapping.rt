@@ -1,4 +1,4 @@
-//! A mapping, built from its parts.
+//! A mapping, built from its parts. Rules without a section are this profile's own.
 ghost use Rattle.std.specs.Prelude.{◌≡◌, ◌≢◌, None, IfOk, IfErr, OnOk};
 ghost use Rattle.std.specs.Option.{option_copied};
 ghost use Rattle.lost_spec.specs.Mapping.{parts_fault, mapping_of, is_live};
@@ -65,7 +65,7 @@ impl Model for Mapping {
 impl Mapping {
     ghost use Rattle.lost_mapping.specs.Fields.{mapping_with};
 
-    /// The mapping of these parts (own rule).
+    /// The mapping of these parts.
     ///
     /// # Errors
     ///
@@ -195,7 +195,7 @@ impl Mapping {
         self.inner.key.as_deref()
     }
 
-    /// Whether the mapping is given where no other holds (own rule).
+    /// Whether the mapping is given where no other holds.
     pub fn is_default(&self) -> bool
         ensures is_default { result ≡ self.now.is_default }
         ensures is_shaped { IsShaped self.now }
@@ -210,7 +210,7 @@ impl Mapping {
         self.inner.expires.is_live_at(moment)
     }
 
-    /// The same mapping, or want of memory (own rule). It costs a pointer.
+    /// The same mapping, or want of memory. It costs a pointer.
     pub fn clone(&self) -> Result<Mapping, AllocError>
         ensures { IfOk result (λ copy. copy ≡ self.now) }
     {

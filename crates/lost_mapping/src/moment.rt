@@ -1,4 +1,4 @@
-//! Instants, as a day and a nanosecond of the day.
+//! Instants, as a day and a nanosecond of the day. Rules without a section are this profile's own.
 ghost use Rattle.std.specs.Prelude.{◌≡◌, ◌<◌, ◌≤◌, ◌↔◌, IsNone, IfSome};
 ghost use Rattle.lost_spec.specs.Moment.{Instant, is_earlier, nanoseconds_of_a_day};
 
@@ -8,7 +8,7 @@ use std::marker::Model;
 const NANOSECONDS_OF_A_DAY: u64 = 86_400_000_000_000;
 
 /// An instant in UTC: a civil day number from 1970-01-01, which is day 0, and a nanosecond of that day. Instants are
-/// ordered by day, and then by nanosecond (own rule).
+/// ordered by day, and then by nanosecond.
 #[derive(Clone, Copy, PartialEq, Eq, PartialOrd, Ord, Hash, Debug)]
 pub struct Moment {
     day: i32,
@@ -29,7 +29,7 @@ impl Model for Moment {
 }
 
 impl Moment {
-    /// The instant at a nanosecond of a day, or `None` from 86,400,000,000,000 nanoseconds on (own rule).
+    /// The instant at a nanosecond of a day, or `None` from 86,400,000,000,000 nanoseconds on.
     pub fn new(day: i32, nanosecond: u64) -> Option<Moment>
         ensures none { IsNone result ↔ (nanoseconds_of_a_day ≤ nanosecond) }
         ensures value { IfSome result (λ m. m ≡ record { day = day; nanosecond = nanosecond }) }
@@ -40,14 +40,14 @@ impl Moment {
         Some(Moment { day, nanosecond })
     }
 
-    /// The day number, 0 for 1970-01-01 and negative before it (own rule).
+    /// The day number, 0 for 1970-01-01 and negative before it.
     pub fn day(&self) -> i32
         ensures { result ≡ self.now.day }
     {
         self.day
     }
 
-    /// The nanosecond of the day (own rule).
+    /// The nanosecond of the day.
     pub fn nanosecond(&self) -> u64
         ensures value { result ≡ self.now.nanosecond }
         ensures within { result < nanoseconds_of_a_day }
@@ -55,7 +55,7 @@ impl Moment {
         self.nanosecond
     }
 
-    /// Whether this instant is before another (own rule). It is so exactly where `<` holds.
+    /// Whether this instant is before another. It is so exactly where `<` holds.
     pub fn is_earlier(&self, other: &Moment) -> bool
         ensures { result ≡ is_earlier self.now other.now }
     {

@@ -1,10 +1,10 @@
-//! Which texts are service numbers.
+//! Which texts are service numbers. Rules without a section are this profile's own.
 ghost use Rattle.std.specs.Prelude.{◌≡◌};
 ghost use Rattle.std.specs.List.{list_all};
 ghost use Rattle.std.specs.Option.{option_copied};
 ghost use Rattle.lost_spec.specs.Mapping.{is_number as is_number_text, is_dial_byte as is_dial_byte_code};
 
-/// The most bytes that a service number has (own rule).
+/// The most bytes that a service number has.
 const MAX_LEN: usize = 64;
 
 /// Whether a service number, where there is one, has 1 to 64 digits, stars and hashes (RFC 5222, section 5.7; the

@@ -1,4 +1,5 @@
 //! What a map desk hands in for a mapping, as plain texts and lists: nothing of it is checked yet.
+//! Rules without a section are this profile's own.
 
 /// The parts of a mapping (RFC 5222, section 5).
 #[derive(Debug, Drop)]
@@ -19,7 +20,7 @@ pub struct Parts {
     pub number: Option<String>,
     /// Where the mapping holds (RFC 5222, section 5.5).
     pub regions: Vec<Region>,
-    /// Whether the mapping is given where no other holds (own rule).
+    /// Whether the mapping is given where no other holds.
     pub is_default: bool,
     /// Names to show for the service (RFC 5222, section 5.3).
     pub display_names: Vec<DisplayName>,

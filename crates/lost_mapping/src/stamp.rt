@@ -1,4 +1,4 @@
-//! Stamps: a time in UTC as text, with the instant that it names.
+//! Stamps: a time in UTC as text, with the instant that it names. Rules without a section are this profile's own.
 ghost use Rattle.std.specs.Prelude.{◌≡◌, ◌↔◌, false, Some, IfOk};
 ghost use Rattle.lost_spec.specs.Moment.{is_stamp, read_stamp};
 
@@ -33,7 +33,7 @@ impl Model for Stamp {
 impl Stamp {
     ghost use Rattle.lost_mapping.specs.Stamp.{IsStampAt};
 
-    /// Reads a stamp (own rule). A text that is none is refused as `Bad`, and `Memory` is want of memory.
+    /// Reads a stamp. A text that is none is refused as `Bad`, and `Memory` is want of memory.
     pub fn parse(alloc: Global, text: &[u8]) -> Result<Stamp, StampError>
         ensures value { IfOk result (λ s. read_stamp text.now ≡ Some s) }
         ensures bad { (result ≡ Err StampError.Bad) ↔ (is_stamp text.now ≡ false) }
@@ -54,7 +54,7 @@ impl Stamp {
         })
     }
 
-    /// The text, as it was given (own rule).
+    /// The text, as it was given.
     pub fn text(&self) -> &str
         ensures text { result.now ≡ self.now.text }
         ensures read { read_stamp self.now.text ≡ Some self.now }
@@ -62,14 +62,14 @@ impl Stamp {
         self.text.as_str()
     }
 
-    /// The instant that the stamp names (own rule).
+    /// The instant that the stamp names.
     pub fn moment(&self) -> Moment
         ensures { result ≡ self.now.moment }
     {
         self.moment
     }
 
-    /// A copy, or want of memory (own rule).
+    /// A copy, or want of memory.
     pub fn clone(&self) -> Result<Stamp, AllocError>
         ensures { IfOk result (λ s. s ≡ self.now) }
     {

@@ -1,14 +1,14 @@
-//! Which texts are URIs, and which lists of them a mapping may have.
+//! Which texts are URIs, and which lists of them a mapping may have. Rules without a section are this profile's own.
 ghost use Rattle.std.specs.Prelude.{◌≡◌, ◌==◌, position};
 ghost use Rattle.std.specs.List.{list_all};
 ghost use Rattle.lost_spec.specs.Text.{same_text, lowered, is_between, is_among, has_repeat};
 ghost use Rattle.lost_spec.specs.Mapping.{is_uri as is_uri_text, are_uris as are_uri_texts, is_scheme as is_scheme_text, is_scheme_byte as is_scheme_byte_code, scheme_of as scheme_of_text};
 ghost use Rattle.lost_mapping.specs.Texts.{texts_of, schemes_of};
 
-/// The most bytes that a URI has (own rule).
+/// The most bytes that a URI has.
 const MAX_LEN: usize = 2048;
 
-/// The most URIs that a mapping has (own rule).
+/// The most URIs that a mapping has.
 const MAX_COUNT: usize = 16;
 
 /// Whether there are 1 to 16 URIs, and no scheme stands twice, in any case (RFC 5222, section 5.8; the number is an

@@ -1,4 +1,5 @@
 //! What is found for a service at a place (RFC 5222, section 8; policy own).
+//! Rules without a section are this profile's own.
 ghost use Rattle.std.specs.Prelude.{◌≡◌, IfOk};
 ghost use Rattle.lost_spec.specs.Service.{chain};
 ghost use Rattle.lost_spec.specs.Find.{at, defaults, first_with, found};
@@ -92,7 +93,7 @@ fn first_defaults<H: Holdings>(
     Ok(None)
 }
 
-/// The live defaults of a service (own rule), or want of memory.
+/// The live defaults of a service, or want of memory.
 fn defaults<H: Holdings>(
     alloc: Global,
     holdings: &H,

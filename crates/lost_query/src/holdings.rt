@@ -1,4 +1,4 @@
-//! What holds mappings, and what it is asked.
+//! What holds mappings, and what it is asked. Rules without a section are this profile's own.
 ghost use Rattle.std.specs.Prelude.{◌≡◌, ◌<◌, Some, IfOk, length, position, slice_get};
 ghost use Rattle.lost_spec.specs.Book as spec;
 ghost use Rattle.lost_spec.specs.Positions.{positions};
@@ -11,21 +11,21 @@ use lost_mapping::{Mapping, Moment};
 use lost_urn::ServiceUrn;
 use std::alloc::AllocError;
 
-/// What holds mappings, however it keeps them: it is seen as a book (own rule). A position is that of a mapping in the
+/// What holds mappings, however it keeps them: it is seen as a book. A position is that of a mapping in the
 /// book's list, from 0; lists of positions are rising.
 pub trait Holdings {
     /// The book that it is seen as.
     ghost book: { Self → spec.Book };
 
-    /// How many edits were accepted (own rule).
+    /// How many edits were accepted.
     fn edition(&self) -> u64
         ensures { result ≡ (book self.now).edits };
 
-    /// How many mappings are held (own rule).
+    /// How many mappings are held.
     fn len(&self) -> usize
         ensures { result ≡ length (book self.now).mappings };
 
-    /// The mapping at a position, which is below `len` (own rule).
+    /// The mapping at a position, which is below `len`.
     fn mapping(&self, position: usize) -> &Mapping
         requires { position < length (book self.now).mappings }
         ensures { slice_get (book self.now).mappings position ≡ Some result.now };
@@ -54,7 +54,7 @@ pub trait Holdings {
         ensures { IfOk result (λ places.
             places.items ≡ positions (is_holder moment.now (place_of place.now) service.now) (book self.now).mappings) };
 
-    /// The live defaults of this service (own rule), or want of memory.
+    /// The live defaults of this service, or want of memory.
     fn defaults(&self, moment: &Moment, service: &ServiceUrn) -> Result<Vec<usize>, AllocError>
         ensures { IfOk result (λ places.
             places.items ≡ positions (is_standby moment.now service.now) (book self.now).mappings) };

@@ -1,4 +1,4 @@
-//! The book that is published, and the book of what is staged too.
+//! The book that is published, and the book of what is staged too. Rules without a section are this profile's own.
 ghost use Rattle.std.specs.Prelude.{◌≡◌, ◌≢◌, ◌-◌, false, None, Some, Ok, Err, IfOk, IsErr, Option, Result};
 ghost use Rattle.lost_spec.specs.Text.{Text};
 ghost use Rattle.lost_spec.specs.Moment.{Instant};
@@ -26,7 +26,7 @@ const MAX_EDITS: u32 = 4_294_967_295;
 /// The number of the refusal for want of memory.
 const MEMORY: u8 = 20;
 
-/// The book that requests are answered from, and the book that edits are staged in (own rule). A commit puts a copy of
+/// The book that requests are answered from, and the book that edits are staged in. A commit puts a copy of
 /// the staged one in the place of the published one. Contracts see it as the record `Books`.
 #[derive(Drop)]
 pub(crate) struct Books {

@@ -1,4 +1,5 @@
 //! The refusals that definitions and code share. A variant's number, where a line or a table shows one, is its `code`.
+//! Rules without a section are this profile's own.
 
 ghost use Rattle.std.specs.Prelude.{◌≡◌};
 ghost use Rattle.lost_spec.specs.Codes.{urn_code, geo_code, ring_code, civic_code, source_code, stamp_code, mapping_code, edit_code};
@@ -86,7 +87,7 @@ impl RingError {
     }
 }
 
-/// Why a list of pairs is no civic address or no civic pattern (own rule). The numbers are not the order of the
+/// Why a list of pairs is no civic address or no civic pattern. The numbers are not the order of the
 /// checks: an address checks 3, 2, 1, 4, and a pattern 3, 2, 5, 1, 4.
 #[derive(Clone, Copy, PartialEq, Eq, Debug, Error)]
 pub enum CivicError {
@@ -210,7 +211,7 @@ impl MappingError {
     }
 }
 
-/// Why a book refuses an edit (own rule).
+/// Why a book refuses an edit.
 #[derive(Clone, Copy, PartialEq, Eq, Debug, Error)]
 pub enum EditError {
     #[error("a mapping with this source and sourceId is held")]

@@ -1,4 +1,4 @@
-//! One label of a service URN, in any case.
+//! One label of a service URN, in any case. Rules without a section are this profile's own.
 ghost use Rattle.std.specs.Prelude.{◌≡◌, ◌||◌};
 ghost use Rattle.std.specs.List.{list_all};
 ghost use Rattle.std.specs.Char.{to_ascii_lowercase};
@@ -8,7 +8,7 @@ ghost use Rattle.lost_urn.specs.Spelling.{AnswersFault};
 
 use lost_spec::faults::UrnError;
 
-/// The most bytes that a label has (own rule).
+/// The most bytes that a label has.
 const MAX_LEN: usize = 63;
 
 /// Refuses a label that is empty, has a byte other than ASCII letters, digits and hyphens, begins or ends with a

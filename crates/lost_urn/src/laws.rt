@@ -1,4 +1,5 @@
 //! Laws that callers may rest on. Each function's contract is the law, and its body is empty.
+//! Rules without a section are this profile's own.
 ghost use Rattle.std.specs.Prelude.{◌≡◌, Ok, IsTrue};
 ghost use Rattle.std.specs.Ordering.{nat_cmp};
 ghost use Rattle.std.specs.Cmp.Lexicographic.{slice_cmp};
@@ -21,7 +22,7 @@ pub fn one_text_one_service()
     ensures { (s u : Service) → IsTrue (is_service s) → IsTrue (is_service u) → service_text s ≡ service_text u → s ≡ u }
 {}
 
-/// The order of services is the order of their texts (own rule).
+/// The order of services is the order of their texts.
 pub fn order_is_of_texts()
     ensures { (s u : Service) → IsTrue (is_service s) → IsTrue (is_service u) → service_cmp s u ≡ slice_cmp nat_cmp (service_text s) (service_text u) }
 {}

@@ -1,4 +1,5 @@
 //! Which texts spell a service: the prefix, each label from the left, and the number of labels.
+//! Rules without a section are this profile's own.
 ghost use Rattle.std.specs.Prelude.{◌≡◌, ◌≢◌, ◌++◌, IfSome, IfNone, IfOk, IfErr, IsOkAnd, length};
 ghost use Rattle.lost_spec.specs.Text.{Text, lowered};
 ghost use Rattle.lost_spec.specs.Service.{labels_fault, urn_prefix, read_service};
@@ -10,7 +11,7 @@ use lost_spec::faults::UrnError;
 /// What every service URN begins with, in lower case (RFC 5031, section 3).
 const PREFIX: &[u8; 12] = b"urn:service:";
 
-/// The most labels that a service has (own rule).
+/// The most labels that a service has.
 const MAX_LABELS: usize = 8;
 
 /// The number of labels of the service that `text` spells, or the first refusal: the prefix, then each label

@@ -1,4 +1,4 @@
-//! How edits change a book.
+//! How edits change a book. Rules without a section are this profile's own.
 ghost use Rattle.std.specs.Prelude.{◌≡◌, ◌≢◌, true, None, Some, IfErr, OnOk, OnErr};
 ghost use Rattle.lost_spec.specs.Book.{Publish, Replace, Withdraw, refusal, after};
 ghost use Rattle.lost_book.specs.Applied.{IsApplied, is_publish};
@@ -12,7 +12,7 @@ use lost_spec::faults::EditError;
 
 impl Book {
     /// Applies an edit: a publish appends, a replacement keeps the place, a withdrawal closes up, and the edition rises
-    /// by one (own rule). Only a publish takes memory.
+    /// by one. Only a publish takes memory.
     ///
     /// # Errors
     ///

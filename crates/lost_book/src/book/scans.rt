@@ -1,4 +1,5 @@
 //! The questions that a book is asked, each answered by a scan of the list. Lists are of positions, rising.
+//! Rules without a section are this profile's own.
 ghost use Rattle.std.specs.Prelude.{◌≡◌, Bool, None, IfOk, MatchOption, position, slice_get};
 ghost use Rattle.std.specs.Fn.{FnReturnsAt};
 ghost use Rattle.lost_spec.specs.Mapping as spec;
@@ -74,7 +75,7 @@ impl Book {
         })
     }
 
-    /// The defaults that are live and have this service (own rule), or want of memory.
+    /// The defaults that are live and have this service, or want of memory.
     pub fn defaults(&self, moment: &Moment, service: &ServiceUrn) -> Result<Vec<usize>, AllocError>
         ensures { IfOk result (λ places.
             places.items ≡ positions (is_standby moment.now service.now) self.now.mappings) }
