@@ -23,7 +23,7 @@ pub(crate) const GEODETIC: &str = "geodetic-2d";
 pub(crate) const CIVIC: &str = "civic";
 
 /// The most locations of a request (own rule).
-const MOST_LOCATIONS: usize = 8;
+const MAX_LOCATIONS: usize = 8;
 
 /// A list of 1 to 8 locations, no two of one profile (RFC 5222, section 8.3.1; bounds own).
 #[derive(Drop)]
@@ -53,7 +53,7 @@ impl Kind for Locations {
 fn are_locations(locations: &[Location]) -> bool
     ensures { result ≡ are_locations (locations_of locations.now) }
 {
-    1 <= locations.len() && locations.len() <= MOST_LOCATIONS && !repeats_profile(locations)
+    1 <= locations.len() && locations.len() <= MAX_LOCATIONS && !repeats_profile(locations)
 }
 
 /// Whether a profile stands twice. It takes the square of their number, which is at most 8 where this is asked.
