@@ -6,7 +6,7 @@ ghost use Rattle.lost_book.specs.Bounds.{AreAllowed};
 use std::marker::Model;
 
 /// The most mappings that a book may hold.
-const GREATEST_MAPPINGS: u32 = 65_536;
+const MAX_MAPPINGS: u32 = 65_536;
 
 /// How many mappings a book may hold, 1 to 65,536, and how many edits it may accept, at least 1. Contracts
 /// see them as the record `Limits`.
@@ -34,7 +34,7 @@ impl Limits {
     pub fn new(mappings: u32, edits: u32) -> Option<Limits>
         ensures { result ≡ limits_of mappings edits }
     {
-        if mappings >= 1 && mappings <= GREATEST_MAPPINGS && edits >= 1 {
+        if mappings >= 1 && mappings <= MAX_MAPPINGS && edits >= 1 {
             Some(Limits { mappings, edits })
         } else {
             None

@@ -10,10 +10,10 @@ use crate::Element;
 use lost_spec::faults::CivicError;
 
 /// The most pairs that an address or a pattern has.
-const MOST_PAIRS: usize = 128;
+const MAX_PAIRS: usize = 128;
 
 /// The most bytes that a name or a value has.
-const MOST_BYTES: usize = 512;
+const MAX_BYTES: usize = 512;
 
 /// The first refusal of an address, other than memory: too long, a name twice, no known name.
 pub(crate) fn first_address_fault(pairs: &[(String, String)]) -> Option<CivicError>
@@ -50,8 +50,8 @@ pub(crate) fn first_pattern_fault(pairs: &[(String, String)]) -> Option<CivicErr
 fn exceeds_limits(pairs: &[(String, String)]) -> bool
     ensures { result ≡ is_too_long (seen_pairs pairs.now) }
 {
-    pairs.len() > MOST_PAIRS
-        || pairs.iter().any(|pair| pair.0.len() > MOST_BYTES || pair.1.len() > MOST_BYTES)
+    pairs.len() > MAX_PAIRS
+        || pairs.iter().any(|pair| pair.0.len() > MAX_BYTES || pair.1.len() > MAX_BYTES)
 }
 
 /// Whether a name stands twice. It takes the square of their number, which is at most 128 where this is asked.

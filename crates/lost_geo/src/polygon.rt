@@ -11,9 +11,9 @@ use crate::point::GeoPoint;
 use lost_spec::faults::RingError;
 use std::marker::Model;
 
-const LEAST_LEN: usize = 4;
+const MIN_POSITIONS: usize = 4;
 
-const GREATEST_LEN: usize = 4096;
+const MAX_POSITIONS: usize = 4096;
 
 /// The area that one exterior ring bounds (RFC 5222, section 12.2). The plane is flat, and inside is by the even-odd
 /// rule; orientation and self-crossing are not examined (own rules). Contracts see it as the list of its positions.
@@ -87,13 +87,13 @@ impl Polygon {
 fn check_ring(positions: &[GeoPoint]) -> Result<(), RingError>
     ensures { result_err result ≡ ring_fault positions.now }
 {
-    if positions.len() < LEAST_LEN {
+    if positions.len() < MIN_POSITIONS {
         return Err(RingError::TooShort);
     }
     if !is_closed(positions) {
         return Err(RingError::NotClosed);
     }
-    if positions.len() > GREATEST_LEN {
+    if positions.len() > MAX_POSITIONS {
         return Err(RingError::TooLong);
     }
     Ok(())

@@ -24,7 +24,7 @@ pub(crate) const GEODETIC: &str = "geodetic-2d";
 pub(crate) const CIVIC: &str = "civic";
 
 /// The most locations of a request.
-const MOST_LOCATIONS: usize = 8;
+const MAX_LOCATIONS: usize = 8;
 
 /// A list of 1 to 8 locations, no two of one profile (RFC 5222, section 8.3.1; bounds own).
 #[derive(Drop)]
@@ -54,7 +54,7 @@ impl Kind for Locations {
 fn are_locations(locations: &[Location]) -> bool
     ensures { result ≡ are_locations (locations_of locations.now) }
 {
-    1 <= locations.len() && locations.len() <= MOST_LOCATIONS && !repeats_profile(locations)
+    1 <= locations.len() && locations.len() <= MAX_LOCATIONS && !repeats_profile(locations)
 }
 
 /// Whether a profile stands twice. It takes the square of their number, which is at most 8 where this is asked.
@@ -75,8 +75,8 @@ fn has_profile(locations: &[Location], profile: &str) -> bool
     ensures { result ≡ is_among profile.now (map (λ location. location.profile) (locations_of locations.now)) }
 {
     locations
-        .iter()
-        .any(|location| profile == location.profile.as_str())
+       .iter()
+       .any(|location| profile == location.profile.as_str())
 }
 
 impl Kind for Location {

@@ -11,7 +11,7 @@ use serde_json::{Map, Value};
 use std::alloc::Global;
 
 /// The most names of a path.
-const MOST_NAMES: usize = 32;
+const MAX_NAMES: usize = 32;
 
 /// At most 32 texts: the names of the servers that a request came by (RFC 5222, section 6; bound own).
 #[derive(Drop)]
@@ -29,7 +29,7 @@ impl Kind for Path {
 
     fn read(alloc: Global, value: &Value) -> Result<Path, ReadError> {
         let names = Vec::<String>::read(alloc, value)?;
-        if names.len() <= MOST_NAMES {
+        if names.len() <= MAX_NAMES {
             Ok(Path(names))
         } else {
             Err(ReadError::BadRequest)
