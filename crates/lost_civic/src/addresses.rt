@@ -2,6 +2,7 @@
 
 ghost use Rattle.std.specs.Prelude.{◌≡◌, ◌≢◌, None, Some, IfOk, IfErr, OnOk, IfSome};
 ghost use Rattle.std.specs.Option.{option_copied};
+ghost use Rattle.std.specs.Result.{result_err};
 ghost use Rattle.std.specs.Cmp.{partial_equiv_from_equiv};
 ghost use Rattle.lost_spec.specs.Civic.{address_fault, has_value};
 ghost use Rattle.lost_civic.specs.Element.{element_name};
@@ -62,6 +63,16 @@ impl CivicAddress {
             return Err(CivicError::Memory);
         };
         Ok(CivicAddress { pairs, texts })
+    }
+
+    /// Ok where `from_pairs` takes these pairs, and else its refusal. It takes no memory.
+    pub fn check(pairs: &[(String, String)]) -> Result<(), CivicError>
+        ensures { result_err result ≡ address_fault (seen_pairs pairs.now) }
+    {
+        match first_address_fault(pairs) {
+            Some(fault) => Err(fault),
+            None => Ok(()),
+        }
     }
 
     /// The pairs as they were given.

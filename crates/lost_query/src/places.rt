@@ -1,5 +1,6 @@
 //! The place of the location used, or the error where there is none.
-ghost use Rattle.std.specs.Prelude.{◌≡◌, ℕ, Some, IfOk, option_map};
+ghost use Rattle.std.specs.Prelude.{◌≡◌, ℕ, None, Some, Ok, IfOk, IfSome, option_map};
+ghost use Rattle.lost_spec.specs.Civic.{address_fault};
 ghost use Rattle.lost_spec.specs.Text.{Text};
 ghost use Rattle.lost_spec.specs.Find as spec;
 ghost use Rattle.lost_spec.specs.Request.{Reply};
@@ -90,10 +91,15 @@ fn point_place(lat: i64, lon: i64) -> Option<Place>
     }
 }
 
-/// The address of these pairs, or none where they are refused (RFC 5222, section 12.3), or want of memory.
+/// The address of these pairs, or none where they are refused (RFC 5222, section 12.3), or want of memory. Want of memory
+/// hides no refusal: the pairs are checked before they are copied.
 fn address_place(alloc: Global, pairs: &Vec<(String, String)>) -> Result<Option<Place>, AllocError>
-    ensures { IfOk result (λ place. option_map seen_place place ≡ address_place (seen_pairs pairs.now.items)) }
+    ensures place { IfOk result (λ place. option_map seen_place place ≡ address_place (seen_pairs pairs.now.items)) }
+    ensures checked_first { IfSome (address_fault (seen_pairs pairs.now.items)) (λ _. result ≡ Ok None) }
 {
+    if CivicAddress::check(pairs.as_slice()).is_err() {
+        return Ok(None);
+    }
     match CivicAddress::from_pairs(alloc, copied_pairs(pairs)?) {
         Ok(address) => Ok(Some(Place::Address(address))),
         Err(fault) => {
