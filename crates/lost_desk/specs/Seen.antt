@@ -1,0 +1,55 @@
+-- What contracts see of a desk, of readers and of what a desk tells.
+use Rattle.std.specs.Prelude.{ℕ, List, [], ◌∷◌, ◌++◌}
+use Rattle.lost_spec.specs.Book.{Limits, Book, Edit, book_of}
+use Rattle.lost_history.specs.History.{Opening}
+
+-- a desk: which opening it is of, its limits, the edits that are published, and those that are pending
+pub record DeskSeen : Type 0 where
+  pub opening : Opening
+  pub limits : Limits
+  pub published : List Edit
+  pub pending : List Edit
+
+-- a reader: which opening it is of, its limits, the edits that it has seen or was told of, and how often it entered the copies
+pub record ReaderSeen : Type 0 where
+  pub opening : Opening
+  pub limits : Limits
+  pub seen : List Edit
+  pub entries : ℕ
+
+-- readers: how many are left, and what each of them is
+pub record ReadersSeen : Type 0 where
+  pub left : ℕ
+  pub each : ReaderSeen
+
+-- a desk with no edits
+abbrev pub new_desk : Opening → Limits → DeskSeen
+new_desk opening limits = record { opening = opening; limits = limits; published = []; pending = [] }
+
+-- a reader that has seen nothing
+abbrev pub new_reader : Opening → Limits → ReaderSeen
+new_reader opening limits = record { opening = opening; limits = limits; seen = []; entries = 0 }
+
+-- the book of the published and the pending edits together
+abbrev pub staged_book : DeskSeen → Book
+staged_book d = book_of d.limits (d.published ++ d.pending)
+
+-- the book of the edits that a reader has seen
+abbrev pub seen_book : ReaderSeen → Book
+seen_book r = book_of r.limits r.seen
+
+-- the desk with one more edit pending
+abbrev pub with_staged : DeskSeen → Edit → DeskSeen
+with_staged d e = record { opening = d.opening; limits = d.limits; published = d.published; pending = d.pending ++ e ∷ [] }
+
+-- the desk with all that was pending published
+abbrev pub with_committed : DeskSeen → DeskSeen
+with_committed d = record { opening = d.opening; limits = d.limits; published = d.published ++ d.pending; pending = [] }
+
+-- the reader with this list seen
+abbrev pub with_seen : ReaderSeen → List Edit → ReaderSeen
+with_seen r es = record { opening = r.opening; limits = r.limits; seen = es; entries = r.entries }
+
+-- one reader less
+abbrev pub one_less : ReadersSeen → ℕ → ReadersSeen
+one_less r left = record { left = left; each = r.each }

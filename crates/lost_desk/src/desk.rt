@@ -1,0 +1,149 @@
+//! The desk, which stages edits and publishes them.
+ghost use Rattle.std.specs.Prelude.{◌≡◌, ◌≢◌, [], None, Some, length, IfOk, IfErr, IsOk, OnOk, OnErr};
+ghost use Rattle.lost_spec.specs.Book.{refusal, empty_book};
+ghost use Rattle.lost_book.specs.Edit.{edit_of};
+ghost use Rattle.lost_history.specs.History.{beginning};
+ghost use Rattle.lost_desk.specs.Seen.{new_desk, staged_book, with_staged, with_committed};
+ghost use Rattle.lost_desk.specs.Copies.{first_version};
+
+use crate::CopyBook;
+use crate::announce::announce;
+use crate::copies::Copies;
+use crate::faults::CommitError;
+use crate::queue::publish_all;
+use crate::told::Told;
+use lost_book::{Edit, EditError};
+use lost_history::{Front, Head};
+use std::collections::VecDeque;
+use std::marker::{Brand, Model};
+use std::sync::Wait;
+
+/// The one publisher. Contracts see its opening and limits, the list of edits that is published, and the edits that are
+/// pending. It is not `Drop`: end it by `close`.
+pub struct Desk {
+    copies: Copies,
+    /// Edits that the copies do not have yet, behind those that they have.
+    queue: VecDeque<Edit>,
+    /// The book of all edits, published and pending.
+    ahead: CopyBook,
+    /// How far the history goes.
+    front: Front,
+    head: Head,
+}
+
+impl Model for Desk {
+    ghost use Rattle.lost_desk.specs.Seen.{DeskSeen};
+    ghost use Rattle.lost_desk.specs.Held.{desk_seen, IsDesk};
+
+    ghost Value = { DeskSeen };
+
+    ghost view = { λ d. desk_seen d.copies d.queue.items };
+
+    ghost invariant = { λ d. IsDesk d.copies d.queue.items d.ahead d.front d.head };
+}
+
+impl Desk {
+    #[tactic(auto, using(crate::proofs::DeskLemmas::staged_is))]
+    /// Stages an edit behind the others that are pending, and gives how many are pending then. It is checked against the
+    /// book of all edits, published and pending.
+    ///
+    /// # Errors
+    ///
+    /// The refusal of that book, and after it [`EditError::Memory`] for want of memory. The desk is then unchanged.
+    pub fn stage(&mut self, edit: Edit) -> Result<u64, EditError>
+        ensures accepted { OnOk result (refusal (staged_book self.old) (edit_of edit) ≡ None) }
+        ensures staged { OnOk result (self.new ≡ with_staged self.old (edit_of edit)) }
+        ensures pending { IfOk result (λ pending. pending ≡ length self.new.pending) }
+        ensures refused { IfErr result (λ e. e ≢ EditError.Memory →
+            refusal (staged_book self.old) (edit_of edit) ≡ Some e) }
+        ensures memory_last { result ≡ Err EditError.Memory → refusal (staged_book self.old) (edit_of edit) ≡ None }
+        ensures unchanged { OnErr result (self.new ≡ self.old) }
+    {
+        self.ahead.check(&edit)?;
+        let Ok(copy) = edit.clone() else {
+            return Err(EditError::Memory);
+        };
+        if self.queue.reserve(1).is_err() {
+            return Err(EditError::Memory);
+        }
+        self.ahead.apply(copy)?;
+        self.queue.push_back_reserved(edit);
+        Ok(self.ahead.edition() - self.copies.shown().front.len())
+    }
+
+    /// Publishes all pending edits at once, and gives the edition: how many edits are published. With nothing pending it
+    /// gives the edition again and takes no memory. It waits for readers that still read the copy before the last.
+    ///
+    /// # Errors
+    ///
+    /// [`CommitError::Memory`] for want of memory. Nothing is then published, and all stays pending.
+    pub fn commit<R: Wait>(&mut self, rt: &R) -> Result<u64, CommitError>
+        ensures committed { OnOk result (self.new ≡ with_committed self.old) }
+        ensures edition { IfOk result (λ edition. edition ≡ length self.new.published) }
+        ensures unchanged { OnErr result (self.new ≡ self.old) }
+        ensures nothing_pending { self.old.pending ≡ [] → IsOk result }
+    {
+        let edition = self.ahead.edition();
+        if edition == self.copies.shown().front.len() {
+            return Ok(edition);
+        }
+        if !announce::<Brand>(
+            &mut self.front,
+            &self.head,
+            &self.copies,
+            &self.queue,
+            edition,
+        ) {
+            return Err(CommitError::Memory);
+        }
+        publish_all(rt, &mut self.copies, &mut self.queue, &self.front)?;
+        Ok(edition)
+    }
+
+    /// Tells the published list, for one reader to learn.
+    pub fn tell(&mut self) -> Told
+        ensures told { result ≡ beginning self.old.opening self.old.published }
+        ensures same { self.new ≡ self.old }
+    {
+        Told {
+            front: self.copies.shown().front.again(),
+        }
+    }
+
+    /// Ends the desk, and drops what is pending. Readers answer want of memory from then on. It waits for readers that
+    /// still read.
+    pub fn close<R: Wait>(self, rt: &R) {
+        let Desk {
+            copies,
+            queue: _queue,
+            ahead: _ahead,
+            front: _front,
+            head: _head,
+        } = self;
+        copies.close(rt);
+    }
+
+    /// A desk with no edits.
+    pub(crate) fn of(
+        copies: Copies,
+        queue: VecDeque<Edit>,
+        ahead: CopyBook,
+        front: Front,
+        head: Head,
+    ) -> Desk
+        requires shown { copies.shown ≡ first_version front.opening ahead.limits }
+        requires nothing { (copies.waiting ≡ []) × (queue.items ≡ []) }
+        requires ahead { ahead ≡ empty_book ahead.limits }
+        requires front { front.list ≡ [] }
+        requires head { head ≡ front.opening }
+        ensures { result ≡ new_desk front.opening ahead.limits }
+    {
+        Desk {
+            copies,
+            queue,
+            ahead,
+            front,
+            head,
+        }
+    }
+}

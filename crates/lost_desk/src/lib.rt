@@ -1,0 +1,26 @@
+//! The desk and its readers: one publisher stages edits and commits them, and readers answer from the copy that was
+//! committed, in threads of their own and without a lock. Rules without a section are this profile's own.
+#![tactic(auto)]
+
+mod announce;
+mod copies;
+mod desk;
+mod faults;
+mod open;
+mod queue;
+mod reader;
+mod readers;
+mod rule;
+mod told;
+mod version;
+mod view;
+
+/// The book in each copy.
+pub type CopyBook = lost_book::Book;
+
+pub use desk::Desk;
+pub use faults::{CommitError, OpenError};
+pub use open::open_desk;
+pub use reader::Reader;
+pub use readers::Readers;
+pub use told::Told;

@@ -1,0 +1,140 @@
+//! How a desk is opened with its readers.
+ghost use Rattle.std.specs.Prelude.{◌≡◌, ◌≤◌, ◌<◌, ◌⊎◌, [], drop, IfOk};
+ghost use Rattle.left_right.specs.Sides.{view};
+ghost use Rattle.lost_desk.specs.Seen.{new_desk, new_reader};
+ghost use Rattle.lost_desk.specs.Copies.{first_version};
+ghost use Rattle.lost_desk.specs.Rule.{named, IsNewWriter, reader_of};
+
+use crate::CopyBook;
+use crate::copies::{Copies, CopyWriter};
+use crate::desk::Desk;
+use crate::faults::OpenError;
+use crate::reader::Reader;
+use crate::readers::Readers;
+use crate::rule::{Meeting, Naming, Telling};
+use crate::version::Version;
+use lost_book::Limits;
+use lost_history::{Front, open_history};
+use std::alloc::{AllocError, Global};
+use std::collections::VecDeque;
+use std::snapshot::Snapshot;
+use std::sync::Wait;
+
+/// The most readers that a desk may have.
+const GREATEST_WORKERS: u32 = 64;
+
+/// Opens a desk with no edits within these limits, and so many readers, 1 to 64. It may wait where a reader's place is
+/// refused.
+///
+/// # Errors
+///
+/// [`OpenError::Workers`] unless there are 1 to 64 workers; [`OpenError::Memory`] for want of memory.
+pub fn open_desk<R: Wait>(
+    rt: &R,
+    alloc: Global,
+    limits: Limits,
+    workers: u32,
+) -> Result<(Desk, Readers), OpenError>
+    ensures desk { IfOk result (λ r. r.0 ≡ new_desk r.0.opening limits) }
+    ensures readers { IfOk result (λ r. r.1.each ≡ new_reader r.0.opening limits) }
+    ensures left { IfOk result (λ r. r.1.left ≡ workers) }
+    ensures accepted { IfOk result (λ _. (1 ≤ workers) × (workers ≤ 64)) }
+    ensures refused { result ≡ Err OpenError.Workers → (workers < 1) ⊎ (64 < workers) }
+    ensures memory_last { result ≡ Err OpenError.Memory → (1 ≤ workers) × (workers ≤ 64) }
+{
+    if workers < 1 || workers > GREATEST_WORKERS {
+        return Err(OpenError::Workers);
+    }
+    let (head, front) = open_history();
+    let ahead = CopyBook::new(alloc, limits)?;
+    let (copies, readers) = open_copies(rt, alloc, limits, &front, workers)?;
+    let desk = Desk::of(copies, VecDeque::new(alloc), ahead, front, head);
+    Ok((desk, readers))
+}
+
+/// Two copies of an empty book, and so many readers of them.
+fn open_copies<R: Wait>(
+    rt: &R,
+    alloc: Global,
+    limits: Limits,
+    front: &Front,
+    workers: u32,
+) -> Result<(Copies, Readers), AllocError>
+    requires { (0 < workers) × (workers ≤ 64) × (front.now.list ≡ []) }
+    ensures copies { IfOk result (λ r. (r.0.shown ≡ first_version front.now.opening limits) × (r.0.waiting ≡ [])) }
+    ensures readers { IfOk result (λ r. (r.1.each ≡ new_reader front.now.opening limits) × (r.1.left ≡ workers)) }
+{
+    let mut writer = open_writer(rt, alloc, limits, front, workers)?;
+    match make_readers(alloc, &mut writer, workers) {
+        Ok(readers) => Ok((Copies::of(writer), readers)),
+        Err(_) => {
+            let _shown = writer.take(rt);
+            Err(AllocError)
+        }
+    }
+}
+
+#[tactic(auto, using(crate::proofs::StepLemmas::opens_first, crate::proofs::StepLemmas::opening_names))]
+/// The writer of two copies of an empty book, whose seat knows their limits and opening.
+fn open_writer<R: Wait>(
+    rt: &R,
+    alloc: Global,
+    limits: Limits,
+    front: &Front,
+    workers: u32,
+) -> Result<CopyWriter, AllocError>
+    requires { (0 < workers) × (workers ≤ 64) × (front.now.list ≡ []) }
+    ensures shown { IfOk result (λ w. w.desk.shown.value ≡ first_version front.now.opening limits) }
+    ensures waiting { IfOk result (λ w. drop w.behind w.log.items ≡ []) }
+    ensures named { IfOk result (λ w. view w.desk.place ≡ named (first_version front.now.opening limits)) }
+{
+    let first = open_version(alloc, limits, front)?;
+    let second = open_version(alloc, limits, front)?;
+    let writer: CopyWriter = CopyWriter::new(alloc, first, second, workers as usize)?;
+    let (writer, result) = writer.publish_as::<Naming, R>(rt);
+    if result.is_err() {
+        let _shown = writer.take(rt);
+        return Err(AllocError);
+    }
+    Ok(writer)
+}
+
+/// A copy of an empty book.
+fn open_version(alloc: Global, limits: Limits, front: &Front) -> Result<Version, AllocError>
+    requires { front.now.list ≡ [] }
+    ensures { IfOk result (λ v. v ≡ first_version front.now.opening limits) }
+{
+    Ok(Version {
+        book: CopyBook::new(alloc, limits)?,
+        front: front.again(),
+    })
+}
+
+#[tactic(auto, using(crate::proofs::ListLemmas::replicate_push))]
+/// So many readers, which have seen nothing.
+fn make_readers(alloc: Global, writer: &mut CopyWriter, workers: u32) -> Result<Readers, AllocError>
+    requires { (0 < workers) × IsNewWriter (writer.old.desk.shown.value) (view writer.old.desk.place) }
+    ensures kept { (writer.new.desk.shown ≡ writer.old.desk.shown) × (drop writer.new.behind writer.new.log.items ≡ drop writer.old.behind writer.old.log.items) }
+    ensures readers { IfOk result (λ r. (r.each ≡ reader_of writer.old.desk.shown.value) × (r.left ≡ workers)) }
+{
+    let mut readers = Vec::with_capacity(alloc, workers as usize)?;
+    let first = make_reader(writer)?;
+    let each = Snapshot::of(&first);
+    readers.push(first)?;
+    while readers.len() < workers as usize {
+        readers.push(make_reader(writer)?)?;
+    }
+    Ok(Readers::of(readers, each))
+}
+
+#[tactic(auto, using(crate::proofs::StepLemmas::admits, crate::proofs::StepLemmas::forks, crate::proofs::StepLemmas::merges))]
+/// One more reader, which has seen nothing. It learns what the copies are from the writer's seat.
+fn make_reader(writer: &mut CopyWriter) -> Result<Reader, AllocError>
+    requires { IsNewWriter (writer.old.desk.shown.value) (view writer.old.desk.place) }
+    ensures kept { (writer.new.desk.shown ≡ writer.old.desk.shown) × (writer.new.log ≡ writer.old.log) × (writer.new.behind ≡ writer.old.behind) × (view writer.new.desk.place ≡ view writer.old.desk.place) }
+    ensures reader { IfOk result (λ r. r ≡ reader_of writer.old.desk.shown.value) }
+{
+    let mut seat = writer.factory().reader()?;
+    seat.learn::<Meeting>(writer.tell::<Telling>());
+    Ok(Reader::of(seat, writer.published().front.again()))
+}

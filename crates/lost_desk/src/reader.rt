@@ -1,0 +1,131 @@
+//! A reader, which answers from the copy that was published last.
+ghost use Rattle.std.specs.Prelude.{◌≡◌, ◌+◌, Some, IsTrue, length, IfOk, OnOk};
+ghost use Rattle.lost_spec.specs.Laws.{BeginsWith};
+ghost use Rattle.lost_spec.specs.Book.{is_accepted};
+ghost use Rattle.lost_history.specs.History.{longer};
+ghost use Rattle.lost_json.specs.Line.{line_reply};
+ghost use Rattle.left_right.specs.Sides.{view};
+ghost use Rattle.lost_desk.specs.Seen.{seen_book, with_seen};
+ghost use Rattle.lost_desk.specs.Held.{IsSeated, reader_seen};
+
+use crate::rule::{Entering, OneList};
+use crate::told::Told;
+use crate::version::Version;
+use crate::view::View;
+use lost_history::Front;
+use lost_mapping::{Moment, Source};
+use std::alloc::{AllocError, Global};
+use std::marker::Model;
+
+/// A seat at the copies.
+pub(crate) type Seat = left_right::reader::Reader<Version, View, OneList>;
+
+/// A reader. Contracts see its opening and limits, the list of edits that it has seen or was told of, and how often it
+/// entered the copies.
+#[derive(Drop)]
+pub struct Reader {
+    seat: Option<Seat>,
+    latest: Front,
+}
+
+impl Model for Reader {
+    ghost use Rattle.left_right.specs.Sides as sides;
+    ghost use Rattle.lost_desk.specs.Seen.{ReaderSeen};
+    ghost use Rattle.lost_desk.specs.Held.{reader_seen, IsReader};
+
+    ghost Value = { ReaderSeen };
+
+    ghost view = { λ r. reader_seen (λ s. sides.view s.place) r.seat r.latest };
+
+    ghost invariant = { λ r. IsReader (λ s. sides.view s.place) r.seat r.latest };
+}
+
+impl Reader {
+    /// The reader with this seat, which knows the copies and has seen nothing.
+    pub(crate) fn of(seat: Seat, latest: Front) -> Reader
+        requires { IsSeated (view seat.place) latest }
+        ensures { result ≡ reader_seen (λ w. w) (Some (view seat.place)) latest }
+    {
+        Reader {
+            seat: Some(seat),
+            latest,
+        }
+    }
+
+    #[tactic(auto, using(crate::proofs::StepLemmas::enters))]
+    /// Answers a line from the copy that is published when it enters: reads the request, answers it by the server of
+    /// this name at an instant, and writes the reply's line. It waits for nobody.
+    ///
+    /// # Errors
+    ///
+    /// Want of memory, also after the desk was closed. The reader may then have entered once and seen a longer list.
+    pub fn reply_line(
+        &mut self,
+        alloc: Global,
+        name: &Source,
+        moment: &Moment,
+        line: &[u8],
+    ) -> Result<Vec<u8>, AllocError>
+        ensures reply { IfOk result (λ reply.
+            reply.items ≡ line_reply (seen_book self.new) name.now moment.now line.now) }
+        ensures begins { BeginsWith self.new.seen self.old.seen }
+        ensures entered { OnOk result (self.new.entries ≡ self.old.entries + 1) }
+        ensures one_list { OnOk result (IsTrue (is_accepted self.new.limits self.new.seen)) }
+        ensures same { (self.new.opening ≡ self.old.opening) × (self.new.limits ≡ self.old.limits) }
+    {
+        let Some(seat) = self.seat.take() else {
+            unreachable!()
+        };
+        match seat.enter_as::<Entering>() {
+            Ok(reading) => {
+                let reply = reply_from(alloc, reading.get(), &mut self.latest, name, moment, line);
+                self.seat = Some(reading.leave());
+                reply
+            }
+            Err(seat) => {
+                self.seat = Some(seat);
+                Err(AllocError)
+            }
+        }
+    }
+
+    /// Learns what the desk told: from now on the reader answers from no shorter list. Both are of one opening.
+    pub fn learn(&mut self, told: Told)
+        requires { told.opening ≡ self.old.opening }
+        ensures longer { self.new ≡ with_seen self.old (longer self.old.seen told.list) }
+        ensures begins { BeginsWith self.new.seen self.old.seen }
+        ensures told { BeginsWith self.new.seen told.list }
+    {
+        self.latest.learn(&told.front);
+    }
+
+    /// How many edits the list has that the reader has seen or was told of.
+    pub fn edition(&self) -> u64
+        ensures { result ≡ length self.now.seen }
+    {
+        self.latest.len()
+    }
+}
+
+#[tactic(auto, using(crate::proofs::ListLemmas::begins_whole))]
+/// Answers a line from a copy, once its list is the longest of those that were seen or told.
+fn reply_from(
+    alloc: Global,
+    version: &Version,
+    latest: &mut Front,
+    name: &Source,
+    moment: &Moment,
+    line: &[u8],
+) -> Result<Vec<u8>, AllocError>
+    requires { version.now.front.opening ≡ latest.old.opening }
+    ensures reply { IfOk result (λ reply. reply.items ≡ line_reply version.now.book name.now moment.now line.now) }
+    ensures list { OnOk result (latest.new.list ≡ version.now.front.list) }
+    ensures begins { BeginsWith latest.new.list latest.old.list }
+    ensures opening { latest.new.opening ≡ latest.old.opening }
+{
+    latest.learn(&version.front);
+    if version.front.len() < latest.len() {
+        return Err(AllocError);
+    }
+    lost_json::reply_line(alloc, &version.book, name, moment, line)
+}
