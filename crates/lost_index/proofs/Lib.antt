@@ -4,3 +4,4 @@ pub mod NotingLemmas
 pub mod HeldLemmas
 pub mod IndexLemmas
 pub mod FilterLemmas
+pub mod HoldingLemmas

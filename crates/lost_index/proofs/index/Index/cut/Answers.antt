@@ -1,7 +1,7 @@
 -- The notes of the other numbers, and of the regions that stay, stay.
-use Rattle.std.proofs.Common.{sym, subst}
+use Rattle.std.proofs.Common.{Contains, subst}
 use Rattle.std.specs.List.{slice_range}
-use Rattle.lost_index.specs.Held.{IsHeld, HasRegions}
+
 use Rattle.lost_index.proofs.CutLemmas.{Contains-slice_range}
 use Rattle.lost_index.proofs.HeldLemmas.{contains_found}
 use Rattle.lost_index.proofs.IndexLemmas.{IsIndexed-kept}
@@ -14,3 +14,10 @@ invariant_of-self g c =
     c.self.inside.cells c.take_rest_back.new.cells c.args.number regions (slice_range regions c.args.from c.args.to) c.self.invariant
     c.kept_of-kept.ensures (Contains-slice_range regions c.args.from c.args.to) (c.cut.ensures.updates regions c.kept_of-kept.ensures)
     c.take_rest_back.ensures.others c.take_rest_back.ensures.still
+
+pub take_rest_back-requires-clause-within : goal.take_rest_back-requires-clause-within
+take_rest_back-requires-clause-within g c =
+    let regions = c.kept_of-kept.result.now in
+    c.requires.within regions
+    (subst (λ held. Contains held (c.args.number, regions)) c.self.view_is
+    (contains_found c.args.number regions c.self.inside.held.entries c.kept_of-kept.ensures))
