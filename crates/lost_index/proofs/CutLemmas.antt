@@ -11,7 +11,7 @@ turned xs from n to = take n (drop from (take to xs) ++ take from (take to xs))
 turned-sum : {X : Type 0} (xs : List X) (from n : ℕ) → from + n ≤ length xs → turned xs from n (from + n) ≡ take n (drop from xs)
 turned-sum xs from n within =
     let long : n ≤ length (drop from (take (from + n) xs)) =
-        omega (arith, length-drop from (take (from + n) xs), length-take-le (from + n) xs within) in
+    omega (arith, length-drop from (take (from + n) xs), length-take-le (from + n) xs within) in
     take-append-le n (drop from (take (from + n) xs)) (take from (take (from + n) xs)) long
     ∙ ap (take n) (drop-take from n xs)
     ∙ take-take n n (drop from xs) (omega arith)

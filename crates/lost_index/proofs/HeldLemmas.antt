@@ -1,7 +1,6 @@
 -- The list of (number, regions) after each change of the map that holds it.
 use Rattle.std.proofs.Common.{◌≡◌, ℕ, ◌<◌, Bool, true, false, cond, Option, None, Some, IsSome, is_some, List, [], ◌∷◌, ◌++◌, All, Contains, nat_eq, nat_cmp, refl, sym, ap, suc, arith, ◌∙◌}
-use Rattle.std.specs.declared.cmp.Ordering.{Ordering}
-use Rattle.std.specs.declared.cmp.Ordering.TheVariants.{Less, Equal, Greater}
+use Rattle.std.specs.declared.cmp.Ordering.TheVariants.{Greater}
 use Rattle.std.specs.BTreeMap.{insert_entry, is_at}
 use Rattle.std.specs.Cmp.{nat_cmp_is}
 use Rattle.std.specs.Map.{lookup, remove_entry, set_value}
@@ -10,7 +9,7 @@ use Rattle.std.proofs.lemmas.Bool.Decides.{nat_tests}
 use Rattle.std.specs.Cmp.{nat_eq_equiv}
 use Rattle.std.proofs.lemmas.List.Elements.{All-contains}
 use Rattle.std.proofs.lemmas.Map.Views.{IsSome-lookup_from_Contains, Contains-from_lookup}
-use Rattle.lost_index.specs.Held.{with_number, without, IsAbove, IsHeld}
+use Rattle.lost_index.specs.Held.{with_number, IsAbove, IsHeld}
 
 -- the test of a map's key is that of numbers
 pub at_same : (n k : ℕ) → is_at (nat_cmp n) k ≡ nat_eq n k

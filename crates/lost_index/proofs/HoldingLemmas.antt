@@ -1,5 +1,5 @@
 -- The numbers that are found are those of the list with a region that contains the location.
-use Rattle.std.proofs.Common.{◌≡◌, ℕ, ◌<◌, Bool, true, false, ◌&&◌, ◌||◌, Option, None, Some, is_some, List, [], ◌∷◌, ◌++◌, length, map, filter, All, Contains, get_or, nat_eq, nat_cmp, IsTrue, cond, refl, sym, ap, subst, suc, arith, ◌∙◌}
+use Rattle.std.proofs.Common.{◌≡◌, ℕ, Bool, true, false, ◌&&◌, ◌||◌, Option, None, Some, is_some, List, [], ◌∷◌, map, filter, All, Contains, get_or, nat_eq, nat_cmp, cond, refl, sym, ap, suc, arith, ◌∙◌}
 use Rattle.std.specs.BTreeMap as tree
 use Rattle.std.specs.BTreeMap.{BTreeMap, is_at}
 use Rattle.std.specs.Cmp.{nat_eq_equiv}
@@ -48,7 +48,7 @@ pub found_passes : {K : Type 0} (p : ℕ → Bool) (n : ℕ) (cell : K → List 
     → list_any (nat_eq n) (flat_map (λ key. filter p (cell key)) keys) ≡ true → p n ≡ true
 found_passes p n cell keys found =
     let any = Any-from_list_any (λ key. list_any (nat_eq n) (filter p (cell key))) keys
-      (sym (any-flat_map (nat_eq n) (λ key. filter p (cell key)) keys) ∙ found) in
+    (sym (any-flat_map (nat_eq n) (λ key. filter p (cell key)) keys) ∙ found) in
     left_of_and (p n) (list_any (nat_eq n) (cell any.1)) (sym (stands-filter p n (cell any.1)) ∙ any.4)
 
 -- a number that passes and is noted under one of the keys is found
@@ -58,7 +58,7 @@ pub passes_found : {K : Type 0} (p : ℕ → Bool) (n : ℕ) (cell : K → List 
 passes_found p n cell keys key passes stands noted =
     any-flat_map (nat_eq n) (λ key. filter p (cell key)) keys
     ∙ any-from_contained (λ key. list_any (nat_eq n) (filter p (cell key))) keys key stands
-      (stands-filter p n (cell key) ∙ both_and (p n) (list_any (nat_eq n) (cell key)) passes noted)
+    (stands-filter p n (cell key) ∙ both_and (p n) (list_any (nat_eq n) (cell key)) passes noted)
 
 next_number : {V : Type 0} (p : ℕ → Bool) (b : Bool) (e : ℕ × V) (kept : List (ℕ × V)) (keys : List ℕ) → map (λ e. e.0) kept ≡ filter p keys
     → map (λ e. e.0) (cond b (e ∷ kept) kept) ≡ cond b (e.0 ∷ filter p keys) (filter p keys)
@@ -136,7 +136,7 @@ module _ {R L K S : Type 0} (is_region : R → Type 0) (cover_of : R → List K)
       → list_any (nat_eq n) (filter passes (numbers held.entries)) ≡ true
   sound n found stands is =
       let h = found_passes passes n (λ key. numbers_of (get eq cells key)) probes
-        (ap (list_any (nat_eq n)) (sym is) ∙ list_any-from_Contains nat_eq_equiv n found stands) in
+      (ap (list_any (nat_eq n)) (sym is) ∙ list_any-from_Contains nat_eq_equiv n found stands) in
       stands-filter passes n (numbers held.entries) ∙ both_and (passes n) (list_any (nat_eq n) (numbers held.entries)) h (stands_held n h)
 
   complete : (n : ℕ) → list_any (nat_eq n) (filter passes (numbers held.entries)) ≡ true → (found : List ℕ)
@@ -151,11 +151,11 @@ module _ {R L K S : Type 0} (is_region : R → Type 0) (cover_of : R → List K)
       → result ≡ holders holds location held.entries
   holding_is found sorted result is moved rising once =
       once ∙ same_rising (dedup nat_eq sorted) (filter passes (numbers held.entries))
-        (sorted_from_strictly_increasing (dedup nat_eq sorted) (IsStrictlyIncreasing-dedup sorted rising))
-        (IsStrictlySortedBy-filter nat_cmp passes (numbers held.entries) ordered)
-        (λ n. same_from_both (list_any (nat_eq n) (dedup nat_eq sorted)) (list_any (nat_eq n) (filter passes (numbers held.entries)))
-          (λ stands. sound n found (Contains-permutation sorted found n (IsPermutation-sym found sorted moved)
-            (Contains-from_dedup nat_eq sorted n (Contains-from_any same_number n (dedup nat_eq sorted) stands))) is)
-          (λ stands. list_any-from_Contains nat_eq_equiv n (dedup nat_eq sorted)
-            (Contains-dedup_nat sorted n (Contains-permutation found sorted n moved (complete n stands found is)))))
+      (sorted_from_strictly_increasing (dedup nat_eq sorted) (IsStrictlyIncreasing-dedup sorted rising))
+      (IsStrictlySortedBy-filter nat_cmp passes (numbers held.entries) ordered)
+      (λ n. same_from_both (list_any (nat_eq n) (dedup nat_eq sorted)) (list_any (nat_eq n) (filter passes (numbers held.entries)))
+      (λ stands. sound n found (Contains-permutation sorted found n (IsPermutation-sym found sorted moved)
+      (Contains-from_dedup nat_eq sorted n (Contains-from_any same_number n (dedup nat_eq sorted) stands))) is)
+      (λ stands. list_any-from_Contains nat_eq_equiv n (dedup nat_eq sorted)
+      (Contains-dedup_nat sorted n (Contains-permutation found sorted n moved (complete n stands found is)))))
       ∙ sym holders_filter

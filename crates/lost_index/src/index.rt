@@ -6,10 +6,8 @@ ghost use Rattle.lost_index.specs.Held.{numbers, IsHeld, IsAbove, HasRegions, wi
 
 use crate::cell::Cell;
 use crate::entry::Entry;
-use crate::held;
 use crate::kept::Kept;
-use crate::noting;
-use crate::search;
+use crate::{held, noting, search};
 use lost_profile::Profile;
 use std::alloc::{AllocError, Global};
 use std::collections::{BTreeMap, HashMap};
@@ -55,7 +53,13 @@ impl<P: Profile> Index<P> {
         ensures refused { OnErr result (self.new ≡ self.old) }
     {
         let entry = Entry::new(self.alloc, regions)?;
-        noting::note_new(&mut self.cells, self.alloc, number, entry.kept(), none(entry.kept()))?;
+        noting::note_new(
+            &mut self.cells,
+            self.alloc,
+            number,
+            entry.kept(),
+            none(entry.kept()),
+        )?;
         if let Err(entry) = held::put(&mut self.held, number, entry) {
             noting::take_back(&mut self.cells, number, entry.kept(), none(entry.kept()));
             return Err(AllocError);

@@ -4,9 +4,8 @@ ghost use Rattle.std.specs.List.{slice_range};
 ghost use Rattle.lost_index.specs.Notes.{IsNoted, IsUnder, KeepsNotes, KeepsOthers, KeepsUnder, AreNoted};
 
 use crate::cell::Cell;
-use crate::cells;
-use crate::entry;
 use crate::kept::Kept;
+use crate::{cells, entry};
 use lost_profile::Profile;
 use std::alloc::{AllocError, Global};
 use std::collections::HashMap;

@@ -15,8 +15,8 @@ returns-clause-appended g c =
     let es = c.args.held.now.entries in
     let test = is_at (nat_cmp c.args.number) in
     on_ok_weaker c.append.result (λ appended.
-      (c.get_mut.follows.holds c.append.new.self).0 ∙ ap (set_value test es) appended
-      ∙ set_value-with_number c.args.number (λ regions. regions ++ c.args.more.now) c.in-Some.entry.now test (at_same c.args.number) es (sym c.in-Some.ensures.value))
+    (c.get_mut.follows.holds c.append.new.self).0 ∙ ap (set_value test es) appended
+    ∙ set_value-with_number c.args.number (λ regions. regions ++ c.args.more.now) c.in-Some.entry.now test (at_same c.args.number) es (sym c.in-Some.ensures.value))
     c.append.ensures.appended
 
 pub returns-clause-refused : goal.returns-clause-refused
@@ -24,5 +24,5 @@ returns-clause-refused g c =
     let es = c.args.held.now.entries in
     let test = is_at (nat_cmp c.args.number) in
     on_err_weaker c.append.result (λ refused.
-      (c.get_mut.follows.holds c.append.new.self).0 ∙ ap (set_value test es) refused ∙ set_value_same test es c.in-Some.entry.now (sym c.in-Some.ensures.value))
+    (c.get_mut.follows.holds c.append.new.self).0 ∙ ap (set_value test es) refused ∙ set_value_same test es c.in-Some.entry.now (sym c.in-Some.ensures.value))
     c.append.ensures.refused

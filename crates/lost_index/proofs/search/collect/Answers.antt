@@ -9,7 +9,7 @@ loop-number-preserved-then-not-is_holder g c =
     let test = is_holder g.P.Profile.holds c.args.location.now c.args.held.now in
     c.loop-number.invariant
     ∙ passed-over test c.args.found.now.items c.args.numbers.now c.loop-number.number-index 0 c.loop-number-test.true
-      (sym c.is_holder.ensures ∙ c.if-not-is_holder.true)
+    (sym c.is_holder.ensures ∙ c.if-not-is_holder.true)
 
 pub loop-number-preserved : goal.loop-number-preserved
 loop-number-preserved g c =
@@ -18,4 +18,4 @@ loop-number-preserved g c =
     c.in_ok-push.ensures.items
     ∙ ap (λ l. l ++ next ∷ []) c.loop-number.invariant
     ∙ kept-next test c.args.found.now.items c.args.numbers.now c.loop-number.number-index 0 c.loop-number-test.true
-      (sym c.is_holder.ensures ∙ c.if-not-is_holder.false)
+    (sym c.is_holder.ensures ∙ c.if-not-is_holder.false)

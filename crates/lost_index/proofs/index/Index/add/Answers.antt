@@ -1,5 +1,4 @@
 -- The notes of what was held stay, and the new regions are noted.
-use Rattle.lost_index.specs.Notes.{AreNoted}
 use Rattle.lost_index.proofs.IndexLemmas.{IsIndexed-unnoted, IsIndexed-refused, IsIndexed-added}
 use Rattle.lost_index.proofs.index.Index.add.Goals as goal
 

@@ -1,7 +1,6 @@
 -- The notes of the other numbers, and of the regions that stay, stay.
 use Rattle.std.proofs.Common.{Contains, subst}
 use Rattle.std.specs.List.{slice_range}
-
 use Rattle.lost_index.proofs.CutLemmas.{Contains-slice_range}
 use Rattle.lost_index.proofs.HeldLemmas.{contains_found}
 use Rattle.lost_index.proofs.IndexLemmas.{IsIndexed-kept}

@@ -1,7 +1,6 @@
 -- The notes of the other numbers stay, and none is held under the new number.
 use Rattle.std.proofs.Common.{refl, sym, subst}
 use Rattle.std.proofs.lemmas.List.Elements.{All-contains}
-use Rattle.lost_index.specs.Notes.{AreNoted}
 use Rattle.lost_index.specs.Held.{IsAbove}
 use Rattle.lost_index.proofs.IndexLemmas.{IsIndexed-apart, IsIndexed-put}
 use Rattle.lost_index.proofs.index.Index.put.Goals as goal
