@@ -21,7 +21,7 @@ use std::snapshot::Snapshot;
 use std::sync::Wait;
 
 /// The most readers that a desk may have.
-const GREATEST_WORKERS: u32 = 64;
+const MAX_WORKERS: u32 = 64;
 
 /// Opens a desk with no edits within these limits, and so many readers, 1 to 64. It may wait where a reader's place is
 /// refused.
@@ -42,7 +42,7 @@ pub fn open_desk<R: Wait>(
     ensures refused { result ≡ Err OpenError.Workers → (workers < 1) ⊎ (64 < workers) }
     ensures memory_last { result ≡ Err OpenError.Memory → (1 ≤ workers) × (workers ≤ 64) }
 {
-    if workers < 1 || workers > GREATEST_WORKERS {
+    if workers < 1 || workers > MAX_WORKERS {
         return Err(OpenError::Workers);
     }
     let (head, front) = open_history();

@@ -1,12 +1,15 @@
 -- The list of (number, regions) after each change of the map that holds it.
-use Rattle.std.proofs.Common.{◌≡◌, ℕ, ◌<◌, Bool, true, false, cond, Option, None, Some, List, [], ◌∷◌, ◌++◌, All, nat_eq, nat_cmp, refl, sym, ap, subst, cc, arith, ◌∙◌}
-use Rattle.std.specs.declared.cmp.Ordering.{Ordering}
-use Rattle.std.specs.declared.cmp.Ordering.TheVariants.{Less, Equal, Greater}
+use Rattle.std.proofs.Common.{◌≡◌, ℕ, ◌<◌, Bool, true, false, cond, Option, None, Some, IsSome, is_some, List, [], ◌∷◌, ◌++◌, All, Contains, nat_eq, nat_cmp, refl, sym, ap, suc, arith, ◌∙◌}
+use Rattle.std.specs.declared.cmp.Ordering.TheVariants.{Greater}
 use Rattle.std.specs.BTreeMap.{insert_entry, is_at}
 use Rattle.std.specs.Cmp.{nat_cmp_is}
 use Rattle.std.specs.Map.{lookup, remove_entry, set_value}
+use Rattle.std.proofs.lemmas.Bool.{false≢true}
 use Rattle.std.proofs.lemmas.Bool.Decides.{nat_tests}
-use Rattle.lost_index.specs.Held.{with_number, without, IsAbove}
+use Rattle.std.specs.Cmp.{nat_eq_equiv}
+use Rattle.std.proofs.lemmas.List.Elements.{All-contains}
+use Rattle.std.proofs.lemmas.Map.Views.{IsSome-lookup_from_Contains, Contains-from_lookup}
+use Rattle.lost_index.specs.Held.{with_number, IsAbove, IsHeld}
 
 -- the test of a map's key is that of numbers
 pub at_same : (n k : ℕ) → is_at (nat_cmp n) k ≡ nat_eq n k
@@ -47,3 +50,23 @@ set_value-with_number n change rs test same (e ∷ es) found =
     rw (← same e.0)
     (change_head (test e.0) e.0 change rs e.1 es (set_value test es (change rs)) (with_number n change es) (lookup test es)
     (set_value-with_number n change rs test same es) found)
+
+-- ---- what is held is found
+pub held_found : {R : Type 0} (n : ℕ) (es : List (ℕ × List R)) → IsHeld n es → None ≡ lookup (is_at (nat_cmp n)) es → ⊥
+held_found n es stands none =
+    let found : IsSome (lookup (nat_eq n) es) = IsSome-lookup_from_Contains nat_eq_equiv n es stands in
+    false≢true (ap is_some (none ∙ lookup-same (is_at (nat_cmp n)) (nat_eq n) (at_same n) es) ∙ found)
+
+equal_numbers : (a b : ℕ) → nat_eq a b ≡ true → a ≡ b
+equal_numbers a b same = search (arith, nat_tests)
+
+pub contains_found : {R : Type 0} (n : ℕ) (rs : List R) (es : List (ℕ × List R)) → lookup (is_at (nat_cmp n)) es ≡ Some rs → Contains es (n, rs)
+contains_found n rs es found =
+    Contains-from_lookup equal_numbers n rs es (sym (lookup-same (is_at (nat_cmp n)) (nat_eq n) (at_same n) es) ∙ found)
+
+below_itself : (n : ℕ) → n < n → ⊥
+below_itself n h = omega arith
+
+-- a number above all is not held
+pub absent_above : {R : Type 0} (n : ℕ) (es : List (ℕ × List R)) (rs : List R) → IsAbove n es → lookup (is_at (nat_cmp n)) es ≡ Some rs → ⊥
+absent_above n es rs above found = below_itself n (All-contains (λ e. e.0 < n) es (n, rs) above (contains_found n rs es found))

@@ -1,12 +1,14 @@
 -- That what is held stays noted, change by change.
-use Rattle.std.proofs.Common.{◌≡◌, ℕ, ◌<◌, ◌⊎◌, inl, inr, Bool, true, false, cond, Option, None, Some, List, [], ◌∷◌, ◌++◌, All, Contains, nat_eq, nat_cmp, refl, sym, ap, subst, cc, arith, ◌∙◌}
+use Rattle.std.proofs.Common.{◌≡◌, ℕ, ◌⊎◌, inl, inr, Bool, true, false, cond, Option, None, Some, List, ◌++◌, All, Contains, nat_eq, nat_cmp, refl, sym, ap, subst, arith, ◌∙◌}
 use Rattle.std.specs.BTreeMap as tree
 use Rattle.std.specs.BTreeMap.{BTreeMap, is_at}
 use Rattle.std.specs.HashMap.{HashMap}
 use Rattle.std.proofs.lemmas.Bool.Decides.{nat_tests}
-use Rattle.std.proofs.lemmas.List.Elements.{Contains-append_cases}
-use Rattle.lost_index.specs.Notes.{IsNoted, IsUnder, KeepsNotes, KeepsOthers, KeepsUnder, AreNoted, IsIndexed}
-use Rattle.lost_index.proofs.HeldLemmas.{at_same}
+use Rattle.std.proofs.lemmas.List.Elements.{All-contains, Contains-append_cases}
+use Rattle.lost_index.specs.Notes.{IsNoted, IsUnder, KeepsOthers, KeepsUnder, AreNoted, IsIndexed}
+use Rattle.std.specs.Map.{lookup}
+use Rattle.lost_index.specs.Held.{IsAbove}
+use Rattle.lost_index.proofs.HeldLemmas.{at_same, absent_above}
 
 same_number : (n k : ℕ) → nat_eq n k ≡ true → n ≡ k
 same_number n k same = search (arith, nat_tests)
@@ -41,7 +43,7 @@ module _ {R K S : Type 0} (is_region : R → Type 0) (cover_of : R → List K) (
       → IsIndexed is_region cover_of eq held cells
   indexed_of held cells kept = record {
     are_regions = λ k rs found. (kept k rs found).are_regions;
-    are_noted = λ k rs found. (kept k rs found).are_noted
+    are_noted = λ k rs found. (kept k rs found).are_noted;
   }
 
   kept_along : (old new : HashMap K (List ℕ) S) (k : ℕ) (rs : List R)
@@ -59,19 +61,101 @@ module _ {R K S : Type 0} (is_region : R → Type 0) (cover_of : R → List K) (
       → IsIndexed is_region cover_of eq held' new
   IsIndexed-update held held' old new n w indexed updates others now =
       indexed_of held' new (λ k rs found.
-        at_or_apart (AreKept is_region cover_of eq new) n (nat_eq n k) k rs w (tree.get nat_cmp held k) refl
-        (ap (λ b. cond b w (tree.get nat_cmp held k)) (sym (at_same n k)) ∙ sym (updates k) ∙ found) now
-        (λ apart before. kept_along old new k rs (λ key under. others key k apart) (kept_of held old indexed k rs before)))
+      at_or_apart (AreKept is_region cover_of eq new) n (nat_eq n k) k rs w (tree.get nat_cmp held k) refl
+      (ap (λ b. cond b w (tree.get nat_cmp held k)) (sym (at_same n k)) ∙ sym (updates k) ∙ found) now
+      (λ apart before. kept_along old new k rs (λ key under. others key k apart) (kept_of held old indexed k rs before)))
 
   -- nothing that is held changed, and the notes under its keys stay
-  pub IsIndexed-same : (held : BTreeMap ℕ (List R)) (old new : HashMap K (List ℕ) S) (n : ℕ)
-      → IsIndexed is_region cover_of eq held old → KeepsOthers eq n old new
+  pub IsIndexed-same : (held held' : BTreeMap ℕ (List R)) (old new : HashMap K (List ℕ) S) (n : ℕ)
+      → IsIndexed is_region cover_of eq held old → held'.entries ≡ held.entries → KeepsOthers eq n old new
       → ((rs : List R) → tree.get nat_cmp held n ≡ Some rs → KeepsUnder eq (IsUnder cover_of rs) old new)
-      → IsIndexed is_region cover_of eq held new
-  IsIndexed-same held old new n indexed others still =
-      indexed_of held new (λ k rs found. by_number (nat_eq n k) k rs refl found)
+      → IsIndexed is_region cover_of eq held' new
+  IsIndexed-same held held' old new n indexed same others still =
+      indexed_of held' new (λ k rs found. by_number (nat_eq n k) k rs refl (sym (ap (lookup (is_at (nat_cmp k))) same) ∙ found))
     where
-    by_number : (b : Bool) (k : ℕ) (rs : List R) → nat_eq n k ≡ b → tree.get nat_cmp held k ≡ Some rs → AreKept is_region cover_of eq new k rs
-    by_number true k rs here found = kept_along old new k rs
-        (λ key under. still rs (ap (tree.get nat_cmp held) (same_number n k here) ∙ found) key k under) (kept_of held old indexed k rs found)
-    by_number false k rs here found = kept_along old new k rs (λ key under. others key k here) (kept_of held old indexed k rs found)
+      by_number : (b : Bool) (k : ℕ) (rs : List R) → nat_eq n k ≡ b → tree.get nat_cmp held k ≡ Some rs → AreKept is_region cover_of eq new k rs
+      by_number true k rs here found = kept_along old new k rs
+          (λ key under. still rs (ap (tree.get nat_cmp held) (same_number n k here) ∙ found) key k under) (kept_of held old indexed k rs found)
+      by_number false k rs here found = kept_along old new k rs (λ key under. others key k here) (kept_of held old indexed k rs found)
+
+  -- so too where no such number is held
+  pub IsIndexed-apart : (held held' : BTreeMap ℕ (List R)) (old new : HashMap K (List ℕ) S) (n : ℕ)
+      → IsIndexed is_region cover_of eq held old → held'.entries ≡ held.entries → KeepsOthers eq n old new → IsAbove n held.entries
+      → IsIndexed is_region cover_of eq held' new
+  IsIndexed-apart held held' old new n indexed same others above =
+      IsIndexed-same held held' old new n indexed same others (λ rs found. absurd (absent_above n held.entries rs above found))
+
+  -- a number has other regions, each of them noted
+  pub IsIndexed-put : (held held' : BTreeMap ℕ (List R)) (old new : HashMap K (List ℕ) S) (n : ℕ) (regions : List R)
+      → IsIndexed is_region cover_of eq held old
+      → ((k : ℕ) → tree.get nat_cmp held' k ≡ cond (is_at (nat_cmp n) k) (Some regions) (tree.get nat_cmp held k))
+      → KeepsOthers eq n old new → ((region : R) → Contains regions region → is_region region) → AreNoted eq cover_of n regions new
+      → IsIndexed is_region cover_of eq held' new
+  IsIndexed-put held held' old new n regions indexed updates others are_regions noted =
+      IsIndexed-update held held' old new n (Some regions) indexed updates others
+      (λ rs is. subst (AreKept is_region cover_of eq new n) (some_same regions rs is) (record { are_regions = are_regions; are_noted = noted }))
+
+  -- a number is taken out
+  pub IsIndexed-taken : (held held' : BTreeMap ℕ (List R)) (old new : HashMap K (List ℕ) S) (n : ℕ)
+      → IsIndexed is_region cover_of eq held old
+      → ((k : ℕ) → tree.get nat_cmp held' k ≡ cond (is_at (nat_cmp n) k) None (tree.get nat_cmp held k))
+      → KeepsOthers eq n old new → IsIndexed is_region cover_of eq held' new
+  IsIndexed-taken held held' old new n indexed updates others =
+      IsIndexed-update held held' old new n None indexed updates others (λ rs none. absurd (none_some rs none))
+
+  -- a number that is held has more regions
+  pub IsIndexed-added : (held held' : BTreeMap ℕ (List R)) (old new : HashMap K (List ℕ) S) (n : ℕ) (regions more : List R)
+      → IsIndexed is_region cover_of eq held old → tree.get nat_cmp held n ≡ Some regions
+      → ((k : ℕ) → tree.get nat_cmp held' k ≡ cond (is_at (nat_cmp n) k) (Some (regions ++ more)) (tree.get nat_cmp held k))
+      → KeepsOthers eq n old new → KeepsUnder eq (IsUnder cover_of regions) old new → All is_region more → AreNoted eq cover_of n more new
+      → IsIndexed is_region cover_of eq held' new
+  IsIndexed-added held held' old new n regions more indexed found updates others still are_regions noted =
+      IsIndexed-put held held' old new n (regions ++ more) indexed updates others
+      (λ region stands. either_region region (Contains-append_cases regions more region stands))
+      (λ key under. either_noted key under (Contains-append_cases regions more under.region under.stands))
+    where
+      either_region : (region : R) → Contains regions region ⊎ Contains more region → is_region region
+      either_region region (inl stands) = indexed.are_regions n regions found region stands
+      either_region region (inr stands) = All-contains is_region more region are_regions stands
+
+      either_noted : (key : K) (under : IsUnder cover_of (regions ++ more) key) → Contains regions under.region ⊎ Contains more under.region → IsNoted eq new key n
+      either_noted key under (inl stands) =
+          let before : IsUnder cover_of regions key = record { region = under.region; stands = stands; covered = under.covered } in
+          still key n before (indexed.are_noted n regions found key before)
+      either_noted key under (inr stands) = noted key (record { region = under.region; stands = stands; covered = under.covered })
+
+  -- a number that is held keeps some of its regions
+  pub IsIndexed-kept : (held held' : BTreeMap ℕ (List R)) (old new : HashMap K (List ℕ) S) (n : ℕ) (regions part : List R)
+      → IsIndexed is_region cover_of eq held old → tree.get nat_cmp held n ≡ Some regions
+      → ((region : R) → Contains part region → Contains regions region)
+      → ((k : ℕ) → tree.get nat_cmp held' k ≡ cond (is_at (nat_cmp n) k) (Some part) (tree.get nat_cmp held k))
+      → KeepsOthers eq n old new → KeepsUnder eq (IsUnder cover_of part) old new
+      → IsIndexed is_region cover_of eq held' new
+  IsIndexed-kept held held' old new n regions part indexed found within updates others still =
+      IsIndexed-put held held' old new n part indexed updates others
+      (λ region stands. indexed.are_regions n regions found region (within region stands))
+      (λ key under. still key n under
+      (indexed.are_noted n regions found key (record { region = under.region; stands = within under.region under.stands; covered = under.covered })))
+
+  -- growth was refused while a number that is held was noted
+  pub IsIndexed-unnoted : (held : BTreeMap ℕ (List R)) (old new : HashMap K (List ℕ) S) (n : ℕ) (regions : List R)
+      → IsIndexed is_region cover_of eq held old → tree.get nat_cmp held n ≡ Some regions
+      → KeepsOthers eq n old new → KeepsUnder eq (IsUnder cover_of regions) old new → IsIndexed is_region cover_of eq held new
+  IsIndexed-unnoted held old new n regions indexed found others still =
+      IsIndexed-same held held old new n indexed refl others
+      (λ rs again. subst (λ r. KeepsUnder eq (IsUnder cover_of r) old new) (some_same regions rs (sym found ∙ again)) still)
+
+  -- growth was refused after a number that is held was noted
+  pub IsIndexed-refused : (held held' : BTreeMap ℕ (List R)) (old mid new : HashMap K (List ℕ) S) (n : ℕ) (regions regions' : List R)
+      → IsIndexed is_region cover_of eq held old → held'.entries ≡ held.entries
+      → tree.get nat_cmp held n ≡ Some regions → tree.get nat_cmp held' n ≡ Some regions'
+      → KeepsOthers eq n old mid → KeepsOthers eq n mid new
+      → KeepsUnder eq (IsUnder cover_of regions) old mid → KeepsUnder eq (IsUnder cover_of regions') mid new
+      → IsIndexed is_region cover_of eq held' new
+  IsIndexed-refused held held' old mid new n regions regions' indexed same found found' others others' still still' =
+      let alike : regions ≡ regions' = some_same regions regions' (sym found ∙ sym (ap (lookup (is_at (nat_cmp n))) same) ∙ found') in
+      let after : KeepsUnder eq (IsUnder cover_of regions) mid new = subst (λ r. KeepsUnder eq (IsUnder cover_of r) mid new) (sym alike) still' in
+      IsIndexed-same held held' old new n indexed same
+      (λ key number apart noted. others' key number apart (others key number apart noted))
+      (λ rs again. subst (λ r. KeepsUnder eq (IsUnder cover_of r) old new) (some_same regions rs (sym found ∙ again))
+      (λ key number under noted. after key number under (still key number under noted)))

@@ -1,5 +1,5 @@
 -- What stands in a list of numbers after one is put in or taken out.
-use Rattle.std.proofs.Common.{◌≡◌, ℕ, ◌<◌, Bool, true, false, List, length, ◌∷◌, get_or, insert, remove, nat_eq, nat_cmp, cond, ◌||◌, refl, sym, subst, arith, ◌∙◌, ap}
+use Rattle.std.proofs.Common.{◌≡◌, ℕ, ◌<◌, Bool, true, false, List, length, ◌∷◌, get_or, insert, remove, nat_eq, nat_cmp, ◌||◌, refl, sym, subst, arith, ◌∙◌}
 use Rattle.std.specs.declared.cmp.Ordering.TheVariants.{Equal}
 use Rattle.std.specs.List.{list_any, HoldsAt}
 use Rattle.std.proofs.lemmas.Bool.Decides.{nat_tests}

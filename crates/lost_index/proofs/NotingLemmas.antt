@@ -1,5 +1,5 @@
 -- That notes are there, region by region, and key by key.
-use Rattle.std.proofs.Common.{◌≡◌, ℕ, ◌+◌, ◌<◌, ◌⊎◌, inl, inr, Bool, true, false, List, [], ◌∷◌, ◌++◌, length, take, get_or, All, Contains, refl, sym, subst, ap, ◌∙◌, arith}
+use Rattle.std.proofs.Common.{◌≡◌, ℕ, ◌+◌, ◌<◌, inl, inr, Bool, true, false, List, [], ◌∷◌, ◌++◌, length, take, get_or, All, Contains, refl, sym, subst, ap, ◌∙◌, arith}
 use Rattle.std.specs.HashMap.{HashMap}
 use Rattle.std.specs.List.{list_any}
 use Rattle.std.proofs.lemmas.Bool.{false≢true}
@@ -36,9 +36,9 @@ AreNoted-push : {R K S : Type 0} (eq : K → K → Bool) (cover_of : R → List 
     → All (λ key. IsNoted eq new key number) (cover_of region) → AreNoted eq cover_of number (regions ++ region ∷ []) new
 AreNoted-push eq cover_of number regions region old new before keeps last key under =
     elim (Contains-push_cases regions region under.region under.stands) [
-      inl stands ↦ keeps key number (before key (record { region = under.region; stands = stands; covered = under.covered }))
-    | inr same ↦ All-contains (λ key. IsNoted eq new key number) (cover_of region) key last
-      (subst (λ r. Contains (cover_of r) key) (sym same) under.covered)
+      | inl stands ↦ keeps key number (before key (record { region = under.region; stands = stands; covered = under.covered }))
+      | inr same ↦ All-contains (λ key. IsNoted eq new key number) (cover_of region) key last
+          (subst (λ r. Contains (cover_of r) key) (sym same) under.covered)
     ]
 
 -- and so up to the next one of a list

@@ -7,8 +7,7 @@ ghost use Rattle.lost_index.specs.Held.{numbers, IsHeld, IsAbove, HasRegions, wi
 use crate::cell::Cell;
 use crate::entry::Entry;
 use crate::kept::Kept;
-use crate::noting;
-use crate::search;
+use crate::{held, noting, search};
 use lost_profile::Profile;
 use std::alloc::{AllocError, Global};
 use std::collections::{BTreeMap, HashMap};
@@ -54,10 +53,15 @@ impl<P: Profile> Index<P> {
         ensures refused { OnErr result (self.new ≡ self.old) }
     {
         let entry = Entry::new(self.alloc, regions)?;
-        noting::note_new(&mut self.cells, self.alloc, number, entry.kept(), none(entry.kept()))?;
-        if let Err(refused) = self.held.insert(number, entry) {
-            let kept = refused.value.1.kept();
-            noting::take_back(&mut self.cells, number, kept, none(kept));
+        noting::note_new(
+            &mut self.cells,
+            self.alloc,
+            number,
+            entry.kept(),
+            none(entry.kept()),
+        )?;
+        if let Err(entry) = held::put(&mut self.held, number, entry) {
+            noting::take_back(&mut self.cells, number, entry.kept(), none(entry.kept()));
             return Err(AllocError);
         }
         Ok(())
@@ -71,19 +75,12 @@ impl<P: Profile> Index<P> {
         ensures refused { OnErr result (self.new ≡ self.old) }
     {
         let mut entry = Entry::new(self.alloc, regions)?;
-        let Some(held) = self.held.get_mut(&number) else {
-            unreachable!()
-        };
-        noting::note_new(
-            &mut self.cells,
-            self.alloc,
-            number,
-            entry.kept(),
-            held.kept(),
-        )?;
-        if held.append(&mut entry).is_err() {
-            noting::take_back(&mut self.cells, number, entry.kept(), held.kept());
-            return Err(AllocError);
+        let still = held::kept_of(&self.held, number);
+        noting::note_new(&mut self.cells, self.alloc, number, entry.kept(), still)?;
+        if let Err(refused) = held::append(&mut self.held, number, &mut entry) {
+            let still = held::kept_of(&self.held, number);
+            noting::take_back(&mut self.cells, number, entry.kept(), still);
+            return Err(refused);
         }
         Ok(())
     }
@@ -96,13 +93,9 @@ impl<P: Profile> Index<P> {
         requires within { HasRegions to number self.old }
         ensures { self.new ≡ with_number number (λ held. slice_range held from to) self.old }
     {
-        let Some(entry) = self.held.get_mut(&number) else {
-            unreachable!()
-        };
-        let kept = entry.kept();
-        noting::take_back(&mut self.cells, number, &kept[..from], &kept[from..to]);
-        noting::take_back(&mut self.cells, number, &kept[to..], &kept[from..to]);
-        entry.cut(from, to);
+        let kept = held::kept_of(&self.held, number);
+        noting::take_rest_back(&mut self.cells, number, kept, from, to);
+        held::cut(&mut self.held, number, from, to);
     }
 
     /// Takes a number that is held out, with its regions. It takes no memory.
@@ -121,6 +114,8 @@ impl<P: Profile> Index<P> {
         ensures holding { IfOk result (λ found. found.items ≡ holders P.holds location.now self.now) }
         ensures rising { IfOk result (λ found. IsStrictlyIncreasing found.items) }
     {
+        // Shows to the proof that the numbers rise.
+        let _count = self.held.len();
         let mut found = search::found(&self.held, &self.cells, self.alloc, location)?;
         found.sort_unstable();
         found.dedup();

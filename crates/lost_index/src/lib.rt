@@ -5,6 +5,7 @@
 mod cell;
 mod cells;
 mod entry;
+mod held;
 mod index;
 mod kept;
 mod noting;

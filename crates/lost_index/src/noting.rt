@@ -1,11 +1,11 @@
 //! Noting a number under the keys of its regions, and taking those notes back.
-ghost use Rattle.std.specs.Prelude.{All, OnOk};
+ghost use Rattle.std.specs.Prelude.{◌≤◌, length, All, OnOk};
+ghost use Rattle.std.specs.List.{slice_range};
 ghost use Rattle.lost_index.specs.Notes.{IsNoted, IsUnder, KeepsNotes, KeepsOthers, KeepsUnder, AreNoted};
 
 use crate::cell::Cell;
-use crate::cells;
-use crate::entry;
 use crate::kept::Kept;
+use crate::{cells, entry};
 use lost_profile::Profile;
 use std::alloc::{AllocError, Global};
 use std::collections::HashMap;
@@ -77,6 +77,25 @@ pub(crate) fn take_back<P: Profile>(
     for one in gone {
         take_keys_back(cells, number, one.keys(), still);
     }
+}
+
+/// Takes the notes of a number under the keys of regions back, but for the keys of those at the positions from `from`
+/// up to before `to`.
+pub(crate) fn take_rest_back<P: Profile>(
+    cells: &mut HashMap<P::Key, Cell>,
+    number: u64,
+    kept: &[Kept<P>],
+    from: usize,
+    to: usize,
+)
+    requires in_order { from ≤ to }
+    requires within { to ≤ length kept.now }
+    ensures others { KeepsOthers P.Key.eq number cells.old cells.new }
+    ensures still { KeepsUnder P.Key.eq (IsUnder P.cover_of (slice_range kept.now from to)) cells.old cells.new }
+{
+    let still = &kept[from..to];
+    take_back(cells, number, &kept[..from], still);
+    take_back(cells, number, &kept[to..], still);
 }
 
 /// Takes the notes of a number under keys back, but for the keys of regions.

@@ -42,9 +42,10 @@ fn collect<P: Profile>(
     ensures { OnOk result (found.new.items ≡ found.old.items ++ filter (is_among_holders P.holds location.now held.now) numbers.now) }
 {
     for number in numbers {
-        if is_holder(held, *number, location) {
-            found.push(*number)?;
+        if !is_holder(held, *number, location) {
+            continue;
         }
+        found.push(*number)?;
     }
     Ok(())
 }

@@ -1,9 +1,9 @@
-use Rattle.std.proofs.Common.{All, take}
-use Rattle.lost_index.specs.Notes.{IsNoted, IsUnder, KeepsNotes, KeepsOthers, KeepsUnder, AreNoted}
+use Rattle.std.proofs.Common.{take}
+use Rattle.lost_index.specs.Notes.{KeepsNotes, AreNoted}
 use Rattle.lost_index.proofs.noting.note_all.Given as goal
 
 abbrev pub invariant-loop-one : goal.invariant-loop-one
 invariant-loop-one g l = record {
   noted : AreNoted g.P.Key.PartialEq.eq g.P.Profile.cover_of l.number (take l.one-index l.new) l.cells;
-  keeps : KeepsNotes g.P.Key.PartialEq.eq l.initial.cells l.cells
+  keeps : KeepsNotes g.P.Key.PartialEq.eq l.initial.cells l.cells;
 }

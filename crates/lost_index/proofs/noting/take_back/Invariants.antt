@@ -1,9 +1,8 @@
-use Rattle.std.proofs.Common.{All, take}
-use Rattle.lost_index.specs.Notes.{IsNoted, IsUnder, KeepsNotes, KeepsOthers, KeepsUnder, AreNoted}
+use Rattle.lost_index.specs.Notes.{IsUnder, KeepsOthers, KeepsUnder}
 use Rattle.lost_index.proofs.noting.take_back.Given as goal
 
 abbrev pub invariant-loop-one : goal.invariant-loop-one
 invariant-loop-one g l = record {
   others : KeepsOthers g.P.Key.PartialEq.eq l.number l.initial.cells l.cells;
-  still : KeepsUnder g.P.Key.PartialEq.eq (IsUnder g.P.Profile.cover_of l.still) l.initial.cells l.cells
+  still : KeepsUnder g.P.Key.PartialEq.eq (IsUnder g.P.Profile.cover_of l.still) l.initial.cells l.cells;
 }

@@ -8,5 +8,5 @@ use Rattle.lost_index.proofs.search.found.Given as goal
 abbrev pub invariant-loop-key : goal.invariant-loop-key
 invariant-loop-key g l = record {
   found : l.found.items ≡ flat_map (λ key. filter (is_holder g.P.Profile.holds l.location l.held) (numbers_of (get g.P.Key.PartialEq.eq l.cells key))) l.yielded;
-  is_location : g.P.Profile.is_location l.location
+  is_location : g.P.Profile.is_location l.location;
 }

@@ -1,0 +1,39 @@
+//! The rings and the point of the rows.
+
+use lost_geo::{GeoPoint, Polygon};
+use std::alloc::Global;
+use std::io;
+
+/// Latitudes and longitudes of two opposite corners: south, west, north, east.
+pub(crate) type Corners = (i64, i64, i64, i64);
+
+/// A square of a degree.
+pub(crate) const NEAR: Corners = (0, 0, 10_000_000, 10_000_000);
+
+/// One far from it.
+pub(crate) const FAR: Corners = (50_000_000, 50_000_000, 60_000_000, 60_000_000);
+
+/// A little under eight cells of level 2, and eight of them.
+pub(crate) const UNDER_EIGHT: Corners = (0, 0, 33_554_431, 33_554_431);
+
+pub(crate) const EIGHT: Corners = (0, 0, 33_554_432, 33_554_432);
+
+/// The whole earth.
+pub(crate) const EARTH: Corners = (-900_000_000, -1_800_000_000, 900_000_000, 1_800_000_000);
+
+/// The ring of a square.
+pub(crate) fn square(alloc: Global, corners: Corners) -> io::Result<Polygon> {
+    let (south, west, north, east) = corners;
+    let mut ring = Vec::new(alloc);
+    ring.push(point(south, west)?)?;
+    ring.push(point(south, east)?)?;
+    ring.push(point(north, east)?)?;
+    ring.push(point(north, west)?)?;
+    ring.push(point(south, west)?)?;
+    Polygon::new(ring).map_err(|_| io::Error::from(io::ErrorKind::InvalidInput))
+}
+
+/// The position at a latitude and a longitude.
+pub(crate) fn point(lat: i64, lon: i64) -> io::Result<GeoPoint> {
+    GeoPoint::new(lat, lon).map_err(|_| io::Error::from(io::ErrorKind::InvalidInput))
+}

@@ -1,0 +1,16 @@
+-- The notes of the other numbers stay.
+use Rattle.std.proofs.Common.{sym, subst, ◌∙◌}
+use Rattle.lost_index.specs.Held.{IsHeld}
+use Rattle.lost_index.proofs.HeldLemmas.{held_found}
+use Rattle.lost_index.proofs.IndexLemmas.{IsIndexed-taken}
+use Rattle.lost_index.proofs.index.Index.take.Goals as goal
+
+pub unreachable-requires : goal.unreachable-requires
+unreachable-requires g c =
+    held_found c.args.number c.self.inside.held.entries (subst (IsHeld c.args.number) (sym c.self.view_is) c.requires)
+    (sym c.in_default.is ∙ c.remove.ensures.value)
+
+pub invariant_of-self : goal.invariant_of-self
+invariant_of-self g c =
+    IsIndexed-taken g.P.Profile.is_region g.P.Profile.cover_of g.P.Key.PartialEq.eq c.self.inside.held c.remove.new.self
+    c.self.inside.cells c.take_back.new.cells c.args.number c.self.invariant c.remove.ensures.updates.0 c.take_back.ensures.others

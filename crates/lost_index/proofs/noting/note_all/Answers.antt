@@ -1,0 +1,12 @@
+-- One region more is noted, and what was noted stays.
+use Rattle.std.proofs.Common.{arith}
+use Rattle.lost_index.proofs.NotingLemmas.{AreNoted-more}
+use Rattle.lost_index.proofs.noting.note_all.Goals as goal
+
+pub loop-one-preserved : goal.loop-one-preserved
+loop-one-preserved g c = record {
+  noted = AreNoted-more g.P.Key.PartialEq.eq g.P.Profile.cover_of c.args.number c.args.new.now c.loop-one.one-index c.one-item.result
+      c.loop-one.cells c.note_keys.new.cells (omega arith) c.one-item.is c.loop-one.invariant.noted c.in_ok-note_keys.ensures.keeps
+      (rw (← c.in_ok-cover.ensures) c.in_ok-note_keys.ensures.noted);
+  keeps = λ key number noted. c.in_ok-note_keys.ensures.keeps key number (c.loop-one.invariant.keeps key number noted);
+}
