@@ -75,8 +75,8 @@ fn has_profile(locations: &[Location], profile: &str) -> bool
     ensures { result ≡ is_among profile.now (map (λ location. location.profile) (locations_of locations.now)) }
 {
     locations
-       .iter()
-       .any(|location| profile == location.profile.as_str())
+        .iter()
+        .any(|location| profile == location.profile.as_str())
 }
 
 impl Kind for Location {
