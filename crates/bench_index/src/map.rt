@@ -37,6 +37,7 @@ impl Map {
     }
 
     /// Puts a ring under the next number, cuts it away, and takes the number out.
+    #[tactic(auto, using(crate::proofs::MapLemmas::gone))]
     pub(crate) fn come_and_go(&mut self, alloc: Global, ring: Polygon) -> Result<(), AllocError> {
         let mut regions = Vec::new(alloc);
         regions.push(ring)?;

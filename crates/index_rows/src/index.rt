@@ -13,10 +13,10 @@ use std::io;
 pub(crate) fn print_row<R: Print + AllocGlobal>(rt: &R) -> io::Result<()> {
     let alloc = rt.alloc();
     let mut index: Index<Geodetic2d> = Index::new(alloc);
-    index.put(1, rings(alloc, [NEAR].as_slice())?)?;
-    index.put(2, rings(alloc, [NEAR, NEAR].as_slice())?)?;
+    index.put(1, one(alloc, NEAR)?)?;
+    index.put(2, two(alloc, NEAR, NEAR)?)?;
     print_holding(rt, "put", &index)?;
-    index.add(1, rings(alloc, [FAR].as_slice())?)?;
+    index.add(1, one(alloc, FAR)?)?;
     print_holding(rt, "add", &index)?;
     index.cut(1, 1, 2);
     print_holding(rt, "cut", &index)?;
@@ -24,14 +24,22 @@ pub(crate) fn print_row<R: Print + AllocGlobal>(rt: &R) -> io::Result<()> {
     print_holding(rt, "take", &index)
 }
 
-/// The rings of squares, one for each.
-fn rings(alloc: Global, squares: &[Corners]) -> io::Result<Vec<Polygon>>
-    ensures { IfOk result (λ rings. length rings.items ≡ length squares.now) }
+/// The ring of a square, alone.
+fn one(alloc: Global, corners: Corners) -> io::Result<Vec<Polygon>>
+    ensures { IfOk result (λ rings. length rings.items ≡ 1) }
 {
     let mut rings = Vec::new(alloc);
-    for corners in squares {
-        rings.push(square(alloc, *corners)?)?;
-    }
+    rings.push(square(alloc, corners)?)?;
+    Ok(rings)
+}
+
+/// The rings of two squares.
+fn two(alloc: Global, first: Corners, second: Corners) -> io::Result<Vec<Polygon>>
+    ensures { IfOk result (λ rings. length rings.items ≡ 2) }
+{
+    let mut rings = Vec::new(alloc);
+    rings.push(square(alloc, first)?)?;
+    rings.push(square(alloc, second)?)?;
     Ok(rings)
 }
 
