@@ -1,9 +1,12 @@
-//! The lines of a session, between a desk and a reader of one opening.
+//! The lines of a session, between a desk and a reader of one opening. A line that is refused for want of memory is
+//! answered so, and the session goes on.
 ghost use Rattle.std.specs.Prelude.{◌≡◌};
 
-use lost_desk::{Desk, Reader, Readers};
-use lost_json::{DeskLine, read_desk};
-use lost_mapping::{Moment, Source, Stamp};
+use lost_book::EditError;
+use lost_desk::{CommitError, Desk, Reader, Readers};
+use lost_json::{DeskFault, DeskLine, read_desk};
+use lost_mapping::{MappingError, Moment, Source, Stamp};
+use std::alloc::AllocError;
 use std::io;
 use std::sync::Wait;
 
@@ -23,10 +26,10 @@ pub(crate) fn run<R: Wait + Input + Print + AllocGlobal>(
     requires { readers.old.each.opening ≡ desk.old.opening }
 {
     let Ok(name) = Source::parse(rt.alloc(), b"lost.example") else {
-        return Ok(());
+        return Err(AllocError.into());
     };
     let Ok(now) = Stamp::parse(rt.alloc(), b"2026-01-01T00:00:00Z") else {
-        return Ok(());
+        return Err(AllocError.into());
     };
     let setting = Setting {
         name,
@@ -67,14 +70,12 @@ fn answer<R: Wait + Print + AllocGlobal>(
     match read_desk(rt.alloc(), line.as_bytes()) {
         Ok(Some(order)) => order_desk(rt, desk, order),
         Ok(None) => {
-            let reply = reader.reply_line(
-                rt.alloc(),
-                &setting.name,
-                &setting.moment,
-                line.as_bytes(),
-            )?;
-            print_line(rt, reply.as_slice())
+            match reader.reply_line(rt.alloc(), &setting.name, &setting.moment, line.as_bytes()) {
+                Ok(reply) => print_line(rt, reply.as_slice()),
+                Err(AllocError) => say_memory(rt),
+            }
         }
+        Err(DeskFault::Mapping(MappingError::Memory)) => say_memory(rt),
         Err(_) => {
             println!(rt; "no desk line")?;
             Ok(())
@@ -89,14 +90,20 @@ fn order_desk<R: Wait + Print>(rt: &R, desk: &mut Desk, order: DeskLine) -> io::
     match order {
         DeskLine::Edit(edit) => match desk.stage(edit) {
             Ok(pending) => println!(rt; "staged, pending {pending}")?,
+            Err(EditError::Memory) => say_memory(rt)?,
             Err(error) => println!(rt; "refused, code {}", error.code())?,
         },
         DeskLine::Commit => match desk.commit(rt) {
             Ok(edition) => println!(rt; "committed, edition {edition}")?,
-            Err(error) => println!(rt; "not committed, code {}", error.code())?,
+            Err(CommitError::Memory) => say_memory(rt)?,
         },
     }
     Ok(())
+}
+
+/// Prints the answer to a line that is refused for want of memory.
+fn say_memory<R: Print>(rt: &R) -> io::Result<()> {
+    println!(rt; "memory ran out")
 }
 
 /// Prints a line that ends with byte 10.
