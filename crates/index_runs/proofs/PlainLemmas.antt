@@ -1,5 +1,5 @@
 -- What is found in a map of numbers, and what is above its last number.
-use Rattle.std.proofs.Common.{◌≡◌, ℕ, ◌<◌, ◌≤◌, ◌+◌, true, false, is_some, Some, List, [], ◌∷◌, length, All, Contains, nat_eq, nat_cmp, sym, ap, arith, ◌∙◌}
+use Rattle.std.proofs.Common.{◌≡◌, ℕ, ◌<◌, ◌≤◌, ◌+◌, true, false, is_some, Some, List, [], ◌∷◌, length, All, nat_eq, nat_cmp, sym, ap, arith, ◌∙◌}
 use Rattle.std.specs.BTreeMap as tree
 use Rattle.std.specs.BTreeMap.{BTreeMap, is_at}
 use Rattle.std.specs.Ordering.{is_lt}
@@ -10,8 +10,7 @@ use Rattle.std.proofs.lemmas.Map.Views.{Contains-keys_from_lookup, btree_map_get
 use Rattle.std.proofs.lemmas.Cmp.{nat_cmp_total}
 use Rattle.std.proofs.lemmas.Map.Lookups.{exact_unsigned}
 use Rattle.lost_index.specs.Held.{IsHeld, IsAbove, HasRegions, numbers}
-use Rattle.lost_index.proofs.HeldLemmas.{at_same}
-use Rattle.lost_index.proofs.HeldLemmas.{lookup-same}
+use Rattle.lost_index.proofs.HeldLemmas.{at_same, lookup-same}
 
 equal_numbers : (a b : ℕ) → nat_eq a b ≡ true → a ≡ b
 equal_numbers a b same = search (arith, nat_tests)
