@@ -32,6 +32,16 @@ impl Stretch {
         }
     }
 
+    /// The same stretch once more.
+    pub(crate) fn again(&self) -> Stretch
+        ensures { result ≡ self.now }
+    {
+        Stretch {
+            low: self.low,
+            high: self.high,
+        }
+    }
+
     /// The least number.
     pub(crate) fn low(&self) -> u32
         ensures low { result ≡ self.now.0 }
