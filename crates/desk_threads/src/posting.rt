@@ -19,10 +19,7 @@ pub(crate) struct Posting<J: Naming> {
 }
 
 /// Posts a letter for each round, then ends the channel, and gives how many rounds there were.
-pub(crate) fn post_all<J: Naming, R: Wait>(
-    rt: &R,
-    posting: &mut Posting<J>,
-) -> Result<u64, Fault>
+pub(crate) fn post_all<J: Naming, R: Wait>(rt: &R, posting: &mut Posting<J>) -> Result<u64, Fault>
     requires { posting.old.desk.opening ≡ J.name }
 {
     let Some(sender) = posting.sender.take() else {
