@@ -6,10 +6,7 @@ use Rattle.std.proofs.lemmas.List.{length-map}
 use Rattle.std.proofs.lemmas.List.Folds.{flat_map-map}
 use lib.Pointwise.{pointwise}
 use Rattle.lost_spec.specs.Text.{Text}
-use Rattle.lost_civic.specs.declared.texts.Compared.{Compared}
-use Rattle.lost_civic.specs.Element.{element_name}
 use Rattle.lost_civic.specs.Pairs.{seen_pair, seen_pairs, same_pair, same_pairs, hashed_pairs}
-use Rattle.lost_civic.specs.Texts.{seen_one}
 
 -- copies that are seen as the values are
 pub map-from_all_zip : {X Y : Type 0} (copies : X → X → Type 0) (seen : X → Y) → ((x y : X) → copies x y → seen y ≡ seen x) → (xs ys : List X) → AllZip copies xs ys → map seen ys ≡ map seen xs
@@ -32,7 +29,3 @@ hashed-seen pairs =
 
 pub same_pair-copies : {A B : Type 0} (pair : String A × String A) (copy : String B × String B) → string_bytes copy.0 ≡ string_bytes pair.0 → string_bytes copy.1 ≡ string_bytes pair.1 → seen_pair copy ≡ seen_pair pair
 same_pair-copies pair copy name value = ap (λ n. (n, string_bytes copy.1)) name ∙ ap (λ v. (string_bytes pair.0, v)) value
-
-pub same_compared-copies : (compared copy : Compared) → copy.element ≡ compared.element → string_bytes copy.text ≡ string_bytes compared.text → seen_one copy ≡ seen_one compared
-same_compared-copies compared copy element text =
-    ap (λ e. (element_name e, string_bytes copy.text)) element ∙ ap (λ t. (element_name compared.element, t)) text

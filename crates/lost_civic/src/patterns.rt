@@ -2,6 +2,7 @@
 
 ghost use Rattle.std.specs.Prelude.{◌≡◌, ◌≢◌, None, Some, IsTrue, IfOk, IfErr, OnOk, IfSome};
 ghost use Rattle.std.specs.Option.{option_copied};
+ghost use Rattle.std.specs.Result.{result_err};
 ghost use Rattle.std.specs.Cmp.{partial_equiv_from_equiv};
 ghost use Rattle.lost_spec.specs.Civic.{pattern_fault, matches};
 ghost use Rattle.lost_civic.specs.Pairs.{seen_pairs, same_pairs, same_pairs-equiv};
@@ -13,28 +14,35 @@ use crate::{CivicAddress, Element};
 use lost_spec::faults::CivicError;
 use std::alloc::{AllocError, Global};
 use std::marker::Model;
+use std::sync::Arc;
 
 /// A civic pattern, which stands for the addresses that it matches (RFC 5222, section 12.3; patterns are an own
 /// form of a civic boundary): pairs of an element's name and a value, in the order in which they were given.
-/// Contracts see a pattern as its pairs.
+/// It never changes and is shared, so a copy costs a pointer. Contracts see a pattern as its pairs.
 #[derive(Drop)]
 pub struct CivicPattern {
+    inner: Arc<Fields>,
+}
+
+#[derive(Drop)]
+struct Fields {
     pairs: Vec<(String, String)>,
     compared: Vec<Compared>,
 }
 
 impl Model for CivicPattern {
     ghost use Rattle.std.specs.Prelude.{◌≡◌, None};
+    ghost use Rattle.std.specs.Arc.{arc_value};
     ghost use Rattle.lost_spec.specs.Civic.{Pairs, pattern_fault};
     ghost use Rattle.lost_civic.specs.Pairs.{seen_pairs};
     ghost use Rattle.lost_civic.specs.Texts.{compared_of, seen_compared};
 
     ghost Value = { Pairs };
 
-    ghost view = { λ p. seen_pairs p.pairs.items };
+    ghost view = { λ p. seen_pairs (arc_value p.inner).pairs.items };
 
-    ghost invariant = { λ p. (pattern_fault (seen_pairs p.pairs.items) ≡ None)
-        × (seen_compared p.compared.items ≡ compared_of (seen_pairs p.pairs.items)) };
+    ghost invariant = { λ p. (pattern_fault (seen_pairs (arc_value p.inner).pairs.items) ≡ None)
+        × (seen_compared (arc_value p.inner).compared.items ≡ compared_of (seen_pairs (arc_value p.inner).pairs.items)) };
 }
 
 impl CivicPattern {
@@ -59,7 +67,20 @@ impl CivicPattern {
         let Ok(compared) = compare_pairs(alloc, pairs.as_slice()) else {
             return Err(CivicError::Memory);
         };
-        Ok(CivicPattern { pairs, compared })
+        match Arc::new(alloc, Fields { pairs, compared }) {
+            Ok(inner) => Ok(CivicPattern { inner }),
+            Err(_) => Err(CivicError::Memory),
+        }
+    }
+
+    /// Ok where `from_pairs` takes these pairs, and else its refusal. It takes no memory.
+    pub fn check(pairs: &[(String, String)]) -> Result<(), CivicError>
+        ensures { result_err result ≡ pattern_fault (seen_pairs pairs.now) }
+    {
+        match first_pattern_fault(pairs) {
+            Some(fault) => Err(fault),
+            None => Ok(()),
+        }
     }
 
     /// The pairs as they were given.
@@ -68,14 +89,14 @@ impl CivicPattern {
         ensures lawful { pattern_fault self.now ≡ None }
         ensures some_element { HasElement self.now }
     {
-        self.pairs.as_slice()
+        self.inner.pairs.as_slice()
     }
 
     /// The comparison text of an element, where it stands in the pattern, as `CivicAddress::text` has it.
     pub fn text(&self, element: Element) -> Option<&str>
         ensures { option_copied result ≡ text_of element self.now }
     {
-        find_text(self.compared.as_slice(), element)
+        find_text(self.inner.compared.as_slice(), element)
     }
 
     /// Whether each element of the pattern stands in the address with an equal comparison text (RFC 5222, section
@@ -87,19 +108,18 @@ impl CivicPattern {
         ensures shared { IsTrue result
             → (element : Element) → IfSome (text_of element self.now) (λ text. text_of element address.now ≡ Some text) }
     {
-        self.compared.iter().all(|compared| address.has_text(
+        self.inner.compared.iter().all(|compared| address.has_text(
             compared.element,
             compared.text.as_str(),
         ))
     }
 
-    /// A pattern with the same pairs.
+    /// A pattern with the same pairs, or want of memory. It costs a pointer.
     pub fn clone(&self) -> Result<CivicPattern, AllocError>
         ensures { IfOk result (λ copy. copy ≡ self.now) }
     {
         Ok(CivicPattern {
-            pairs: self.pairs.clone()?,
-            compared: self.compared.clone()?,
+            inner: Arc::try_clone(&self.inner)?,
         })
     }
 }
@@ -111,7 +131,7 @@ impl PartialEq for CivicPattern {
     ghost laws = { partial_equiv_from_equiv same_pairs-equiv };
 
     fn eq(&self, other: &CivicPattern) -> bool {
-        self.pairs == other.pairs
+        self.inner.pairs == other.inner.pairs
     }
 }
 

@@ -19,18 +19,6 @@ pub(crate) struct Compared {
     pub text: String,
 }
 
-impl Clone for Compared {
-    ghost is_clone = { λ compared copy. (copy.element ≡ compared.element)
-        × (string_bytes copy.text ≡ string_bytes compared.text) };
-
-    fn clone(&self) -> Result<Compared, AllocError> {
-        Ok(Compared {
-            element: self.element,
-            text: self.text.clone()?,
-        })
-    }
-}
-
 /// The value that stands beside a name.
 fn find_value<'a>(pairs: &'a [(String, String)], name: &str) -> Option<&'a str>
     ensures { option_copied result ≡ value_of name.now (seen_pairs pairs.now) }

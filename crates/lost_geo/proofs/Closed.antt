@@ -1,10 +1,11 @@
 -- A closed list of positions by its first and its last place.
-use Rattle.std.proofs.Common.{◌≡◌, refl, sym, ◌∙◌, ap, ℕ, ◌-◌, ◌<◌, true, List, [], ◌∷◌, ◌++◌, length, get_or, arith, IsTrue}
+use Rattle.std.proofs.Common.{◌≡◌, refl, sym, ◌∙◌, ap, ℕ, ◌-◌, ◌<◌, true, List, [], ◌∷◌, ◌++◌, map, length, get_or, ℤ, arith, IsTrue}
 use Rattle.std.specs.Ordering.{int_eq}
 use Rattle.std.proofs.lemmas.Bool.{and_from, and_parts}
 use Rattle.std.proofs.lemmas.Bool.Decides.{Decides-int_eq}
 use Rattle.std.proofs.lemmas.Cmp.{int_eq_equiv}
 use Rattle.lost_spec.specs.Ring.{Point, same_point, last_after, is_closed}
+use Rattle.lost_spec.specs.Mapping.{point_of}
 
 get_or-last : (p : Point) (rest : List Point) (d : Point) → get_or (p ∷ rest) (length rest) d ≡ last_after p rest
 get_or-last p [] d = refl
@@ -18,6 +19,20 @@ is_closed-ends (p ∷ rest) first last some at_first at_last =
     let place : length (p ∷ rest) - 1 ≡ length rest = omega arith in
     let e : last ≡ last_after p rest = at_last ∙ ap (λ (k : ℕ). get_or (p ∷ rest) k last) place ∙ get_or-last p rest last in
     rw at_first (ap (same_point p) e)
+
+-- ---- latitudes and longitudes
+
+last_of_pairs : (p : ℤ × ℤ) (rest : List (ℤ × ℤ)) (d : ℤ × ℤ) → point_of (get_or (p ∷ rest) (length rest) d) ≡ last_after (point_of p) (map point_of rest)
+last_of_pairs p [] d = refl
+last_of_pairs p (q ∷ rest) d = last_of_pairs q rest d
+
+-- what stands at the two ends of what the points are made of
+pub is_closed-pairs : (pairs : List (ℤ × ℤ)) (d : ℤ × ℤ) → 0 < length pairs → same_point (point_of (get_or pairs 0 d)) (point_of (get_or pairs (length pairs - 1) d)) ≡ is_closed (map point_of pairs)
+is_closed-pairs [] d some = absurd (omega arith)
+is_closed-pairs (p ∷ rest) d some =
+    let place : length (p ∷ rest) - 1 ≡ length rest = omega arith in
+    let e : point_of (get_or (p ∷ rest) (length (p ∷ rest) - 1) d) ≡ last_after (point_of p) (map point_of rest) = ap (λ (k : ℕ). point_of (get_or (p ∷ rest) k d)) place ∙ last_of_pairs p rest d in
+    ap (same_point (point_of p)) e
 
 -- ---- joined lists
 

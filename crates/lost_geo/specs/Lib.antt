@@ -2,3 +2,4 @@ pub mod Ranges
 pub mod Sides
 pub mod Bounds
 pub mod Laws
+pub mod Kept

@@ -8,18 +8,22 @@ ghost use Rattle.lost_geo.specs.Bounds.{bounds_of, AreExact, AreInRange};
 use crate::bounds::Bounds;
 use crate::edge;
 use crate::point::GeoPoint;
+use crate::ring::Ring;
 use lost_spec::faults::RingError;
+use std::alloc::{AllocError, Global};
 use std::marker::Model;
 
-const MIN_POSITIONS: usize = 4;
+/// The fewest positions of a ring.
+pub(crate) const MIN_POSITIONS: usize = 4;
 
-const MAX_POSITIONS: usize = 4096;
+/// The most positions of a ring.
+pub(crate) const MAX_POSITIONS: usize = 4096;
 
 /// The area that one exterior ring bounds (RFC 5222, section 12.2). The plane is flat, and inside is by the even-odd
 /// rule; orientation and self-crossing are not examined (own rules). Contracts see it as the list of its positions.
 #[derive(Debug, Drop)]
 pub struct Polygon {
-    ring: Vec<GeoPoint>,
+    ring: Ring,
     bounds: Bounds,
 }
 
@@ -27,12 +31,13 @@ impl Model for Polygon {
     ghost use Rattle.std.specs.Prelude.{List};
     ghost use Rattle.lost_spec.specs.Ring.{Point};
     ghost use Rattle.lost_geo.specs.Bounds.{IsRingWith};
+    ghost use Rattle.lost_geo.specs.Kept.{positions_of};
 
     ghost Value = { List Point };
 
-    ghost view = { λ a. a.ring.items };
+    ghost view = { λ a. positions_of a.ring };
 
-    ghost invariant = { λ a. IsRingWith a.ring.items a.bounds };
+    ghost invariant = { λ a. IsRingWith (positions_of a.ring) a.bounds };
 }
 
 impl Polygon {
@@ -49,7 +54,7 @@ impl Polygon {
         check_ring(&positions)?;
         let bounds = Bounds::of(&positions[0], &positions[1..]);
         Ok(Polygon {
-            ring: positions,
+            ring: Ring::Own(positions),
             bounds,
         })
     }
@@ -59,7 +64,7 @@ impl Polygon {
         ensures positions { result.now ≡ self.now }
         ensures is_ring { ring_fault self.now ≡ None }
     {
-        &self.ring
+        self.ring.positions()
     }
 
     /// The least and the greatest latitude and longitude of the ring.
@@ -79,7 +84,29 @@ impl Polygon {
         ensures is_ring { ring_fault self.now ≡ None }
     {
         let place = point.normal();
-        self.bounds.holds(&place) && edge::has_odd_crossings(&self.ring[0], &self.ring[1..], &place)
+        let ring = self.ring.positions();
+        self.bounds.holds(&place) && edge::has_odd_crossings(&ring[0], &ring[1..], &place)
+    }
+
+    /// The same polygon, its positions in a list that is shared: from then on a copy costs a pointer. Fails where there
+    /// is no memory for it.
+    pub fn share(self, alloc: Global) -> Result<Polygon, AllocError>
+        ensures { IfOk result (λ polygon. polygon ≡ self) }
+    {
+        Ok(Polygon {
+            ring: self.ring.share(alloc)?,
+            bounds: self.bounds,
+        })
+    }
+
+    /// The same polygon, or want of memory. It costs a pointer where the positions are shared, and else their copies.
+    pub fn clone(&self) -> Result<Polygon, AllocError>
+        ensures { IfOk result (λ copy. copy ≡ self.now) }
+    {
+        Ok(Polygon {
+            ring: self.ring.clone()?,
+            bounds: self.bounds,
+        })
     }
 }
 

@@ -5,7 +5,6 @@ pub mod DigitLemmas
 mod DisplayNameLemmas
 mod HeadLemmas
 pub mod IdLemmas
-pub mod LabelLemmas
 mod PartsLemmas
 mod RegionLemmas
 pub mod ShapeLemmas

@@ -10,14 +10,10 @@ use Rattle.lost_spec.specs.Ring.{Point}
 use Rattle.lost_spec.specs.Civic.{Pairs}
 use Rattle.lost_spec.specs.Moment.{Stamp, is_stamp, stamp_of}
 use Rattle.lost_spec.specs.Mapping.{Parts, Region, Mapping, Expires, expires_of, is_source, is_id, is_expires, are_uris, is_number, is_region, polygons_of, patterns_of, has_right_regions, has_right_key, is_too_large, parts_fault, mapping_of}
-use Rattle.lost_mapping.specs.Faults.{head_fault, contact_fault, regions_fault, has_right_count, is_oversized, shape_fault}
+use Rattle.lost_mapping.specs.Faults.{head_fault, contact_fault, regions_fault, areas_fault, has_right_count, is_oversized, shape_fault}
 use Rattle.lost_mapping.specs.Shape.{IsShaped}
 
 -- ---- groups
-
--- what the regions and all that comes after them refuse
-abbrev rest_fault : Parts → Option MappingError
-rest_fault p = option_or (regions_fault p.regions) (shape_fault p.is_default (length p.regions) (polygons_of p.regions) (patterns_of p.regions) p.display_names p.key)
 
 groups : (a b c d e f g h i j k : Bool)
     → first_fault ((a, BadSource) ∷ (b, BadSourceId) ∷ (c, BadStamp) ∷ (d, BadExpires) ∷ (e, BadService) ∷ (f, BadUri) ∷ (g, BadNumber) ∷ (h, BadRegion) ∷ (i, RegionMissing) ∷ (j, TooLarge) ∷ (k, BadKey) ∷ [])
@@ -44,7 +40,7 @@ right_count : (is_default : Bool) (regions : List Region) → has_right_regions 
 right_count true regions = refl
 right_count false regions = refl
 
-parts_fault-groups : (p : Parts) → parts_fault p ≡ option_or (head_fault p) (option_or (contact_fault p) (rest_fault p))
+parts_fault-groups : (p : Parts) → parts_fault p ≡ option_or (head_fault p) (option_or (contact_fault p) (areas_fault p))
 unfolding parts_fault
 parts_fault-groups p =
     groups (not (is_source p.source)) (not (is_id p.source_id)) (not (is_stamp p.last_updated)) (not (is_expires p.expires)) (is_err (read_service p.service)) (not (are_uris p.uris)) (not (is_number p.number)) (not (list_all is_region p.regions)) (not (has_right_regions p.is_default p.regions)) (is_too_large p) (not (has_right_key p.is_default p.key))
@@ -52,29 +48,42 @@ parts_fault-groups p =
 
 -- ---- the first group that refuses
 
-pub refused_by_head : (p : Parts) (e : MappingError) → (e ≢ Memory → head_fault p ≡ Some e) → e ≢ Memory → parts_fault p ≡ Some e
-refused_by_head p e head other =
-    parts_fault-groups p ∙ ap (λ first. option_or first (option_or (contact_fault p) (rest_fault p))) (head other)
+pub fault_of_head : (p : Parts) (e : MappingError) → Some e ≡ head_fault p → Some e ≡ parts_fault p
+fault_of_head p e head = sym (parts_fault-groups p ∙ ap (λ first. option_or first (option_or (contact_fault p) (areas_fault p))) (sym head))
 
-after_head : (p : Parts) → head_fault p ≡ None → parts_fault p ≡ option_or (contact_fault p) (rest_fault p)
-after_head p head = parts_fault-groups p ∙ ap (λ first. option_or first (option_or (contact_fault p) (rest_fault p))) head
+after_head : (p : Parts) → None ≡ head_fault p → parts_fault p ≡ option_or (contact_fault p) (areas_fault p)
+after_head p head = parts_fault-groups p ∙ ap (λ first. option_or first (option_or (contact_fault p) (areas_fault p))) (sym head)
 
-pub refused_by_contact : (p : Parts) (e : MappingError) → head_fault p ≡ None → (e ≢ Memory → contact_fault p ≡ Some e) → e ≢ Memory → parts_fault p ≡ Some e
-refused_by_contact p e head contact other = after_head p head ∙ ap (λ first. option_or first (rest_fault p)) (contact other)
+pub fault_of_contact : (p : Parts) (e : MappingError) → None ≡ head_fault p → Some e ≡ contact_fault p → Some e ≡ parts_fault p
+fault_of_contact p e head contact = sym (after_head p head ∙ ap (λ first. option_or first (areas_fault p)) (sym contact))
 
-after_contact : (p : Parts) → head_fault p ≡ None → contact_fault p ≡ None → parts_fault p ≡ rest_fault p
-after_contact p head contact = after_head p head ∙ ap (λ first. option_or first (rest_fault p)) contact
+pub fault_of_areas : (p : Parts) (fault : Option MappingError) → None ≡ head_fault p → None ≡ contact_fault p → fault ≡ areas_fault p → fault ≡ parts_fault p
+fault_of_areas p fault head contact areas = areas ∙ sym (after_head p head ∙ ap (λ first. option_or first (areas_fault p)) (sym contact))
 
-pub refused_by_regions : (p : Parts) (e : MappingError) → head_fault p ≡ None → contact_fault p ≡ None → (e ≢ Memory → regions_fault p.regions ≡ Some e) → e ≢ Memory → parts_fault p ≡ Some e
-refused_by_regions p e head contact regions other =
-    after_contact p head contact ∙ ap (λ first. option_or first (shape_fault p.is_default (length p.regions) (polygons_of p.regions) (patterns_of p.regions) p.display_names p.key)) (regions other)
+-- ---- parts that are not refused
 
--- what the shape refuses is what the parts refuse, once nothing before it does
-pub after_regions : (p : Parts) (count : ℕ) (polygons : List (List Point)) (patterns : List Pairs) → head_fault p ≡ None → contact_fault p ≡ None → regions_fault p.regions ≡ None → count ≡ length p.regions → polygons ≡ polygons_of p.regions → patterns ≡ patterns_of p.regions → parts_fault p ≡ shape_fault p.is_default count polygons patterns p.display_names p.key
-after_regions p count polygons patterns head contact regions counted polygons_are patterns_are =
-    after_contact p head contact
-    ∙ ap (λ first. option_or first (shape_fault p.is_default (length p.regions) (polygons_of p.regions) (patterns_of p.regions) p.display_names p.key)) regions
-    ∙ sym (rw (counted, polygons_are, patterns_are) refl)
+both_none : {E : Type 0} (a b : Option E) → option_or a b ≡ None → (a ≡ None) × (b ≡ None)
+both_none None b h = (refl, h)
+both_none (Some e) b h = absurd (cc)
+
+none_of_parts : (p : Parts) → None ≡ parts_fault p → option_or (head_fault p) (option_or (contact_fault p) (areas_fault p)) ≡ None
+none_of_parts p none = sym (none ∙ parts_fault-groups p)
+
+pub no_head_fault : (p : Parts) → None ≡ parts_fault p → head_fault p ≡ None
+no_head_fault p none = (both_none (head_fault p) _ (none_of_parts p none)).0
+
+no_areas_fault : (p : Parts) → None ≡ parts_fault p → areas_fault p ≡ None
+no_areas_fault p none = (both_none (contact_fault p) (areas_fault p) (both_none (head_fault p) (option_or (contact_fault p) (areas_fault p)) (none_of_parts p none)).1).1
+
+pub no_regions_fault : (p : Parts) → None ≡ parts_fault p → regions_fault p.regions ≡ None
+no_regions_fault p none = (both_none (regions_fault p.regions) _ (no_areas_fault p none)).0
+
+no_shape_fault : (p : Parts) → None ≡ parts_fault p → shape_fault p.is_default (length p.regions) (polygons_of p.regions) (patterns_of p.regions) p.display_names p.key ≡ None
+no_shape_fault p none = (both_none (regions_fault p.regions) (shape_fault p.is_default (length p.regions) (polygons_of p.regions) (patterns_of p.regions) p.display_names p.key) (no_areas_fault p none)).1
+
+-- a part that is not refused gives no other refusal
+pub refused_by_none : (fault whole : Option MappingError) (e : MappingError) → fault ≡ None → (e ≢ Memory → fault ≡ Some e) → e ≢ Memory → whole ≡ Some e
+refused_by_none fault whole e none refused other = let some : fault ≡ Some e = refused other in absurd (cc)
 
 -- ---- a mapping that is not refused
 
@@ -98,14 +107,13 @@ bare_default : (is_default : Bool) (regions : List Region) → has_right_count i
 bare_default true regions right default = no_regions regions right
 bare_default false regions right default = (cc, cc)
 
-pub shaped_where_accepted : (m : Mapping) (p : Parts) (count : ℕ) → m.is_default ≡ p.is_default → m.key ≡ p.key → m.polygons ≡ polygons_of p.regions → m.patterns ≡ patterns_of p.regions → count ≡ length p.regions → shape_fault p.is_default count m.polygons m.patterns p.display_names p.key ≡ None → IsShaped m
-shaped_where_accepted m p count default_is key_is polygons_are patterns_are counted accepted =
-    let right = none_of_three (has_right_count p.is_default count) (is_oversized m.polygons m.patterns p.display_names) (has_right_key p.is_default p.key) accepted in
-    let right_regions : has_right_count p.is_default (length p.regions) ≡ true = rw (← counted) right.0 in
+pub shaped_where_accepted : (m : Mapping) (p : Parts) → None ≡ parts_fault p → m.is_default ≡ p.is_default → m.key ≡ p.key → m.polygons ≡ polygons_of p.regions → m.patterns ≡ patterns_of p.regions → IsShaped m
+shaped_where_accepted m p accepted default_is key_is polygons_are patterns_are =
+    let right = none_of_three (has_right_count p.is_default (length p.regions)) (is_oversized (polygons_of p.regions) (patterns_of p.regions) p.display_names) (has_right_key p.is_default p.key) (no_shape_fault p accepted) in
     record {
       key = rw (default_is, key_is) right.1;
-      polygons = λ default. polygons_are ∙ (bare_default p.is_default p.regions right_regions (sym default_is ∙ default)).0;
-      patterns = λ default. patterns_are ∙ (bare_default p.is_default p.regions right_regions (sym default_is ∙ default)).1;
+      polygons = λ default. polygons_are ∙ (bare_default p.is_default p.regions right.0 (sym default_is ∙ default)).0;
+      patterns = λ default. patterns_are ∙ (bare_default p.is_default p.regions right.0 (sym default_is ∙ default)).1;
     }
 
 -- what holds at any rate holds of an `Ok`

@@ -1,5 +1,5 @@
--- A source in any case, and in lower case: lowering moves no dot, and a source is ASCII.
-use Rattle.std.proofs.Common.{subst, ◌≡◌, ℕ, ◌<◌, suc, Bool, true, false, not, ◌&&◌, cond, nat_eq, Option, Some, List, [], ◌∷◌, map, length, refl, ap, ◌∙◌, arith}
+-- A source in any case, and in lower case, and that a source is ASCII.
+use Rattle.std.proofs.Common.{subst, ◌≡◌, ℕ, ◌<◌, suc, Bool, true, false, not, ◌&&◌, cond, nat_eq, Option, None, Some, List, [], ◌∷◌, map, length, refl, ap, ◌∙◌, arith}
 use Rattle.std.specs.List.{list_all, onto_first, join_with_byte}
 use Rattle.std.specs.Char.{to_ascii_lowercase}
 use Rattle.std.specs.Option.{is_none}
@@ -16,23 +16,9 @@ use Rattle.lost_spec.specs.Service.{is_label_byte, label_fault, split_at_dots}
 use Rattle.lost_spec.specs.Mapping.{is_source}
 use Rattle.lost_mapping.specs.Source.{IsLowerSource}
 use Rattle.lost_mapping.proofs.BoolLemmas.{both_true}
-use Rattle.lost_mapping.proofs.LabelLemmas.{length-lowered}
-
--- ---- lowering moves no dot
-
-dot-lowered : (b : ℕ) → nat_eq (to_ascii_lowercase b) 46 ≡ nat_eq b 46
-dot-lowered b = grind (arith, nat_tests)
-
-onto_first-lowered : (b : ℕ) (parts : List Text) → onto_first (to_ascii_lowercase b) (map lowered parts) ≡ map lowered (onto_first b parts)
-onto_first-lowered b [] = refl
-onto_first-lowered b (part ∷ parts) = refl
-
-split-lowered : (text : Text) → split_at_dots (lowered text) ≡ map lowered (split_at_dots text)
-split-lowered [] = refl
-split-lowered (b ∷ rest) =
-    rw (dot-lowered b, split-lowered rest)
-    (elim (nat_eq b 46) as (λ v. cond v ([] ∷ map lowered (split_at_dots rest)) (onto_first (to_ascii_lowercase b) (map lowered (split_at_dots rest))) ≡ map lowered (cond v ([] ∷ split_at_dots rest) (onto_first b (split_at_dots rest))))
-    [ true ↦ refl | false ↦ onto_first-lowered b (split_at_dots rest) ])
+use Rattle.lost_urn.proofs.DotLemmas.{split-lowered}
+use Rattle.lost_urn.proofs.LabelLemmas.{length-lowered}
+use Rattle.lost_urn.proofs.ServiceLemmas.{label_bytes, ascii_bytes}
 
 -- ---- the test of a source
 
@@ -64,22 +50,12 @@ kept_lowered text lower is h = record {
 
 -- ---- a source is ASCII
 
-second_passes : (a b : Bool) (x y : UrnError) (rest : Option UrnError) → is_none (cond a (Some x) (cond (not b) (Some y) rest)) ≡ true → b ≡ true
-second_passes true b x y rest h = absurd (cc)
-second_passes false true x y rest h = refl
-second_passes false false x y rest h = absurd (cc)
-
-ascii_byte : (b : ℕ) → is_label_byte b ≡ true → b < 128
-ascii_byte b h = grind (arith, nat_tests)
-
-ascii_bytes : (bs : Text) → list_all is_label_byte bs ≡ true → IsAscii bs
-ascii_bytes [] h = IsAscii-nil
-ascii_bytes (b ∷ rest) h =
-    let parts = both_true (is_label_byte b) (list_all is_label_byte rest) h in
-    IsAscii-cons b rest (ascii_byte b parts.0) (ascii_bytes rest parts.1)
+none_of : {A : Type 0} (o : Option A) → is_none o ≡ true → o ≡ None
+none_of None h = refl
+none_of (Some x) h = cc
 
 ascii_label : (label : Text) → is_none (label_fault label) ≡ true → IsAscii label
-ascii_label label h = ascii_bytes label (second_passes (nat_eq (length label) 0) (list_all is_label_byte label) EmptyLabel BadCharacter _ h)
+ascii_label label h = ascii_bytes label (label_bytes label (none_of (label_fault label) h))
 
 ascii-join : (labels : List Text) → list_all (λ label. is_none (label_fault label)) labels ≡ true → IsAscii (join_with_byte 46 labels)
 ascii-join [] h = IsAscii-nil

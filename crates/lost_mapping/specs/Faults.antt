@@ -10,7 +10,7 @@ use Rattle.lost_spec.specs.Ring.{Point, point_fault}
 use Rattle.lost_spec.specs.Civic.{Pairs}
 use Rattle.lost_spec.specs.Moment.{is_stamp}
 use Rattle.lost_mapping.specs.Identity.{identity_fault}
-use Rattle.lost_spec.specs.Mapping.{Parts, Region, DisplayName, is_expires, are_uris, is_number, is_region, has_right_key}
+use Rattle.lost_spec.specs.Mapping.{Parts, Region, DisplayName, is_expires, are_uris, is_number, is_region, polygons_of, patterns_of, has_right_key}
 
 -- the answer is this refusal, or none where this is none, but for want of memory
 abbrev pub Refuses : {Made : Type 0} → Result Made MappingError → Option MappingError → Type 0
@@ -64,3 +64,9 @@ shape_fault is_default count polygons patterns names key =
     (not (has_right_count is_default count), RegionMissing)
     ∷ (is_oversized polygons patterns names, TooLarge)
     ∷ (not (has_right_key is_default key), BadKey) ∷ [])
+
+-- where the mapping holds, and all that is refused after it
+abbrev pub areas_fault : Parts → Option MappingError
+areas_fault parts =
+    option_or (regions_fault parts.regions)
+    (shape_fault parts.is_default (length parts.regions) (polygons_of parts.regions) (patterns_of parts.regions) parts.display_names parts.key)

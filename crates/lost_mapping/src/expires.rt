@@ -41,6 +41,13 @@ impl Expires {
         }
     }
 
+    /// Whether a text is `NO-CACHE`, `NO-EXPIRATION` or a stamp. It takes no memory.
+    pub(crate) fn is_expires(text: &str) -> bool
+        ensures { result ≡ is_expires text.now }
+    {
+        text == "NO-CACHE" || text == "NO-EXPIRATION" || Stamp::is_stamp(text.as_bytes())
+    }
+
     /// Whether a mapping that expires then is live at an instant: always with one of the two words, and else before
     /// the stamp's instant.
     pub fn is_live_at(&self, now: &Moment) -> bool

@@ -1,11 +1,12 @@
 //! What stands at the head of a mapping: what names it, when it was changed, until when it holds, and its service.
 ghost use Rattle.std.specs.Prelude.{◌≡◌, not, is_err, IfOk};
+ghost use Rattle.std.specs.Result.{result_err};
 ghost use Rattle.lost_spec.specs.Text.{lowered};
 ghost use Rattle.lost_spec.specs.Service.{read_service as read_service_text};
 ghost use Rattle.lost_spec.specs.Moment.{is_stamp, stamp_of};
 ghost use Rattle.lost_spec.specs.Mapping.{is_expires, expires_of};
 ghost use Rattle.lost_mapping.specs.Expires.{expires_seen};
-ghost use Rattle.lost_mapping.specs.Faults.{Refuses, fault_if, head_fault};
+ghost use Rattle.lost_mapping.specs.Faults.{Refuses, fault_if, terms_fault, head_fault};
 ghost use Rattle.lost_mapping.specs.Identity.{identity_fault};
 ghost use Rattle.lost_mapping.specs.Parts.{parts_of};
 
@@ -47,6 +48,36 @@ impl Head {
             service,
         })
     }
+}
+
+/// Refuses the source, the sourceId, the stamp, the end or the service, the first that is bad. It takes no memory.
+pub(crate) fn check_head(parts: &Parts) -> Result<(), MappingError>
+    ensures { result_err result ≡ head_fault (parts_of parts.now) }
+{
+    Identity::check(parts.source.as_str(), parts.source_id.as_str())?;
+    check_terms(parts)
+}
+
+/// Refuses the stamp, the end or the service, the first that is bad.
+fn check_terms(parts: &Parts) -> Result<(), MappingError>
+    ensures { result_err result ≡ terms_fault (parts_of parts.now) }
+{
+    if !Stamp::is_stamp(parts.last_updated.as_bytes()) {
+        return Err(MappingError::BadStamp);
+    }
+    if !Expires::is_expires(parts.expires.as_str()) {
+        return Err(MappingError::BadExpires);
+    }
+    if !is_service(parts.service.as_str()) {
+        return Err(MappingError::BadService);
+    }
+    Ok(())
+}
+
+fn is_service(text: &str) -> bool
+    ensures { result ≡ not (is_err (read_service_text text.now)) }
+{
+    ServiceUrn::check(text.as_bytes()).is_ok()
 }
 
 fn read_identity(alloc: Global, source: &str, source_id: &str) -> Result<Identity, MappingError>

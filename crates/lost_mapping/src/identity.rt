@@ -1,6 +1,7 @@
 //! What names a mapping over the whole server. Rules without a section are this profile's own.
 ghost use Rattle.std.specs.Prelude.{◌≡◌, ◌&&◌, ◌++◌, bytes_eq, IsTrue, IsNone, IfSome, IfOk, IsOkUnless};
 ghost use Rattle.std.specs.Hash as fed;
+ghost use Rattle.std.specs.Result.{result_err};
 ghost use Rattle.std.proofs.Common.{rules};
 ghost use Rattle.std.specs.Cmp.Rules.{comparing, hashing};
 ghost use Rattle.lost_spec.specs.Text.{lowered};
@@ -45,13 +46,21 @@ impl Identity {
         ensures value { IfOk result
             (λ i. i ≡ record { source = lowered source.now; source_id = source_id.now }) }
     {
+        Identity::check(source, source_id)?;
+        Identity::keep(alloc, source, source_id).map_err(|_| MappingError::Memory)
+    }
+
+    /// Ok where `parse` reads this source and sourceId, and else their refusal. It takes no memory.
+    pub fn check(source: &str, source_id: &str) -> Result<(), MappingError>
+        ensures { result_err result ≡ identity_fault source.now source_id.now }
+    {
         if !is_source(source.as_bytes()) {
             return Err(MappingError::BadSource);
         }
         if !is_id(source_id) {
             return Err(MappingError::BadSourceId);
         }
-        Identity::keep(alloc, source, source_id).map_err(|_| MappingError::Memory)
+        Ok(())
     }
 
     fn keep(alloc: Global, source: &str, source_id: &str) -> Result<Identity, AllocError>

@@ -3,6 +3,7 @@
 
 mod ascii;
 mod calendar;
+mod checks;
 mod digits;
 mod expires;
 mod head;

@@ -1,24 +1,22 @@
 //! A mapping, built from its parts. Rules without a section are this profile's own.
-ghost use Rattle.std.specs.Prelude.{◌≡◌, ◌≢◌, None, IfOk, IfErr, OnOk};
+ghost use Rattle.std.specs.Prelude.{◌≡◌, ◌≢◌, None, Err, IfOk, IfErr, IfSome, OnOk};
 ghost use Rattle.std.specs.Option.{option_copied};
 ghost use Rattle.lost_spec.specs.Mapping.{parts_fault, mapping_of, is_live};
 ghost use Rattle.lost_spec.specs.Book.{identity_of};
 ghost use Rattle.lost_mapping.specs.Expires.{expires_seen};
-ghost use Rattle.lost_mapping.specs.Faults.{Refuses, contact_fault};
+ghost use Rattle.lost_mapping.specs.Faults.{Refuses};
 ghost use Rattle.lost_mapping.specs.Parts.{parts_of, display_names_of};
 ghost use Rattle.lost_mapping.specs.Shape.{IsShaped};
 ghost use Rattle.lost_mapping.specs.Texts.{texts_of};
 
+use crate::checks::check_parts;
 use crate::expires::Expires;
 use crate::head::Head;
 use crate::identity::Identity;
 use crate::moment::Moment;
-use crate::number::is_number;
 use crate::parts::{DisplayName, Parts};
 use crate::regions::Areas;
-use crate::shape::check_shape;
 use crate::stamp::Stamp;
-use crate::uris::are_uris;
 use lost_civic::CivicPattern;
 use lost_geo::Polygon;
 use lost_spec::faults::MappingError;
@@ -75,23 +73,18 @@ impl Mapping {
     /// pattern, [`MappingError::RegionMissing`] for a default with a region or another mapping without one,
     /// [`MappingError::TooLarge`] for more than 64 polygons, 256 patterns or 16 display names, or a language or text
     /// of more than 1,024 bytes in one, [`MappingError::BadKey`] where a default has a key, or another mapping has
-    /// none or a bad one. [`MappingError::Memory`], for want of memory, may come in place of any other answer.
+    /// none or a bad one. [`MappingError::Memory`] comes for want of memory, and in place of no other refusal.
     pub fn build(alloc: Global, parts: Parts) -> Result<Mapping, MappingError>
         ensures accepted { OnOk result (parts_fault (parts_of parts) ≡ None) }
         ensures mapping { IfOk result (λ mapping. mapping ≡ mapping_of (parts_of parts)) }
         ensures refused { IfErr result (λ e. e ≢ MappingError.Memory → parts_fault (parts_of parts) ≡ Some e) }
+
+        // Memory comes only after the checks.
+        ensures checked_first { IfSome (parts_fault (parts_of parts)) (λ e. result ≡ Err e) }
     {
+        check_parts(&parts)?;
         let head = Head::read(alloc, &parts)?;
-        check_contact(&parts)?;
-        let regions = parts.regions.len();
         let areas = Areas::read(alloc, parts.regions)?;
-        check_shape(
-            parts.is_default,
-            regions,
-            &areas,
-            parts.display_names.as_slice(),
-            parts.key.as_deref(),
-        )?;
         Mapping::share(
             alloc,
             Fields {
@@ -218,17 +211,4 @@ impl Mapping {
             inner: Arc::try_clone(&self.inner)?,
         })
     }
-}
-
-/// Refuses bad URIs, and then a bad number.
-fn check_contact(parts: &Parts) -> Result<(), MappingError>
-    ensures { Refuses result (contact_fault (parts_of parts.now)) }
-{
-    if !are_uris(parts.uris.as_slice()) {
-        return Err(MappingError::BadUri);
-    }
-    if !is_number(parts.number.as_deref()) {
-        return Err(MappingError::BadNumber);
-    }
-    Ok(())
 }

@@ -10,7 +10,7 @@ ghost use Rattle.lost_mapping.specs.Parts.{region_of, regions_of};
 
 use crate::parts::Region;
 use lost_civic::{CivicError, CivicPattern};
-use lost_geo::{GeoPoint, Polygon};
+use lost_geo::{GeoPoint, Polygon, is_ring};
 use lost_spec::faults::MappingError;
 use std::alloc::Global;
 
@@ -74,14 +74,42 @@ impl Areas {
     }
 }
 
+/// Whether each region can be read: a ring of points, or a pattern that is not refused. It takes no memory.
+pub(crate) fn are_regions(regions: &[Region]) -> bool
+    ensures { result ≡ list_all is_region (regions_of regions.now) }
+{
+    regions.iter().all(is_region)
+}
+
+fn is_region(region: &Region) -> bool
+    ensures { result ≡ is_region (region_of region.now) }
+{
+    match region {
+        Region::Ring(positions) => is_ring(positions.as_slice()),
+        Region::Pattern(pairs) => CivicPattern::check(pairs.as_slice()).is_ok(),
+        Region::Unreadable => false,
+    }
+}
+
 fn read_polygon(alloc: Global, positions: &[(i64, i64)]) -> Result<Polygon, MappingError>
     ensures polygon { IfOk result (λ polygon. polygon ≡ map point_of positions.now) }
     ensures refuses { Refuses result (fault_if (not (is_ring positions.now)) MappingError.BadRegion) }
 {
     let points = read_points(alloc, positions)?;
     match Polygon::new(points) {
-        Ok(polygon) => Ok(polygon),
+        Ok(polygon) => shared(alloc, polygon),
         Err(_) => Err(MappingError::BadRegion),
+    }
+}
+
+/// The same polygon, shared: a copy of it costs a pointer.
+fn shared(alloc: Global, polygon: Polygon) -> Result<Polygon, MappingError>
+    ensures polygon { IfOk result (λ shared. shared ≡ polygon) }
+    ensures refuses { Refuses result None }
+{
+    match polygon.share(alloc) {
+        Ok(shared) => Ok(shared),
+        Err(_) => Err(MappingError::Memory),
     }
 }
 

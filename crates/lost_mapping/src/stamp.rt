@@ -44,6 +44,13 @@ impl Stamp {
         Stamp::keep(alloc, text, moment).map_err(|_| StampError::Memory)
     }
 
+    /// Whether `parse` reads this text as a stamp. It takes no memory.
+    pub fn is_stamp(text: &[u8]) -> bool
+        ensures { result ≡ is_stamp text.now }
+    {
+        read_moment(text).is_some()
+    }
+
     fn keep(alloc: Global, text: &[u8], moment: Moment) -> Result<Stamp, AllocError>
         requires { IsStampAt text.now moment }
         ensures { IfOk result (λ s. s ≡ record { text = text.now; moment = moment }) }

@@ -25,7 +25,7 @@ second_passes true b x y rest h = absurd (cc)
 second_passes false true x y rest h = refl
 second_passes false false x y rest h = absurd (cc)
 
-label_bytes : (label : Text) → label_fault label ≡ None → list_all is_label_byte label ≡ true
+pub label_bytes : (label : Text) → label_fault label ≡ None → list_all is_label_byte label ≡ true
 label_bytes label none = second_passes (nat_eq (length label) 0) (list_all is_label_byte label) EmptyLabel BadCharacter _ none
 
 lowered_byte : (b : ℕ) → is_label_byte b ≡ true → to_ascii_lowercase b ≡ b
@@ -49,7 +49,7 @@ one_part (b ∷ rest) h =
     let parts = both_true (is_label_byte b) (list_all is_label_byte rest) h in
     rw (no_dot b parts.0, one_part rest parts.1)
 
-ascii_bytes : (bs : Text) → list_all is_label_byte bs ≡ true → IsAscii bs
+pub ascii_bytes : (bs : Text) → list_all is_label_byte bs ≡ true → IsAscii bs
 ascii_bytes [] h = IsAscii-nil
 ascii_bytes (b ∷ rest) h =
     let parts = both_true (is_label_byte b) (list_all is_label_byte rest) h in

@@ -1,4 +1,4 @@
-//! One label of a service URN, in any case. Rules without a section are this profile's own.
+//! One label of a name that is joined by dots, as a service URN, in any case. Rules without a section are this profile's own.
 ghost use Rattle.std.specs.Prelude.{◌≡◌, ◌||◌};
 ghost use Rattle.std.specs.List.{list_all};
 ghost use Rattle.std.specs.Char.{to_ascii_lowercase};
@@ -12,9 +12,10 @@ use lost_spec::faults::UrnError;
 const MAX_LEN: usize = 63;
 
 /// Refuses a label that is empty, has a byte other than ASCII letters, digits and hyphens, begins or ends with a
-/// hyphen, or is too long, in this order (RFC 5031, section 3; the length and the order are own rules).
+/// hyphen, or has more than 63 bytes, in this order and in any case (RFC 5031, section 3; the length and the order are
+/// own rules). It takes no memory. The labels of other names that are joined by dots are checked by it too.
 #[tactic(auto, using(crate::proofs::LabelLemmas::lowering))]
-pub(crate) fn check_label(label: &[u8]) -> Result<(), UrnError>
+pub fn check_label(label: &[u8]) -> Result<(), UrnError>
     ensures { AnswersFault result (label_fault (lowered label.now)) }
 {
     if label.is_empty() {

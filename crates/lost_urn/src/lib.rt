@@ -7,5 +7,6 @@ mod spelling;
 mod traits;
 mod urn;
 
+pub use label::check_label;
 pub use lost_spec::faults::UrnError;
 pub use urn::ServiceUrn;

@@ -1,6 +1,7 @@
 //! A service, kept as its text.
 ghost use Rattle.std.specs.Prelude.{◌≡◌, ◌≢◌, ◌≤◌, IfOk, IfErr, IsErr, IsTrue, length, take, string_bytes};
 ghost use Rattle.std.specs.List.{join_with_byte};
+ghost use Rattle.std.specs.Result.{result_err};
 ghost use Rattle.std.specs.Str.{IsAscii};
 ghost use Rattle.lost_spec.specs.Text.{lowered};
 ghost use Rattle.lost_spec.specs.Service.{read_service, service_text, is_service, is_at_or_below, split_at_dots};
@@ -47,6 +48,16 @@ impl ServiceUrn {
         Ok(ServiceUrn { text, depth })
     }
 
+    /// Ok where `parse` reads this text, and else its refusal. It takes no memory.
+    pub fn check(text: &[u8]) -> Result<(), UrnError>
+        ensures { result_err result ≡ result_err (read_service text.now) }
+    {
+        match count_labels(text) {
+            Ok(_) => Ok(()),
+            Err(fault) => Err(fault),
+        }
+    }
+
     /// The text, in lower case: `urn:service:` and the labels with a dot between each two (RFC 5031, section 3).
     pub fn text(&self) -> &str
         ensures text { result.now ≡ service_text self.now }
@@ -73,15 +84,26 @@ impl ServiceUrn {
         }
     }
 
+    /// The text of the service of the first labels, where their number is from 1 to the depth. It takes no memory, so a
+    /// service's chain is walked by it without making a text.
+    pub fn front(&self, labels: usize) -> &str
+        requires some { 1 ≤ labels }
+        requires within { labels ≤ length self.now }
+        ensures text { result.now ≡ service_text (take labels self.now) }
+        ensures well_formed { IsTrue (is_service (take labels self.now)) }
+    {
+        let text = self.text();
+        let end = end_of_labels(text.as_bytes(), labels);
+        &text[..end]
+    }
+
     /// The service of the first `n` labels, where `n` is from 1 to the depth. Fails where there is no memory for it.
     pub fn cut(&self, n: usize) -> Result<ServiceUrn, AllocError>
         requires some { 1 ≤ n }
         requires within { n ≤ length self.now }
         ensures { IfOk result (λ s. s ≡ take n self.now) }
     {
-        let text = self.text();
-        let end = end_of_labels(text.as_bytes(), n);
-        let text = String::from_str(*self.text.allocator(), &text[..end])?;
+        let text = String::from_str(*self.text.allocator(), self.front(n))?;
         Ok(ServiceUrn { text, depth: n })
     }
 
