@@ -38,3 +38,10 @@ module _ {R : Type 0} where
   gone n change rs (e ∷ es) above =
       rw (apart_below n e.0 (above 0 e (omega arith)), apart_below n e.0 (above 0 e (omega arith)))
       (ap (λ l. e ∷ l) (gone n change rs es (λ k d within. above (suc k) d (omega arith))))
+
+  -- nor when it is taken out with its regions
+  pub gone_whole : (n : ℕ) (rs : List R) (es : List (ℕ × List R)) → IsAbove n es → without n (es ++ (n, rs) ∷ []) ≡ es
+  gone_whole n rs [] above = rw (same_itself n) refl
+  gone_whole n rs (e ∷ es) above =
+      rw (apart_below n e.0 (above 0 e (omega arith)))
+      (ap (λ l. e ∷ l) (gone_whole n rs es (λ k d within. above (suc k) d (omega arith))))

@@ -2,6 +2,7 @@
 //! and what it answers is printed, so that the gate runs the same code.
 #![tactic(auto)]
 
+mod changes;
 mod districts;
 mod map;
 mod measures;

@@ -6,6 +6,9 @@ use lost_geo::{GeoPoint, Polygon};
 use lost_grid::Geodetic2d;
 use lost_index::Index;
 use std::alloc::{AllocError, Global};
+use std::io;
+use std::rt::Clock;
+use std::time::{Duration, Instant};
 
 /// An index under numbers that rise from 0, with the next one.
 #[derive(Drop)]
@@ -36,15 +39,36 @@ impl Map {
         Ok(())
     }
 
-    /// Puts a ring under the next number, cuts it away, and takes the number out.
+    /// Puts a ring under the next number, cuts it away, and takes the number out. Gives how long the cut took.
     #[tactic(auto, using(crate::proofs::MapLemmas::gone))]
-    pub(crate) fn come_and_go(&mut self, alloc: Global, ring: Polygon) -> Result<(), AllocError> {
-        let mut regions = Vec::new(alloc);
+    pub(crate) fn time_of_cut<R: Clock + AllocGlobal>(
+        &mut self,
+        rt: &R,
+        ring: Polygon,
+    ) -> io::Result<Duration> {
+        let mut regions = Vec::new(rt.alloc());
         regions.push(ring)?;
         self.index.put(self.next, regions)?;
+        let start = Instant::now(rt);
         self.index.cut(self.next, 0, 0);
+        let end = Instant::now(rt);
         self.index.take(self.next);
-        Ok(())
+        Ok(end?.duration_since(start?))
+    }
+
+    /// Puts a ring under the next number, and takes the number out with it. Gives how long that took.
+    #[tactic(auto, using(crate::proofs::MapLemmas::gone_whole))]
+    pub(crate) fn time_of_take<R: Clock + AllocGlobal>(
+        &mut self,
+        rt: &R,
+        ring: Polygon,
+    ) -> io::Result<Duration> {
+        let mut regions = Vec::new(rt.alloc());
+        regions.push(ring)?;
+        self.index.put(self.next, regions)?;
+        let start = Instant::now(rt);
+        self.index.take(self.next);
+        start?.elapsed(rt)
     }
 
     /// How many numbers have a ring that contains the point.

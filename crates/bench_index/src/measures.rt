@@ -1,25 +1,23 @@
 //! What is measured, and how it is printed.
 
+use crate::changes::print_changes;
 use crate::districts::{SIDE, district};
 use crate::map::Map;
 use crate::numbers::below;
 use crate::shapes::{place, position, sliver, square};
-use lost_geo::GeoPoint;
+use lost_geo::{GeoPoint, Polygon};
 use std::alloc::Global;
 use std::io;
 use std::rt::Clock;
 use std::time::{Duration, Instant};
 
 /// The rows and the columns of the small map and of the large one: 1,024 and 60,025 districts.
-const SMALL: u32 = 32;
+pub(crate) const SMALL: u32 = 32;
 
-const LARGE: u32 = 245;
+pub(crate) const LARGE: u32 = 245;
 
 /// How many points are asked for.
 const ASKED: u32 = 400_000;
-
-/// How many districts come and go.
-const CHANGES: u32 = 500;
 
 /// How many rings are over one place.
 const PILED: u32 = 10_000;
@@ -60,26 +58,32 @@ pub(crate) fn print_costs<R: Print + Clock + AllocGlobal>(rt: &R) -> io::Result<
     let start = Instant::now(rt)?;
     let mut large = map_of(alloc, LARGE)?;
     let made = start.elapsed(rt)?;
+    print_walks(rt, alloc)?;
     print_puts(rt, alloc)?;
     println!(rt;
         "60,025 districts made and put: {} milliseconds",
         made.as_millis()
     )?;
     for _ in 0..3 {
-        let few = asked(rt, &small, SMALL)?;
-        let many = asked(rt, &large, LARGE)?;
-        println!(rt;
-            "holding: {few} and {many} nanoseconds at 1,024 and 60,025, {} of a hundred",
-            share(many, few)
-        )?;
+        print_asked(rt, &small, &large)?;
     }
-    let few = changed(rt, &mut small, SMALL)?;
-    let many = changed(rt, &mut large, LARGE)?;
-    println!(rt;
-        "put, cut and take: {few} and {many} nanoseconds, {} of a hundred",
-        share(many, few)
-    )?;
+    print_changes(rt, &mut small, &mut large)?;
     print_worst(rt)
+}
+
+/// Asks both maps the same points, all of them over the small one, and then each map points all over itself.
+fn print_asked<R: Print + Clock + AllocGlobal>(rt: &R, small: &Map, large: &Map) -> io::Result<()> {
+    let few = asked(rt, small, SMALL)?;
+    let same = asked(rt, large, SMALL)?;
+    let many = asked(rt, large, LARGE)?;
+    println!(rt;
+        "holding: {few} and {same} nanoseconds at 1,024 and 60,025 for the same points, {} of a hundred",
+        share(same, few)
+    )?;
+    println!(rt;
+        "holding: {few} and {many} nanoseconds at 1,024 and 60,025 for points all over, {} of a hundred",
+        share(many, few)
+    )
 }
 
 /// Measures what costs most.
@@ -101,14 +105,67 @@ fn print_worst<R: Print + Clock + AllocGlobal>(rt: &R) -> io::Result<()> {
     println!(rt; "200 slivers of 4,096 positions over the earth: {spent} nanoseconds for each")
 }
 
-/// Measures how long the rings of the large map take to put, once they are made.
-fn print_puts<R: Print + Clock + AllocGlobal>(rt: &R, alloc: Global) -> io::Result<()> {
+/// The rings of so many rows and columns of districts.
+fn rings_of(alloc: Global, rows: u32) -> io::Result<Vec<Polygon>> {
     let mut rings = Vec::new(alloc);
-    for row in 0..LARGE {
-        for column in 0..LARGE {
+    for row in 0..rows {
+        for column in 0..rows {
             rings.push(district(alloc, row, column)?)?;
         }
     }
+    Ok(rings)
+}
+
+/// Measures how long it takes to walk the one ring of a point's district, with no index.
+fn print_walks<R: Print + Clock + AllocGlobal>(rt: &R, alloc: Global) -> io::Result<()> {
+    let small = rings_of(alloc, SMALL)?;
+    let large = rings_of(alloc, LARGE)?;
+    for _ in 0..3 {
+        let few = walked(rt, &small, SMALL)?;
+        let many = walked(rt, &large, LARGE)?;
+        println!(rt;
+            "one ring alone: {few} and {many} nanoseconds at 1,024 and 60,025, {} of a hundred",
+            share(many, few)
+        )?;
+    }
+    Ok(())
+}
+
+/// How long one point takes in the ring of its district, over points all over a map.
+fn walked<R: Clock + AllocGlobal>(rt: &R, rings: &[Polygon], rows: u32) -> io::Result<u64> {
+    let points = points(rt.alloc(), rows)?;
+    let start = Instant::now(rt)?;
+    let mut inside: usize = 0;
+    for point in &points {
+        inside = inside.saturating_add(usize::from(is_inside(rings, rows, point)));
+    }
+    let spent = start.elapsed(rt)?;
+    if inside == 0 {
+        return Ok(0);
+    }
+    Ok(each(spent, ASKED))
+}
+
+/// Whether a point is inside the ring of its district.
+fn is_inside(rings: &[Polygon], rows: u32, point: &GeoPoint) -> bool {
+    let place = row_of(point.lat())
+        .saturating_mul(rows as usize)
+        .saturating_add(row_of(point.lon()));
+    match rings.get(place) {
+        Some(ring) => ring.inside(point),
+        None => false,
+    }
+}
+
+/// The row or column of the district at a latitude or a longitude.
+fn row_of(degrees: i64) -> usize {
+    let row = degrees.checked_div(i64::from(SIDE)).unwrap_or(0);
+    usize::try_from(row).unwrap_or(usize::MAX)
+}
+
+/// Measures how long the rings of the large map take to put, once they are made.
+fn print_puts<R: Print + Clock + AllocGlobal>(rt: &R, alloc: Global) -> io::Result<()> {
+    let rings = rings_of(alloc, LARGE)?;
     let mut map = Map::new(alloc);
     let start = Instant::now(rt)?;
     for ring in rings {
@@ -167,20 +224,6 @@ fn points(alloc: Global, rows: u32) -> io::Result<Vec<GeoPoint>> {
     Ok(points)
 }
 
-/// How long it takes to put one more district over another one, to cut it away and to take its number out.
-fn changed<R: Clock + AllocGlobal>(rt: &R, map: &mut Map, rows: u32) -> io::Result<u64> {
-    let alloc = rt.alloc();
-    let mut rings = Vec::new(alloc);
-    for number in 0..CHANGES {
-        rings.push(district(alloc, below(rows, number, 1), below(rows, number, 2))?)?;
-    }
-    let start = Instant::now(rt)?;
-    for ring in rings {
-        map.come_and_go(alloc, ring)?;
-    }
-    Ok(each(start.elapsed(rt)?, CHANGES))
-}
-
 /// So many nanoseconds for each of so many.
 fn each(spent: Duration, count: u32) -> u64 {
     u64::try_from(spent.as_nanos())
@@ -190,6 +233,6 @@ fn each(spent: Duration, count: u32) -> u64 {
 }
 
 /// So many of a hundred.
-fn share(part: u64, whole: u64) -> u64 {
+pub(crate) fn share(part: u64, whole: u64) -> u64 {
     part.saturating_mul(100).checked_div(whole).unwrap_or(0)
 }

@@ -11,5 +11,8 @@ use std::io;
 fn main(rt: HostRuntime) -> io::Result<()> {
     keys::print_covers(&rt)?;
     keys::print_probes(&rt)?;
-    index::print_row(&rt)
+    index::print_row(&rt)?;
+    index::try_first_put(&rt)?;
+    index::try_second_put(&rt)?;
+    index::try_add(&rt)
 }

@@ -1,5 +1,5 @@
 -- The laws of the tens.
-use Rattle.std.proofs.Common.{◌≡◌, ℕ, ◌+◌, ◌/◌, ◌≤◌, Bool, true, false, cond, List, [], ◌∷◌, length, nat_eq, nat_le, IsTrue, Contains, refl, arith}
+use Rattle.std.proofs.Common.{◌≡◌, ℕ, ◌+◌, ◌/◌, ◌≤◌, Bool, true, false, ◌&&◌, ap, ◌∙◌, cond, List, [], ◌∷◌, length, nat_eq, nat_le, IsTrue, Contains, refl, arith}
 use Rattle.std.specs.List.{IsDistinct}
 use Rattle.std.proofs.lemmas.Bool.Decides.{nat_tests}
 use Rattle.std.proofs.lemmas.Bool.{and_parts}
@@ -62,3 +62,14 @@ cover_meets_probes stretch number short holds =
           (rises stretch.0 number from) (rises number stretch.1 to) (near stretch.0 stretch.1 short.short);
       in_right = (0, omega arith, refl);
     }
+
+same_number : (n k : ℕ) → nat_eq n k ≡ true → n ≡ k
+same_number n k same = search (arith, nat_tests)
+
+-- equal ends are those of the same numbers
+pub equal_ends_agree : (ends other : ℕ × ℕ) (number : ℕ) → (nat_eq ends.0 other.0 && nat_eq ends.1 other.1) ≡ true
+    → within ends number ≡ within other number
+equal_ends_agree ends other number same =
+    let parts = and_parts (nat_eq ends.0 other.0) (nat_eq ends.1 other.1) same in
+    ap (λ low. nat_le low number && nat_le number ends.1) (same_number ends.0 other.0 parts.0)
+    ∙ ap (λ high. nat_le other.0 number && nat_le number high) (same_number ends.1 other.1 parts.1)

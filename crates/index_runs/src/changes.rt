@@ -53,7 +53,7 @@ fn drawn(lines: &BTreeMap<u64, Line>, draws: &mut Draws) -> u64 {
 }
 
 /// Puts a new number with drawn stretches into both, or want of memory.
-fn put(
+pub(crate) fn put(
     index: &mut Index<Tens>,
     lines: &mut BTreeMap<u64, Line>,
     alloc: Global,
@@ -72,7 +72,7 @@ fn put(
 }
 
 /// Adds drawn stretches to a number in both, or want of memory.
-fn add(
+pub(crate) fn add(
     index: &mut Index<Tens>,
     lines: &mut BTreeMap<u64, Line>,
     alloc: Global,

@@ -47,7 +47,7 @@ fn first_difference(alloc: Global, run: u64) -> Result<Option<u32>, AllocError> 
 }
 
 /// The first of some drawn places at which the index does not answer as the scan, or want of memory.
-fn difference(
+pub(crate) fn difference(
     index: &Index<Tens>,
     lines: &BTreeMap<u64, Line>,
     alloc: Global,

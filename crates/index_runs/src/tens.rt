@@ -1,6 +1,6 @@
 //! A profile of whole numbers, kept by their tens.
 ghost use Rattle.index_runs.specs.Tens.{IsShort, within, cover_of, probes_of};
-ghost use Rattle.index_runs.specs.TensLaws.{cover_meets_probes, cover_is_distinct, cover_is_bounded};
+ghost use Rattle.index_runs.specs.TensLaws.{cover_meets_probes, cover_is_distinct, cover_is_bounded, equal_ends_agree};
 
 use crate::stretch::Stretch;
 use lost_profile::Profile;
@@ -80,4 +80,6 @@ impl Profile for Tens {
     ghost cover_is_bounded = { λ region _. cover_is_bounded region };
 
     ghost holder_is_near = { λ _ _ _ _ holds. holds };
+
+    ghost equal_outlines_agree = { equal_ends_agree };
 }

@@ -83,4 +83,6 @@ impl Profile for Civic {
     ghost cover_is_bounded = { λ region _. one_at_most _ };
 
     ghost holder_is_near = { λ _ _ _ _ _. refl };
+
+    ghost equal_outlines_agree = { λ _ _ _ _. refl };
 }

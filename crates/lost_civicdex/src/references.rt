@@ -93,4 +93,6 @@ impl Profile for References {
     ghost cover_is_bounded = { λ region _. keys_bounded region };
 
     ghost holder_is_near = { λ _ _ _ _ _. refl };
+
+    ghost equal_outlines_agree = { λ _ _ _ _. refl };
 }

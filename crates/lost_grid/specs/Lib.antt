@@ -5,6 +5,7 @@ pub mod Areas
 pub mod LineOrder
 pub mod Runs
 pub mod CellsApart
+pub mod BoundsAlike
 pub mod LevelLaws
 pub mod CoverLaws
 pub mod Rows

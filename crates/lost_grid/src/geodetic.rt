@@ -6,6 +6,7 @@ ghost use Rattle.lost_geo.specs.Bounds.{bounds_of, is_within_bounds, is_from_to 
 ghost use Rattle.lost_geo.specs.Ranges.{IsInRange};
 ghost use Rattle.lost_grid.specs.Areas.{IsArea, may_hold};
 ghost use Rattle.lost_grid.specs.Grid.{cover_of, probes_of};
+ghost use Rattle.lost_grid.specs.BoundsAlike.{equal_bounds_agree};
 ghost use Rattle.lost_grid.specs.CellsApart.{same_cell, same_cell_tells};
 ghost use Rattle.lost_grid.specs.CoverLaws.{cover_meets_probes, cover_is_distinct, cover_is_bounded, holder_is_near};
 
@@ -82,6 +83,8 @@ impl Profile for Geodetic2d {
     ghost cover_is_bounded = { cover_is_bounded };
 
     ghost holder_is_near = { holder_is_near };
+
+    ghost equal_outlines_agree = { equal_bounds_agree };
 }
 
 /// Whether the position is within the bounds, all four included.

@@ -19,7 +19,8 @@ use Rattle.std.proofs.lemmas.List.Folds.{list_any-append, Any-from_list_any}
 use Rattle.std.proofs.lemmas.Map.Views.{any-filter_same, Contains-from_any, list_any-from_Contains, btree_map_contains_key_iff, btree_map_get_iff}
 use Rattle.lost_profile.specs.Keys.{SharesKey}
 use Rattle.lost_index.specs.Held.{numbers, holders}
-use Rattle.lost_index.specs.Notes.{numbers_of, is_holder, IsIndexed}
+use Rattle.lost_index.specs.declared.note.Note.{Note}
+use Rattle.lost_index.specs.Notes.{notes_of, is_note, has_note, numbers_that_pass, is_holder, IsIndexed}
 use Rattle.lost_index.proofs.HeldLemmas.{at_same}
 use Rattle.lost_index.proofs.NotingLemmas.{any-from_contained}
 
@@ -43,22 +44,62 @@ any-flat_map test f (x ∷ xs) = list_any-append test (f x) (flat_map f xs) ∙ 
 pub stands-filter : (p : ℕ → Bool) (n : ℕ) (xs : List ℕ) → list_any (nat_eq n) (filter p xs) ≡ (p n && list_any (nat_eq n) xs)
 stands-filter p n xs = any-filter_same (nat_eq n) p (p n) (λ k same. ap p (sym (same_number n k same))) xs
 
--- what is found under the keys passes
-pub found_passes : {K : Type 0} (p : ℕ → Bool) (n : ℕ) (cell : K → List ℕ) (keys : List K)
-    → list_any (nat_eq n) (flat_map (λ key. filter p (cell key)) keys) ≡ true → p n ≡ true
-found_passes p n cell keys found =
-    let any = Any-from_list_any (λ key. list_any (nat_eq n) (filter p (cell key))) keys
-    (sym (any-flat_map (nat_eq n) (λ key. filter p (cell key)) keys) ∙ found) in
-    left_of_and (p n) (list_any (nat_eq n) (cell any.1)) (sym (stands-filter p n (cell any.1)) ∙ any.4)
+-- what stands in what a map or a filter gives, stands in the list
+any-map : {X Y : Type 0} (test : Y → Bool) (f : X → Y) (xs : List X) → list_any test (map f xs) ≡ list_any (λ x. test (f x)) xs
+any-map test f [] = refl
+any-map test f (x ∷ xs) = ap (λ b. test (f x) || b) (any-map test f xs)
 
--- a number that passes and is noted under one of the keys is found
-pub passes_found : {K : Type 0} (p : ℕ → Bool) (n : ℕ) (cell : K → List ℕ) (keys : List K) (key : K)
-    → p n ≡ true → Contains keys key → list_any (nat_eq n) (cell key) ≡ true
-    → list_any (nat_eq n) (flat_map (λ key. filter p (cell key)) keys) ≡ true
-passes_found p n cell keys key passes stands noted =
-    any-flat_map (nat_eq n) (λ key. filter p (cell key)) keys
-    ∙ any-from_contained (λ key. list_any (nat_eq n) (filter p (cell key))) keys key stands
-    (stands-filter p n (cell key) ∙ both_and (p n) (list_any (nat_eq n) (cell key)) passes noted)
+any-kept : (a b c : Bool) → (cond a (b || c) c) ≡ ((a && b) || c)
+any-kept true b c = refl
+any-kept false b c = refl
+
+any-cond : {X : Type 0} (test : X → Bool) (b : Bool) (x : X) (xs : List X) → list_any test (cond b (x ∷ xs) xs) ≡ cond b (test x || list_any test xs) (list_any test xs)
+any-cond test true x xs = refl
+any-cond test false x xs = refl
+
+any-filter : {X : Type 0} (test p : X → Bool) (xs : List X) → list_any test (filter p xs) ≡ list_any (λ x. p x && test x) xs
+any-filter test p [] = refl
+any-filter test p (x ∷ xs) =
+    any-cond test (p x) x (filter p xs) ∙ any-kept (p x) (test x) (list_any test (filter p xs)) ∙ ap (λ b. (p x && test x) || b) (any-filter test p xs)
+
+right_of_and : (a b : Bool) → (a && b) ≡ true → b ≡ true
+right_of_and true b h = h
+right_of_and false b h = absurd (false≢true h)
+
+module _ {K O : Type 0} (near : O → Bool) (p : ℕ → Bool) (n : ℕ) (cell : K → List (Note O)) (keys : List K) where
+  abbrev tests : Note O → Bool
+  tests note = near note.outline && p note.number
+
+  any-numbers : (notes : List (Note O)) → list_any (nat_eq n) (numbers_that_pass near p notes) ≡ list_any (λ note. tests note && nat_eq n note.number) notes
+  any-numbers notes =
+      any-map (nat_eq n) (λ note. note.number) (filter tests notes) ∙ any-filter (λ note. nat_eq n note.number) tests notes
+
+  -- what is found under the keys passes
+  pub found_passes : list_any (nat_eq n) (flat_map (λ key. numbers_that_pass near p (cell key)) keys) ≡ true → p n ≡ true
+  found_passes found =
+      let any = Any-from_list_any (λ key. list_any (nat_eq n) (numbers_that_pass near p (cell key))) keys
+      (sym (any-flat_map (nat_eq n) (λ key. numbers_that_pass near p (cell key)) keys) ∙ found) in
+      let one = Any-from_list_any (λ note. tests note && nat_eq n note.number) (cell any.1) (sym (any-numbers (cell any.1)) ∙ any.4) in
+      let note = one.1 in
+      let same = right_of_and (tests note) (nat_eq n note.number) one.4 in
+      ap p (same_number n note.number same)
+      ∙ right_of_and (near note.outline) (p note.number) (left_of_and (tests note) (nat_eq n note.number) one.4)
+
+  -- a number that passes, and is noted under one of the keys with an outline that does, is found
+  pub passes_found : (same : O → O → Bool) (outline : O) (key : K) → ((o : O) → same outline o ≡ true → near o ≡ true)
+      → p n ≡ true → Contains keys key → has_note same n outline (cell key) ≡ true
+      → list_any (nat_eq n) (flat_map (λ key. numbers_that_pass near p (cell key)) keys) ≡ true
+  passes_found same outline key alike passes stands noted =
+      let one = Any-from_list_any (is_note same n outline) (cell key) noted in
+      let note = one.1 in
+      let here = left_of_and (nat_eq n note.number) (same outline note.outline) one.4 in
+      let is_near = alike note.outline (right_of_and (nat_eq n note.number) (same outline note.outline) one.4) in
+      let tested = both_and (near note.outline) (p note.number) is_near (ap p (sym (same_number n note.number here)) ∙ passes) in
+      any-flat_map (nat_eq n) (λ key. numbers_that_pass near p (cell key)) keys
+      ∙ any-from_contained (λ key. list_any (nat_eq n) (numbers_that_pass near p (cell key))) keys key stands
+      (any-numbers (cell key)
+      ∙ any-from_contained (λ note. tests note && nat_eq n note.number) (cell key) note (one.0, one.2, one.3)
+      (both_and (tests note) (nat_eq n note.number) tested here))
 
 next_number : {V : Type 0} (p : ℕ → Bool) (b : Bool) (e : ℕ × V) (kept : List (ℕ × V)) (keys : List ℕ) → map (λ e. e.0) kept ≡ filter p keys
     → map (λ e. e.0) (cond b (e ∷ kept) kept) ≡ cond b (e.0 ∷ filter p keys) (filter p keys)
@@ -95,15 +136,21 @@ there_if : {X : Type 0} (f : X → Bool) (o : Option X) → option_map_or f o fa
 there_if f None h = absurd (false≢true h)
 there_if f (Some x) h = (x, refl, h)
 
-module _ {R L K S : Type 0} (is_region : R → Type 0) (cover_of : R → List K) (eq : K → K → Bool) (holds : R → L → Bool) (location : L)
-    (probes : List K) (held : BTreeMap ℕ (List R)) (cells : HashMap K (List ℕ) S)
-    (indexed : IsIndexed is_region cover_of eq held cells) (ordered : tree.IsOrdered nat_cmp held)
-    (meets : (region : R) → is_region region → holds region location ≡ true → SharesKey (cover_of region) probes) where
+module _ {R L K O S : Type 0} (is_region : R → Type 0) (cover_of : R → List K) (outline_of : R → O) (eq : K → K → Bool) (same : O → O → Bool)
+    (holds : R → L → Bool) (near : O → Bool) (location : L)
+    (probes : List K) (held : BTreeMap ℕ (List R)) (cells : HashMap K (List (Note O)) S)
+    (indexed : IsIndexed is_region cover_of outline_of eq same held cells) (ordered : tree.IsOrdered nat_cmp held)
+    (meets : (region : R) → is_region region → holds region location ≡ true → SharesKey (cover_of region) probes)
+    (is_near : (region : R) → is_region region → holds region location ≡ true → near (outline_of region) ≡ true)
+    (alike_near : (o other : O) → same o other ≡ true → near o ≡ near other) where
   abbrev passes : ℕ → Bool
   passes = is_holder holds location held
 
   abbrev some_holds : List R → Bool
   some_holds regions = list_any (λ region. holds region location) regions
+
+  abbrev found_under : K → List ℕ
+  found_under key = numbers_that_pass near passes (notes_of (get eq cells key))
 
   -- a number that passes is held
   stands_held : (n : ℕ) → passes n ≡ true → list_any (nat_eq n) (numbers held.entries) ≡ true
@@ -114,14 +161,17 @@ module _ {R L K S : Type 0} (is_region : R → Type 0) (cover_of : R → List K)
 
   -- and noted under a probe
   is_found : (n : ℕ) → passes n ≡ true
-      → list_any (nat_eq n) (flat_map (λ key. filter passes (numbers_of (get eq cells key))) probes) ≡ true
+      → list_any (nat_eq n) (flat_map found_under probes) ≡ true
   is_found n h =
       let there = there_if some_holds (tree.get nat_cmp held n) h in
       let any = Any-from_list_any (λ region. holds region location) there.0 there.2 in
       let stands : Contains there.0 any.1 = (any.0, any.2, any.3) in
-      let shared = meets any.1 (indexed.are_regions n there.0 there.1 any.1 stands) any.4 in
-      passes_found passes n (λ key. numbers_of (get eq cells key)) probes shared.key h shared.in_right
-      (indexed.are_noted n there.0 there.1 shared.key (record { region = any.1; stands = stands; covered = shared.in_left }))
+      let is_one = indexed.are_regions n there.0 there.1 any.1 stands in
+      let shared = meets any.1 is_one any.4 in
+      passes_found near passes n (λ key. notes_of (get eq cells key)) probes same (outline_of any.1) shared.key
+      (λ o equal. sym (alike_near (outline_of any.1) o equal) ∙ is_near any.1 is_one any.4) h shared.in_right
+      (indexed.are_noted n there.0 there.1 shared.key (outline_of any.1)
+      (record { region = any.1; stands = stands; covered = shared.in_left; outlined = refl }))
 
   alike : All (λ e. passes e.0 ≡ some_holds e.1) held.entries
   alike k d within =
@@ -132,21 +182,21 @@ module _ {R L K S : Type 0} (is_region : R → Type 0) (cover_of : R → List K)
   holders_filter : holders holds location held.entries ≡ filter passes (numbers held.entries)
   holders_filter = numbers-filter passes (λ e. some_holds e.1) held.entries alike
 
-  sound : (n : ℕ) (found : List ℕ) → Contains found n → found ≡ flat_map (λ key. filter passes (numbers_of (get eq cells key))) probes
+  sound : (n : ℕ) (found : List ℕ) → Contains found n → found ≡ flat_map found_under probes
       → list_any (nat_eq n) (filter passes (numbers held.entries)) ≡ true
   sound n found stands is =
-      let h = found_passes passes n (λ key. numbers_of (get eq cells key)) probes
+      let h = found_passes near passes n (λ key. notes_of (get eq cells key)) probes
       (ap (list_any (nat_eq n)) (sym is) ∙ list_any-from_Contains nat_eq_equiv n found stands) in
       stands-filter passes n (numbers held.entries) ∙ both_and (passes n) (list_any (nat_eq n) (numbers held.entries)) h (stands_held n h)
 
   complete : (n : ℕ) → list_any (nat_eq n) (filter passes (numbers held.entries)) ≡ true → (found : List ℕ)
-      → found ≡ flat_map (λ key. filter passes (numbers_of (get eq cells key))) probes → Contains found n
+      → found ≡ flat_map found_under probes → Contains found n
   complete n stands found is =
       let h = left_of_and (passes n) (list_any (nat_eq n) (numbers held.entries)) (sym (stands-filter passes n (numbers held.entries)) ∙ stands) in
       Contains-from_any same_number n found (ap (list_any (nat_eq n)) is ∙ is_found n h)
 
   pub holding_is : (found sorted result : List ℕ)
-      → found ≡ flat_map (λ key. filter passes (numbers_of (get eq cells key))) probes
+      → found ≡ flat_map found_under probes
       → IsPermutation found sorted → IsSorted nat_cmp sorted → result ≡ dedup nat_eq sorted
       → result ≡ holders holds location held.entries
   holding_is found sorted result is moved rising once =

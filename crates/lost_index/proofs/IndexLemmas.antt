@@ -7,6 +7,7 @@ use Rattle.std.proofs.lemmas.Bool.Decides.{nat_tests}
 use Rattle.std.proofs.lemmas.List.Elements.{All-contains, Contains-append_cases}
 use Rattle.lost_index.specs.Notes.{IsNoted, IsUnder, KeepsOthers, KeepsUnder, AreNoted, IsIndexed}
 use Rattle.std.specs.Map.{lookup}
+use Rattle.lost_index.specs.declared.note.Note.{Note}
 use Rattle.lost_index.specs.Held.{IsAbove}
 use Rattle.lost_index.proofs.HeldLemmas.{at_same, absent_above}
 
@@ -27,135 +28,137 @@ module _ {X : Type 0} (P : ℕ → X → Type 0) (n : ℕ) where
   at_or_apart false k v w old here found now before = before here found
 
 -- the facts of one number
-pub record AreKept {R K S : Type 0} (is_region : R → Type 0) (cover_of : R → List K) (eq : K → K → Bool) (cells : HashMap K (List ℕ) S)
+pub record AreKept {R K O S : Type 0} (is_region : R → Type 0) (cover_of : R → List K) (outline_of : R → O) (eq : K → K → Bool) (same : O → O → Bool) (cells : HashMap K (List (Note O)) S)
     (number : ℕ) (regions : List R) : Type 0 where
   pub are_regions : (region : R) → Contains regions region → is_region region
-  pub are_noted : AreNoted eq cover_of number regions cells
+  pub are_noted : AreNoted eq same cover_of outline_of number regions cells
 
-module _ {R K S : Type 0} (is_region : R → Type 0) (cover_of : R → List K) (eq : K → K → Bool) where
-  kept_of : (held : BTreeMap ℕ (List R)) (cells : HashMap K (List ℕ) S) → IsIndexed is_region cover_of eq held cells
-      → (k : ℕ) (rs : List R) → tree.get nat_cmp held k ≡ Some rs → AreKept is_region cover_of eq cells k rs
+module _ {R K O S : Type 0} (is_region : R → Type 0) (cover_of : R → List K) (outline_of : R → O) (eq : K → K → Bool) (same : O → O → Bool) where
+  kept_of : (held : BTreeMap ℕ (List R)) (cells : HashMap K (List (Note O)) S) → IsIndexed is_region cover_of outline_of eq same held cells
+      → (k : ℕ) (rs : List R) → tree.get nat_cmp held k ≡ Some rs → AreKept is_region cover_of outline_of eq same cells k rs
   kept_of held cells indexed k rs found =
       record { are_regions = indexed.are_regions k rs found; are_noted = indexed.are_noted k rs found }
 
-  indexed_of : (held : BTreeMap ℕ (List R)) (cells : HashMap K (List ℕ) S)
-      → ((k : ℕ) (rs : List R) → tree.get nat_cmp held k ≡ Some rs → AreKept is_region cover_of eq cells k rs)
-      → IsIndexed is_region cover_of eq held cells
+  indexed_of : (held : BTreeMap ℕ (List R)) (cells : HashMap K (List (Note O)) S)
+      → ((k : ℕ) (rs : List R) → tree.get nat_cmp held k ≡ Some rs → AreKept is_region cover_of outline_of eq same cells k rs)
+      → IsIndexed is_region cover_of outline_of eq same held cells
   indexed_of held cells kept = record {
     are_regions = λ k rs found. (kept k rs found).are_regions;
     are_noted = λ k rs found. (kept k rs found).are_noted;
   }
 
-  kept_along : (old new : HashMap K (List ℕ) S) (k : ℕ) (rs : List R)
-      → ((key : K) → IsUnder cover_of rs key → IsNoted eq old key k → IsNoted eq new key k)
-      → AreKept is_region cover_of eq old k rs → AreKept is_region cover_of eq new k rs
+  kept_along : (old new : HashMap K (List (Note O)) S) (k : ℕ) (rs : List R)
+      → ((key : K) (outline : O) → IsUnder cover_of outline_of rs key outline → IsNoted eq same old key k outline → IsNoted eq same new key k outline)
+      → AreKept is_region cover_of outline_of eq same old k rs → AreKept is_region cover_of outline_of eq same new k rs
   kept_along old new k rs stays kept =
-      record { are_regions = kept.are_regions; are_noted = λ key under. stays key under (kept.are_noted key under) }
+      record { are_regions = kept.are_regions; are_noted = λ key outline under. stays key outline under (kept.are_noted key outline under) }
 
   -- a number has other regions, or is new, and the notes of the others stay
-  pub IsIndexed-update : (held held' : BTreeMap ℕ (List R)) (old new : HashMap K (List ℕ) S) (n : ℕ) (w : Option (List R))
-      → IsIndexed is_region cover_of eq held old
+  pub IsIndexed-update : (held held' : BTreeMap ℕ (List R)) (old new : HashMap K (List (Note O)) S) (n : ℕ) (w : Option (List R))
+      → IsIndexed is_region cover_of outline_of eq same held old
       → ((k : ℕ) → tree.get nat_cmp held' k ≡ cond (is_at (nat_cmp n) k) w (tree.get nat_cmp held k))
-      → KeepsOthers eq n old new
-      → ((rs : List R) → w ≡ Some rs → AreKept is_region cover_of eq new n rs)
-      → IsIndexed is_region cover_of eq held' new
+      → KeepsOthers eq same n old new
+      → ((rs : List R) → w ≡ Some rs → AreKept is_region cover_of outline_of eq same new n rs)
+      → IsIndexed is_region cover_of outline_of eq same held' new
   IsIndexed-update held held' old new n w indexed updates others now =
       indexed_of held' new (λ k rs found.
-      at_or_apart (AreKept is_region cover_of eq new) n (nat_eq n k) k rs w (tree.get nat_cmp held k) refl
+      at_or_apart (AreKept is_region cover_of outline_of eq same new) n (nat_eq n k) k rs w (tree.get nat_cmp held k) refl
       (ap (λ b. cond b w (tree.get nat_cmp held k)) (sym (at_same n k)) ∙ sym (updates k) ∙ found) now
-      (λ apart before. kept_along old new k rs (λ key under. others key k apart) (kept_of held old indexed k rs before)))
+      (λ apart before. kept_along old new k rs (λ key outline under. others key k outline apart) (kept_of held old indexed k rs before)))
 
   -- nothing that is held changed, and the notes under its keys stay
-  pub IsIndexed-same : (held held' : BTreeMap ℕ (List R)) (old new : HashMap K (List ℕ) S) (n : ℕ)
-      → IsIndexed is_region cover_of eq held old → held'.entries ≡ held.entries → KeepsOthers eq n old new
-      → ((rs : List R) → tree.get nat_cmp held n ≡ Some rs → KeepsUnder eq (IsUnder cover_of rs) old new)
-      → IsIndexed is_region cover_of eq held' new
-  IsIndexed-same held held' old new n indexed same others still =
-      indexed_of held' new (λ k rs found. by_number (nat_eq n k) k rs refl (sym (ap (lookup (is_at (nat_cmp k))) same) ∙ found))
+  pub IsIndexed-same : (held held' : BTreeMap ℕ (List R)) (old new : HashMap K (List (Note O)) S) (n : ℕ)
+      → IsIndexed is_region cover_of outline_of eq same held old → held'.entries ≡ held.entries → KeepsOthers eq same n old new
+      → ((rs : List R) → tree.get nat_cmp held n ≡ Some rs → KeepsUnder eq same (IsUnder cover_of outline_of rs) old new)
+      → IsIndexed is_region cover_of outline_of eq same held' new
+  IsIndexed-same held held' old new n indexed unchanged others still =
+      indexed_of held' new (λ k rs found. by_number (nat_eq n k) k rs refl (sym (ap (lookup (is_at (nat_cmp k))) unchanged) ∙ found))
     where
-      by_number : (b : Bool) (k : ℕ) (rs : List R) → nat_eq n k ≡ b → tree.get nat_cmp held k ≡ Some rs → AreKept is_region cover_of eq new k rs
+      by_number : (b : Bool) (k : ℕ) (rs : List R) → nat_eq n k ≡ b → tree.get nat_cmp held k ≡ Some rs → AreKept is_region cover_of outline_of eq same new k rs
       by_number true k rs here found = kept_along old new k rs
-          (λ key under. still rs (ap (tree.get nat_cmp held) (same_number n k here) ∙ found) key k under) (kept_of held old indexed k rs found)
-      by_number false k rs here found = kept_along old new k rs (λ key under. others key k here) (kept_of held old indexed k rs found)
+          (λ key outline under. still rs (ap (tree.get nat_cmp held) (same_number n k here) ∙ found) key k outline under) (kept_of held old indexed k rs found)
+      by_number false k rs here found = kept_along old new k rs (λ key outline under. others key k outline here) (kept_of held old indexed k rs found)
 
   -- so too where no such number is held
-  pub IsIndexed-apart : (held held' : BTreeMap ℕ (List R)) (old new : HashMap K (List ℕ) S) (n : ℕ)
-      → IsIndexed is_region cover_of eq held old → held'.entries ≡ held.entries → KeepsOthers eq n old new → IsAbove n held.entries
-      → IsIndexed is_region cover_of eq held' new
-  IsIndexed-apart held held' old new n indexed same others above =
-      IsIndexed-same held held' old new n indexed same others (λ rs found. absurd (absent_above n held.entries rs above found))
+  pub IsIndexed-apart : (held held' : BTreeMap ℕ (List R)) (old new : HashMap K (List (Note O)) S) (n : ℕ)
+      → IsIndexed is_region cover_of outline_of eq same held old → held'.entries ≡ held.entries → KeepsOthers eq same n old new → IsAbove n held.entries
+      → IsIndexed is_region cover_of outline_of eq same held' new
+  IsIndexed-apart held held' old new n indexed unchanged others above =
+      IsIndexed-same held held' old new n indexed unchanged others (λ rs found. absurd (absent_above n held.entries rs above found))
 
   -- a number has other regions, each of them noted
-  pub IsIndexed-put : (held held' : BTreeMap ℕ (List R)) (old new : HashMap K (List ℕ) S) (n : ℕ) (regions : List R)
-      → IsIndexed is_region cover_of eq held old
+  pub IsIndexed-put : (held held' : BTreeMap ℕ (List R)) (old new : HashMap K (List (Note O)) S) (n : ℕ) (regions : List R)
+      → IsIndexed is_region cover_of outline_of eq same held old
       → ((k : ℕ) → tree.get nat_cmp held' k ≡ cond (is_at (nat_cmp n) k) (Some regions) (tree.get nat_cmp held k))
-      → KeepsOthers eq n old new → ((region : R) → Contains regions region → is_region region) → AreNoted eq cover_of n regions new
-      → IsIndexed is_region cover_of eq held' new
+      → KeepsOthers eq same n old new → ((region : R) → Contains regions region → is_region region) → AreNoted eq same cover_of outline_of n regions new
+      → IsIndexed is_region cover_of outline_of eq same held' new
   IsIndexed-put held held' old new n regions indexed updates others are_regions noted =
       IsIndexed-update held held' old new n (Some regions) indexed updates others
-      (λ rs is. subst (AreKept is_region cover_of eq new n) (some_same regions rs is) (record { are_regions = are_regions; are_noted = noted }))
+      (λ rs is. subst (AreKept is_region cover_of outline_of eq same new n) (some_same regions rs is) (record { are_regions = are_regions; are_noted = noted }))
 
   -- a number is taken out
-  pub IsIndexed-taken : (held held' : BTreeMap ℕ (List R)) (old new : HashMap K (List ℕ) S) (n : ℕ)
-      → IsIndexed is_region cover_of eq held old
+  pub IsIndexed-taken : (held held' : BTreeMap ℕ (List R)) (old new : HashMap K (List (Note O)) S) (n : ℕ)
+      → IsIndexed is_region cover_of outline_of eq same held old
       → ((k : ℕ) → tree.get nat_cmp held' k ≡ cond (is_at (nat_cmp n) k) None (tree.get nat_cmp held k))
-      → KeepsOthers eq n old new → IsIndexed is_region cover_of eq held' new
+      → KeepsOthers eq same n old new → IsIndexed is_region cover_of outline_of eq same held' new
   IsIndexed-taken held held' old new n indexed updates others =
       IsIndexed-update held held' old new n None indexed updates others (λ rs none. absurd (none_some rs none))
 
   -- a number that is held has more regions
-  pub IsIndexed-added : (held held' : BTreeMap ℕ (List R)) (old new : HashMap K (List ℕ) S) (n : ℕ) (regions more : List R)
-      → IsIndexed is_region cover_of eq held old → tree.get nat_cmp held n ≡ Some regions
+  pub IsIndexed-added : (held held' : BTreeMap ℕ (List R)) (old new : HashMap K (List (Note O)) S) (n : ℕ) (regions more : List R)
+      → IsIndexed is_region cover_of outline_of eq same held old → tree.get nat_cmp held n ≡ Some regions
       → ((k : ℕ) → tree.get nat_cmp held' k ≡ cond (is_at (nat_cmp n) k) (Some (regions ++ more)) (tree.get nat_cmp held k))
-      → KeepsOthers eq n old new → KeepsUnder eq (IsUnder cover_of regions) old new → All is_region more → AreNoted eq cover_of n more new
-      → IsIndexed is_region cover_of eq held' new
+      → KeepsOthers eq same n old new → KeepsUnder eq same (IsUnder cover_of outline_of regions) old new → All is_region more → AreNoted eq same cover_of outline_of n more new
+      → IsIndexed is_region cover_of outline_of eq same held' new
   IsIndexed-added held held' old new n regions more indexed found updates others still are_regions noted =
       IsIndexed-put held held' old new n (regions ++ more) indexed updates others
       (λ region stands. either_region region (Contains-append_cases regions more region stands))
-      (λ key under. either_noted key under (Contains-append_cases regions more under.region under.stands))
+      (λ key outline under. either_noted key outline under (Contains-append_cases regions more under.region under.stands))
     where
       either_region : (region : R) → Contains regions region ⊎ Contains more region → is_region region
       either_region region (inl stands) = indexed.are_regions n regions found region stands
       either_region region (inr stands) = All-contains is_region more region are_regions stands
 
-      either_noted : (key : K) (under : IsUnder cover_of (regions ++ more) key) → Contains regions under.region ⊎ Contains more under.region → IsNoted eq new key n
-      either_noted key under (inl stands) =
-          let before : IsUnder cover_of regions key = record { region = under.region; stands = stands; covered = under.covered } in
-          still key n before (indexed.are_noted n regions found key before)
-      either_noted key under (inr stands) = noted key (record { region = under.region; stands = stands; covered = under.covered })
+      either_noted : (key : K) (outline : O) (under : IsUnder cover_of outline_of (regions ++ more) key outline) → Contains regions under.region ⊎ Contains more under.region
+          → IsNoted eq same new key n outline
+      either_noted key outline under (inl stands) =
+          let before : IsUnder cover_of outline_of regions key outline = record { region = under.region; stands = stands; covered = under.covered; outlined = under.outlined } in
+          still key n outline before (indexed.are_noted n regions found key outline before)
+      either_noted key outline under (inr stands) = noted key outline (record { region = under.region; stands = stands; covered = under.covered; outlined = under.outlined })
 
   -- a number that is held keeps some of its regions
-  pub IsIndexed-kept : (held held' : BTreeMap ℕ (List R)) (old new : HashMap K (List ℕ) S) (n : ℕ) (regions part : List R)
-      → IsIndexed is_region cover_of eq held old → tree.get nat_cmp held n ≡ Some regions
+  pub IsIndexed-kept : (held held' : BTreeMap ℕ (List R)) (old new : HashMap K (List (Note O)) S) (n : ℕ) (regions part : List R)
+      → IsIndexed is_region cover_of outline_of eq same held old → tree.get nat_cmp held n ≡ Some regions
       → ((region : R) → Contains part region → Contains regions region)
       → ((k : ℕ) → tree.get nat_cmp held' k ≡ cond (is_at (nat_cmp n) k) (Some part) (tree.get nat_cmp held k))
-      → KeepsOthers eq n old new → KeepsUnder eq (IsUnder cover_of part) old new
-      → IsIndexed is_region cover_of eq held' new
+      → KeepsOthers eq same n old new → KeepsUnder eq same (IsUnder cover_of outline_of part) old new
+      → IsIndexed is_region cover_of outline_of eq same held' new
   IsIndexed-kept held held' old new n regions part indexed found within updates others still =
       IsIndexed-put held held' old new n part indexed updates others
       (λ region stands. indexed.are_regions n regions found region (within region stands))
-      (λ key under. still key n under
-      (indexed.are_noted n regions found key (record { region = under.region; stands = within under.region under.stands; covered = under.covered })))
+      (λ key outline under. still key n outline under
+      (indexed.are_noted n regions found key outline
+      (record { region = under.region; stands = within under.region under.stands; covered = under.covered; outlined = under.outlined })))
 
   -- growth was refused while a number that is held was noted
-  pub IsIndexed-unnoted : (held : BTreeMap ℕ (List R)) (old new : HashMap K (List ℕ) S) (n : ℕ) (regions : List R)
-      → IsIndexed is_region cover_of eq held old → tree.get nat_cmp held n ≡ Some regions
-      → KeepsOthers eq n old new → KeepsUnder eq (IsUnder cover_of regions) old new → IsIndexed is_region cover_of eq held new
+  pub IsIndexed-unnoted : (held : BTreeMap ℕ (List R)) (old new : HashMap K (List (Note O)) S) (n : ℕ) (regions : List R)
+      → IsIndexed is_region cover_of outline_of eq same held old → tree.get nat_cmp held n ≡ Some regions
+      → KeepsOthers eq same n old new → KeepsUnder eq same (IsUnder cover_of outline_of regions) old new → IsIndexed is_region cover_of outline_of eq same held new
   IsIndexed-unnoted held old new n regions indexed found others still =
       IsIndexed-same held held old new n indexed refl others
-      (λ rs again. subst (λ r. KeepsUnder eq (IsUnder cover_of r) old new) (some_same regions rs (sym found ∙ again)) still)
+      (λ rs again. subst (λ r. KeepsUnder eq same (IsUnder cover_of outline_of r) old new) (some_same regions rs (sym found ∙ again)) still)
 
   -- growth was refused after a number that is held was noted
-  pub IsIndexed-refused : (held held' : BTreeMap ℕ (List R)) (old mid new : HashMap K (List ℕ) S) (n : ℕ) (regions regions' : List R)
-      → IsIndexed is_region cover_of eq held old → held'.entries ≡ held.entries
+  pub IsIndexed-refused : (held held' : BTreeMap ℕ (List R)) (old mid new : HashMap K (List (Note O)) S) (n : ℕ) (regions regions' : List R)
+      → IsIndexed is_region cover_of outline_of eq same held old → held'.entries ≡ held.entries
       → tree.get nat_cmp held n ≡ Some regions → tree.get nat_cmp held' n ≡ Some regions'
-      → KeepsOthers eq n old mid → KeepsOthers eq n mid new
-      → KeepsUnder eq (IsUnder cover_of regions) old mid → KeepsUnder eq (IsUnder cover_of regions') mid new
-      → IsIndexed is_region cover_of eq held' new
-  IsIndexed-refused held held' old mid new n regions regions' indexed same found found' others others' still still' =
-      let alike : regions ≡ regions' = some_same regions regions' (sym found ∙ sym (ap (lookup (is_at (nat_cmp n))) same) ∙ found') in
-      let after : KeepsUnder eq (IsUnder cover_of regions) mid new = subst (λ r. KeepsUnder eq (IsUnder cover_of r) mid new) (sym alike) still' in
-      IsIndexed-same held held' old new n indexed same
-      (λ key number apart noted. others' key number apart (others key number apart noted))
-      (λ rs again. subst (λ r. KeepsUnder eq (IsUnder cover_of r) old new) (some_same regions rs (sym found ∙ again))
-      (λ key number under noted. after key number under (still key number under noted)))
+      → KeepsOthers eq same n old mid → KeepsOthers eq same n mid new
+      → KeepsUnder eq same (IsUnder cover_of outline_of regions) old mid → KeepsUnder eq same (IsUnder cover_of outline_of regions') mid new
+      → IsIndexed is_region cover_of outline_of eq same held' new
+  IsIndexed-refused held held' old mid new n regions regions' indexed unchanged found found' others others' still still' =
+      let alike : regions ≡ regions' = some_same regions regions' (sym found ∙ sym (ap (lookup (is_at (nat_cmp n))) unchanged) ∙ found') in
+      let after : KeepsUnder eq same (IsUnder cover_of outline_of regions) mid new = subst (λ r. KeepsUnder eq same (IsUnder cover_of outline_of r) mid new) (sym alike) still' in
+      IsIndexed-same held held' old new n indexed unchanged
+      (λ key number outline apart noted. others' key number outline apart (others key number outline apart noted))
+      (λ rs again. subst (λ r. KeepsUnder eq same (IsUnder cover_of outline_of r) old new) (some_same regions rs (sym found ∙ again))
+      (λ key number outline under noted. after key number outline under (still key number outline under noted)))

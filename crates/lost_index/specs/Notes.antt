@@ -1,53 +1,70 @@
 -- What is noted of numbers under keys (own).
-use Rattle.std.specs.Prelude.{◌≡◌, ℕ, Bool, true, false, Option, None, Some, List, [], Contains, nat_eq}
+use Rattle.std.specs.Prelude.{◌≡◌, ℕ, Bool, true, false, ◌&&◌, Option, None, Some, List, [], Contains, map, filter, nat_eq}
 use Rattle.std.specs.BTreeMap as tree
 use Rattle.std.specs.BTreeMap.{BTreeMap}
 use Rattle.std.specs.HashMap.{HashMap, get}
 use Rattle.std.specs.List.{list_any}
 use Rattle.std.specs.Option.{option_map_or}
 use Rattle.std.specs.Ordering.{nat_cmp}
+use Rattle.lost_index.specs.declared.note.Note.{Note}
 
--- the numbers of a cell; none where there is no cell
-abbrev pub numbers_of : Option (List ℕ) → List ℕ
-numbers_of None = []
-numbers_of (Some numbers) = numbers
+-- the notes of a cell; none where there is no cell
+abbrev pub notes_of : {O : Type 0} → Option (List (Note O)) → List (Note O)
+notes_of None = []
+notes_of (Some notes) = notes
 
--- the key is in the cover of one of the regions
-pub record IsUnder {R K : Type 0} (cover_of : R → List K) (regions : List R) (key : K) : Type 0 where
+-- whether a note is of the number, with an equal outline
+abbrev pub is_note : {O : Type 0} → (O → O → Bool) → ℕ → O → Note O → Bool
+is_note same number outline note = nat_eq number note.number && same outline note.outline
+
+-- whether one of the notes is
+abbrev pub has_note : {O : Type 0} → (O → O → Bool) → ℕ → O → List (Note O) → Bool
+has_note same number outline notes = list_any (is_note same number outline) notes
+
+-- one of the regions has the key in its cover, and has the outline
+pub record IsUnder {R K O : Type 0} (cover_of : R → List K) (outline_of : R → O) (regions : List R) (key : K) (outline : O) : Type 0 where
   pub region : R
   pub stands : Contains regions region
   pub covered : Contains (cover_of region) key
+  pub outlined : outline ≡ outline_of region
 
-module _ {K S : Type 0} (eq : K → K → Bool) where
-  -- the number is noted under the key
-  abbrev pub IsNoted : HashMap K (List ℕ) S → K → ℕ → Type 0
-  IsNoted cells key number = list_any (nat_eq number) (numbers_of (get eq cells key)) ≡ true
+module _ {K O S : Type 0} (eq : K → K → Bool) (same : O → O → Bool) where
+  -- the number is noted under the key, with an equal outline
+  abbrev pub IsNoted : HashMap K (List (Note O)) S → K → ℕ → O → Type 0
+  IsNoted cells key number outline = has_note same number outline (notes_of (get eq cells key)) ≡ true
 
   -- what was noted is
-  abbrev pub KeepsNotes : HashMap K (List ℕ) S → HashMap K (List ℕ) S → Type 0
-  KeepsNotes old new = (key : K) (number : ℕ) → IsNoted old key number → IsNoted new key number
+  abbrev pub KeepsNotes : HashMap K (List (Note O)) S → HashMap K (List (Note O)) S → Type 0
+  KeepsNotes old new = (key : K) (number : ℕ) (outline : O) → IsNoted old key number outline → IsNoted new key number outline
 
   -- what was noted of other numbers is
-  abbrev pub KeepsOthers : ℕ → HashMap K (List ℕ) S → HashMap K (List ℕ) S → Type 0
-  KeepsOthers gone old new = (key : K) (number : ℕ) → nat_eq gone number ≡ false → IsNoted old key number → IsNoted new key number
+  abbrev pub KeepsOthers : ℕ → HashMap K (List (Note O)) S → HashMap K (List (Note O)) S → Type 0
+  KeepsOthers gone old new = (key : K) (number : ℕ) (outline : O) → nat_eq gone number ≡ false
+      → IsNoted old key number outline → IsNoted new key number outline
 
-  -- what was noted under these keys is
-  abbrev pub KeepsUnder : (K → Type 0) → HashMap K (List ℕ) S → HashMap K (List ℕ) S → Type 0
-  KeepsUnder stays old new = (key : K) (number : ℕ) → stays key → IsNoted old key number → IsNoted new key number
+  -- what was noted under these keys with these outlines is
+  abbrev pub KeepsUnder : (K → O → Type 0) → HashMap K (List (Note O)) S → HashMap K (List (Note O)) S → Type 0
+  KeepsUnder stays old new = (key : K) (number : ℕ) (outline : O) → stays key outline
+      → IsNoted old key number outline → IsNoted new key number outline
 
-  -- the number is noted under each key of the cover of each region
-  abbrev pub AreNoted : {R : Type 0} → (R → List K) → ℕ → List R → HashMap K (List ℕ) S → Type 0
-  AreNoted cover_of number regions cells = (key : K) → IsUnder cover_of regions key → IsNoted cells key number
+  -- the number is noted under each key of the cover of each region, with the region's outline
+  abbrev pub AreNoted : {R : Type 0} → (R → List K) → (R → O) → ℕ → List R → HashMap K (List (Note O)) S → Type 0
+  AreNoted cover_of outline_of number regions cells = (key : K) (outline : O) → IsUnder cover_of outline_of regions key outline
+      → IsNoted cells key number outline
 
 -- whether the number is held, with a region that contains the location
 abbrev pub is_holder : {R L : Type 0} → (R → L → Bool) → L → BTreeMap ℕ (List R) → ℕ → Bool
 is_holder holds location held number =
     option_map_or (λ regions. list_any (λ region. holds region location) regions) (tree.get nat_cmp held number) false
 
+-- the numbers of those notes whose outline passes, and whose number does
+abbrev pub numbers_that_pass : {O : Type 0} → (O → Bool) → (ℕ → Bool) → List (Note O) → List ℕ
+numbers_that_pass near passes notes = map (λ note. note.number) (filter (λ note. near note.outline && passes note.number) notes)
+
 -- what an index keeps: regions, each noted under its cover's keys; a note more does no harm
-pub record IsIndexed {R K S : Type 0} (is_region : R → Type 0) (cover_of : R → List K) (eq : K → K → Bool)
-    (held : BTreeMap ℕ (List R)) (cells : HashMap K (List ℕ) S) : Type 0 where
+pub record IsIndexed {R K O S : Type 0} (is_region : R → Type 0) (cover_of : R → List K) (outline_of : R → O) (eq : K → K → Bool)
+    (same : O → O → Bool) (held : BTreeMap ℕ (List R)) (cells : HashMap K (List (Note O)) S) : Type 0 where
   pub are_regions : (number : ℕ) (regions : List R) → tree.get nat_cmp held number ≡ Some regions
       → (region : R) → Contains regions region → is_region region
   pub are_noted : (number : ℕ) (regions : List R) → tree.get nat_cmp held number ≡ Some regions
-      → AreNoted eq cover_of number regions cells
+      → AreNoted eq same cover_of outline_of number regions cells

@@ -1,66 +1,131 @@
-//! The numbers that are noted under one key.
-ghost use Rattle.std.specs.Prelude.{◌≡◌, ◌∷◌, [], true, false, nat_eq, IfOk, OnOk, OnErr, IsTrue, ◌↔◌};
+//! The notes under one key.
+ghost use Rattle.std.specs.Prelude.{◌≡◌, ◌≤◌, ◌∷◌, [], true, false, nat_eq, length, Contains, IfOk, OnOk, OnErr, IsTrue, ◌↔◌};
 ghost use Rattle.std.specs.List.{list_any};
+ghost use Rattle.lost_index.specs.Notes.{has_note};
 
+use crate::entry;
+use crate::kept::Kept;
+use crate::note::Note;
+use lost_profile::Profile;
 use std::alloc::{AllocError, Global};
 use std::marker::Model;
 
-/// The numbers that are noted under one key, rising, each once. Contracts see it as their list.
+/// The notes under one key: their numbers rise, and no two of one number have equal outlines. Contracts see it as their
+/// list.
 #[derive(Drop)]
-pub(crate) struct Cell {
-    numbers: Vec<u64>,
+pub(crate) struct Cell<P: Profile> {
+    notes: Vec<Note<P::Outline>>,
 }
 
-impl Model for Cell {
-    ghost use Rattle.std.specs.Prelude.{ℕ, List};
+impl<P: Profile> Model for Cell<P> {
+    ghost use Rattle.std.specs.Prelude.{List};
+    ghost use Rattle.lost_index.specs.declared.note.Note.{Note};
 
-    ghost Value = { List ℕ };
+    ghost Value = { List (Note P.Outline) };
 
-    ghost view = { λ a. a.numbers.items };
+    ghost view = { λ a. a.notes.items };
 }
 
-impl Cell {
-    /// A cell of one number, or want of memory.
-    pub(crate) fn of(alloc: Global, number: u64) -> Result<Cell, AllocError>
-        ensures { IfOk result (λ cell. cell ≡ number ∷ []) }
+impl<P: Profile> Cell<P> {
+    /// A cell of one note, or want of memory.
+    pub(crate) fn of(alloc: Global, note: Note<P::Outline>) -> Result<Cell<P>, AllocError>
+        ensures { IfOk result (λ cell. cell ≡ note ∷ []) }
     {
-        let mut numbers = Vec::new(alloc);
-        numbers.push(number)?;
-        Ok(Cell { numbers })
+        let mut notes = Vec::new(alloc);
+        notes.push(note)?;
+        Ok(Cell { notes })
     }
 
-    /// The numbers.
-    pub(crate) fn numbers(&self) -> &[u64]
+    /// The notes.
+    pub(crate) fn notes(&self) -> &[Note<P::Outline>]
         ensures { result.now ≡ self.now }
     {
-        &self.numbers
+        &self.notes
     }
 
-    /// Whether no number is noted.
+    /// Whether nothing is noted.
     pub(crate) fn is_empty(&self) -> bool
         ensures { IsTrue result ↔ (self.now ≡ []) }
     {
-        self.numbers.is_empty()
+        self.notes.is_empty()
     }
 
-    /// Puts the number in, unless it stands there, or want of memory, which changes nothing.
-    pub(crate) fn add(&mut self, number: u64) -> Result<(), AllocError>
-        ensures added { OnOk result (list_any (nat_eq number) self.new ≡ true) }
-        ensures keeps { (other : _) → list_any (nat_eq other) self.old ≡ true → list_any (nat_eq other) self.new ≡ true }
+    /// Puts the note in, unless one of its number with an equal outline stands there, or want of memory, which changes
+    /// nothing.
+    pub(crate) fn add(&mut self, note: Note<P::Outline>) -> Result<(), AllocError>
+        ensures added { OnOk result (has_note P.Outline.eq note.number note.outline self.new ≡ true) }
+        ensures keeps { (number : _) (outline : _) → has_note P.Outline.eq number outline self.old ≡ true
+            → has_note P.Outline.eq number outline self.new ≡ true }
         ensures refused { OnErr result (self.new ≡ self.old) }
     {
-        if let Err(place) = self.numbers.binary_search(&number) {
-            self.numbers.insert(place, number)?;
+        if self.has(&note) {
+            return Ok(());
         }
+        let place = self.end_of(note.number);
+        self.notes.insert(place, note)?;
         Ok(())
     }
 
-    /// Takes the number out.
-    pub(crate) fn remove(&mut self, number: u64)
-        ensures { (other : _) → nat_eq number other ≡ false → list_any (nat_eq other) self.old ≡ true → list_any (nat_eq other) self.new ≡ true }
+    /// Takes the notes of a number out, but for the outlines of those regions in whose cover the key is.
+    pub(crate) fn remove(&mut self, number: u64, key: &P::Key, still: &[Kept<P>])
+        ensures others { (other : _) (outline : _) → nat_eq number other ≡ false → has_note P.Outline.eq other outline self.old ≡ true
+            → has_note P.Outline.eq other outline self.new ≡ true }
+        ensures still { (other : _) (region : _) → Contains still.now region → list_any (P.Key.eq key.now) (P.cover_of region) ≡ true
+            → has_note P.Outline.eq other (P.outline_of region) self.old ≡ true
+            → has_note P.Outline.eq other (P.outline_of region) self.new ≡ true }
     {
-        if let Ok(place) = self.numbers.binary_search(&number) {
-            self.numbers.remove(place);
+        for place in (self.start_of(number)..self.end_of(number)).rev() {
+            self.remove_at(place, number, key, still);
         }
+    }
+
+    /// Takes the note at a place out, if it is of the number and of none of those regions in whose cover the key is.
+    fn remove_at(&mut self, place: usize, number: u64, key: &P::Key, still: &[Kept<P>])
+        ensures others { (other : _) (outline : _) → nat_eq number other ≡ false → has_note P.Outline.eq other outline self.old ≡ true
+            → has_note P.Outline.eq other outline self.new ≡ true }
+        ensures still { (other : _) (region : _) → Contains still.now region → list_any (P.Key.eq key.now) (P.cover_of region) ≡ true
+            → has_note P.Outline.eq other (P.outline_of region) self.old ≡ true
+            → has_note P.Outline.eq other (P.outline_of region) self.new ≡ true }
+    {
+        let Some(note) = self.notes.get(place) else {
+            return;
+        };
+        if note.number == number && !entry::is_noted(still, key, &note.outline) {
+            self.notes.remove(place);
+        }
+    }
+
+    /// Whether a note of the same number with an equal outline was found.
+    fn has(&self, note: &Note<P::Outline>) -> bool
+        ensures { IsTrue result → has_note P.Outline.eq note.now.number note.now.outline self.now ≡ true }
+    {
+        for place in self.start_of(note.number)..self.end_of(note.number) {
+            if self.has_at(place, note) {
+                return true;
+            }
+        }
+        false
+    }
+
+    /// Whether the note at a place is of the same number, with an equal outline.
+    fn has_at(&self, place: usize, note: &Note<P::Outline>) -> bool
+        ensures { IsTrue result → has_note P.Outline.eq note.now.number note.now.outline self.now ≡ true }
+    {
+        let Some(here) = self.notes.get(place) else {
+            return false;
+        };
+        note.number == here.number && note.outline == here.outline
+    }
+
+    /// Where the notes of a number begin, or would.
+    fn start_of(&self, number: u64) -> usize {
+        self.notes.partition_point(|note| note.number < number)
+    }
+
+    /// Where the notes of a number end, or would.
+    fn end_of(&self, number: u64) -> usize
+        ensures { result ≤ length self.now }
+    {
+        self.notes.partition_point(|note| note.number <= number)
     }
 }

@@ -1,53 +1,63 @@
-//! The cells: the numbers that are noted under each key.
-ghost use Rattle.std.specs.Prelude.{◌≡◌, false, [], OnOk, IsTrue};
+//! The cells: the notes under each key.
+ghost use Rattle.std.specs.Prelude.{◌≡◌, [], OnOk, IsTrue};
 ghost use Rattle.std.specs.HashMap.{get};
-ghost use Rattle.lost_index.specs.Notes.{numbers_of, IsNoted, KeepsNotes, KeepsOthers, KeepsUnder};
+ghost use Rattle.lost_index.specs.Notes.{notes_of, IsNoted, IsUnder, KeepsNotes, KeepsOthers, KeepsUnder};
 
 use crate::cell::Cell;
+use crate::kept::Kept;
+use crate::note::Note;
+use lost_profile::Profile;
 use std::alloc::{AllocError, Global};
 use std::collections::HashMap;
-use std::hash::Hash;
 
-/// Notes a number under a key, or want of memory. What was noted stays.
-pub(crate) fn note<K: Ord + Hash + Drop>(
-    cells: &mut HashMap<K, Cell>,
+/// Puts a note under a key, or want of memory. What was noted stays.
+pub(crate) fn note<P: Profile>(
+    cells: &mut HashMap<P::Key, Cell<P>>,
     alloc: Global,
-    key: K,
-    number: u64,
+    key: P::Key,
+    note: Note<P::Outline>,
 ) -> Result<(), AllocError>
-    ensures noted { OnOk result (IsNoted K.eq cells.new key number) }
-    ensures keeps { KeepsNotes K.eq cells.old cells.new }
+    ensures noted { OnOk result (IsNoted P.Key.eq P.Outline.eq cells.new key note.number note.outline) }
+    ensures keeps { KeepsNotes P.Key.eq P.Outline.eq cells.old cells.new }
 {
     if let Some(cell) = cells.get_mut(&key) {
-        return cell.add(number);
+        return cell.add(note);
     }
-    cells.insert(key, Cell::of(alloc, number)?)?;
+    cells.insert(key, Cell::of(alloc, note)?)?;
     Ok(())
 }
 
-/// Takes the note of a number under a key back, and the cell with it where nothing else is noted there.
-pub(crate) fn unnote<K: Ord + Hash + Drop>(cells: &mut HashMap<K, Cell>, key: &K, number: u64)
-    ensures others { KeepsOthers K.eq number cells.old cells.new }
-    ensures elsewhere { KeepsUnder K.eq (λ other. K.eq key.now other ≡ false) cells.old cells.new }
+/// Takes the notes of a number under a key back, but for those of the regions `still`, and the cell with them where
+/// nothing else is noted there.
+pub(crate) fn unnote<P: Profile>(
+    cells: &mut HashMap<P::Key, Cell<P>>,
+    key: &P::Key,
+    number: u64,
+    still: &[Kept<P>],
+)
+    ensures others { KeepsOthers P.Key.eq P.Outline.eq number cells.old cells.new }
+    ensures still { KeepsUnder P.Key.eq P.Outline.eq (IsUnder P.cover_of P.outline_of still.now) cells.old cells.new }
 {
-    if remove_from_cell(cells, key, number) {
+    if remove_from_cell(cells, key, number, still) {
         cells.remove(key);
     }
 }
 
-/// Takes a number out of the cell of a key, and says whether the cell is then empty.
-fn remove_from_cell<K: Ord + Hash + Drop>(
-    cells: &mut HashMap<K, Cell>,
-    key: &K,
+/// Takes the notes of a number out of the cell of a key, but for those of the regions `still`, and says whether the cell
+/// is then empty.
+fn remove_from_cell<P: Profile>(
+    cells: &mut HashMap<P::Key, Cell<P>>,
+    key: &P::Key,
     number: u64,
+    still: &[Kept<P>],
 ) -> bool
-    ensures others { KeepsOthers K.eq number cells.old cells.new }
-    ensures elsewhere { KeepsUnder K.eq (λ other. K.eq key.now other ≡ false) cells.old cells.new }
-    ensures empty { IsTrue result → numbers_of (get K.eq cells.new key.now) ≡ [] }
+    ensures others { KeepsOthers P.Key.eq P.Outline.eq number cells.old cells.new }
+    ensures still { KeepsUnder P.Key.eq P.Outline.eq (IsUnder P.cover_of P.outline_of still.now) cells.old cells.new }
+    ensures empty { IsTrue result → notes_of (get P.Key.eq cells.new key.now) ≡ [] }
 {
     let Some(cell) = cells.get_mut(key) else {
         return false;
     };
-    cell.remove(number);
+    cell.remove(number, key, still);
     cell.is_empty()
 }

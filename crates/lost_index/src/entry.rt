@@ -1,5 +1,5 @@
 //! The regions of one number.
-ghost use Rattle.std.specs.Prelude.{◌≡◌, ◌≤◌, ◌++◌, [], length, All, IfOk, OnOk, OnErr};
+ghost use Rattle.std.specs.Prelude.{◌≡◌, ◌≤◌, ◌++◌, ◌&&◌, [], length, All, IfOk, OnOk, OnErr};
 ghost use Rattle.std.specs.List.{list_any, slice_range};
 
 use crate::kept::Kept;
@@ -76,12 +76,13 @@ impl<P: Profile> Entry<P> {
     }
 }
 
-/// Whether this key is in the cover of some region.
-pub(crate) fn has_key<P: Profile>(kept: &[Kept<P>], key: &P::Key) -> bool
-    ensures { result ≡ list_any (λ region. list_any (P.Key.eq key.now) (P.cover_of region)) kept.now }
+/// Whether the key is in the cover of some region with an outline that is equal to this one.
+pub(crate) fn is_noted<P: Profile>(kept: &[Kept<P>], key: &P::Key, outline: &P::Outline) -> bool
+    ensures { result ≡ list_any
+        (λ region. P.Outline.eq (P.outline_of region) outline.now && list_any (P.Key.eq key.now) (P.cover_of region)) kept.now }
 {
     for one in kept {
-        if one.has_key(key) {
+        if one.is_noted(key, outline) {
             return true;
         }
     }

@@ -19,7 +19,7 @@ use std::marker::Model;
 pub struct Index<P: Profile> {
     alloc: Global,
     held: BTreeMap<u64, Entry<P>>,
-    cells: HashMap<P::Key, Cell>,
+    cells: HashMap<P::Key, Cell<P>>,
 }
 
 impl<P: Profile> Model for Index<P> {
@@ -30,7 +30,7 @@ impl<P: Profile> Model for Index<P> {
 
     ghost view = { λ a. a.held.entries };
 
-    ghost invariant = { λ a. IsIndexed P.is_region P.cover_of P.Key.eq a.held a.cells };
+    ghost invariant = { λ a. IsIndexed P.is_region P.cover_of P.outline_of P.Key.eq P.Outline.eq a.held a.cells };
 }
 
 impl<P: Profile> Index<P> {

@@ -53,11 +53,18 @@ impl<P: Profile> Kept<P> {
         P::cover(alloc, &self.region)
     }
 
-    /// Whether this key is one of its cover.
-    pub(crate) fn has_key(&self, key: &P::Key) -> bool
-        ensures { result ≡ list_any (P.Key.eq key.now) (P.cover_of self.now) }
+    /// Its outline.
+    pub(crate) fn outline(&self) -> P::Outline
+        ensures { result ≡ P.outline_of self.now }
     {
-        self.keys.contains(key)
+        self.outline
+    }
+
+    /// Whether its outline is equal to this one, and the key is one of its cover.
+    pub(crate) fn is_noted(&self, key: &P::Key, outline: &P::Outline) -> bool
+        ensures { result ≡ (P.Outline.eq (P.outline_of self.now) outline.now && list_any (P.Key.eq key.now) (P.cover_of self.now)) }
+    {
+        self.outline == *outline && self.keys.contains(key)
     }
 
     /// Whether the region contains the location; most that don't are refused by their outline.

@@ -8,6 +8,7 @@ mod entry;
 mod held;
 mod index;
 mod kept;
+mod note;
 mod noting;
 mod search;
 

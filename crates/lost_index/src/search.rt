@@ -1,11 +1,12 @@
 //! Finding the numbers with a region that contains a location.
-ghost use Rattle.std.specs.Prelude.{◌≡◌, ◌++◌, filter, IfOk, OnOk};
+ghost use Rattle.std.specs.Prelude.{◌≡◌, ◌++◌, ◌&&◌, IfOk, OnOk};
 ghost use Rattle.std.specs.HashMap.{get};
 ghost use Rattle.std.specs.List.{flat_map};
-ghost use Rattle.lost_index.specs.Notes.{is_holder as is_among_holders, numbers_of};
+ghost use Rattle.lost_index.specs.Notes.{is_holder as is_among_holders, notes_of, numbers_that_pass};
 
 use crate::cell::Cell;
 use crate::entry::Entry;
+use crate::note::Note;
 use lost_profile::Profile;
 use std::alloc::{AllocError, Global};
 use std::collections::{BTreeMap, HashMap};
@@ -14,44 +15,60 @@ use std::collections::{BTreeMap, HashMap};
 /// probes; one may come twice. Or want of memory.
 pub(crate) fn found<P: Profile>(
     held: &BTreeMap<u64, Entry<P>>,
-    cells: &HashMap<P::Key, Cell>,
+    cells: &HashMap<P::Key, Cell<P>>,
     alloc: Global,
     location: &P::Location,
 ) -> Result<Vec<u64>, AllocError>
     ensures found { IfOk result (λ found. found.items ≡ flat_map
-        (λ key. filter (is_among_holders P.holds location.now held.now) (numbers_of (get P.Key.eq cells.now key))) (P.probes_of location.now)) }
+        (λ key. numbers_that_pass (λ outline. P.may_hold outline location.now) (is_among_holders P.holds location.now held.now)
+        (notes_of (get P.Key.eq cells.now key))) (P.probes_of location.now)) }
     ensures is_location { P.is_location location.now }
 {
     let mut found = Vec::new(alloc);
     for key in P::probes(alloc, location)? {
         if let Some(cell) = cells.get(&key) {
-            collect(held, cell.numbers(), location, &mut found)?;
+            collect(held, cell.notes(), location, &mut found)?;
         }
     }
     Ok(found)
 }
 
-/// Puts those of the numbers behind that have a region that contains the location, or want of memory.
+/// Puts the numbers behind of those notes whose outline may contain the location, and whose number has a region that
+/// does. Or want of memory.
 fn collect<P: Profile>(
     held: &BTreeMap<u64, Entry<P>>,
-    numbers: &[u64],
+    notes: &[Note<P::Outline>],
     location: &P::Location,
     found: &mut Vec<u64>,
 ) -> Result<(), AllocError>
     requires { P.is_location location.now }
-    ensures { OnOk result (found.new.items ≡ found.old.items ++ filter (is_among_holders P.holds location.now held.now) numbers.now) }
+    ensures { OnOk result (found.new.items ≡ found.old.items ++ numbers_that_pass
+        (λ outline. P.may_hold outline location.now) (is_among_holders P.holds location.now held.now) notes.now) }
 {
-    for number in numbers {
-        if !is_holder(held, *number, location) {
+    for note in notes {
+        if !is_holder(held, note, location) {
             continue;
         }
-        found.push(*number)?;
+        found.push(note.number)?;
     }
     Ok(())
 }
 
-/// Whether the number is held, with a region that contains the location.
+/// Whether the outline of the note may contain the location, and its number is held, with a region that does. Most
+/// notes are refused by their outline, and are looked up nowhere.
 fn is_holder<P: Profile>(
+    held: &BTreeMap<u64, Entry<P>>,
+    note: &Note<P::Outline>,
+    location: &P::Location,
+) -> bool
+    requires { P.is_location location.now }
+    ensures { result ≡ (P.may_hold note.now.outline location.now && is_among_holders P.holds location.now held.now note.now.number) }
+{
+    P::is_near(&note.outline, location) && is_held_by(held, note.number, location)
+}
+
+/// Whether the number is held, with a region that contains the location.
+fn is_held_by<P: Profile>(
     held: &BTreeMap<u64, Entry<P>>,
     number: u64,
     location: &P::Location,

@@ -19,8 +19,8 @@ pub trait Profile {
     /// What regions are kept under.
     type Key: Ord + Hash + Drop;
 
-    /// What is cheap to copy and tells that a region does not contain a location.
-    type Outline: Copy;
+    /// What is cheap to copy and to compare, and tells that a region does not contain a location.
+    type Outline: Copy + Eq;
 
     /// The number `COVER_MAX` in contracts.
     ghost COVER_MAX: { ℕ };
@@ -87,4 +87,8 @@ pub trait Profile {
     /// NEAR: where a region contains a location, its outline says that it may.
     ghost holder_is_near: { (region : Self.Region) (location : Self.Location) → is_region region → is_location location
         → IsTrue (holds region location) → IsTrue (may_hold (outline_of region) location) };
+
+    /// ALIKE: outlines that are equal say the same of each location.
+    ghost equal_outlines_agree: { (outline other : Self.Outline) (location : Self.Location)
+        → IsTrue (Self.Outline.eq outline other) → may_hold outline location ≡ may_hold other location };
 }

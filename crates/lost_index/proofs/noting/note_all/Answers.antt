@@ -5,8 +5,8 @@ use Rattle.lost_index.proofs.noting.note_all.Goals as goal
 
 pub loop-one-preserved : goal.loop-one-preserved
 loop-one-preserved g c = record {
-  noted = AreNoted-more g.P.Key.PartialEq.eq g.P.Profile.cover_of c.args.number c.args.new.now c.loop-one.one-index c.one-item.result
+  noted = AreNoted-more g.P.Key.PartialEq.eq g.P.Outline.PartialEq.eq g.P.Profile.cover_of g.P.Profile.outline_of c.args.number c.args.new.now c.loop-one.one-index c.one-item.result
       c.loop-one.cells c.note_keys.new.cells (omega arith) c.one-item.is c.loop-one.invariant.noted c.in_ok-note_keys.ensures.keeps
-      (rw (← c.in_ok-cover.ensures) c.in_ok-note_keys.ensures.noted);
-  keeps = λ key number noted. c.in_ok-note_keys.ensures.keeps key number (c.loop-one.invariant.keeps key number noted);
+      (rw (← c.in_ok-cover.ensures, ← c.outline.ensures) c.in_ok-note_keys.ensures.noted);
+  keeps = λ key number outline noted. c.in_ok-note_keys.ensures.keeps key number outline (c.loop-one.invariant.keeps key number outline noted);
 }

@@ -4,6 +4,6 @@ use Rattle.lost_index.proofs.noting.note_all.Given as goal
 
 abbrev pub invariant-loop-one : goal.invariant-loop-one
 invariant-loop-one g l = record {
-  noted : AreNoted g.P.Key.PartialEq.eq g.P.Profile.cover_of l.number (take l.one-index l.new) l.cells;
-  keeps : KeepsNotes g.P.Key.PartialEq.eq l.initial.cells l.cells;
+  noted : AreNoted g.P.Key.PartialEq.eq g.P.Outline.PartialEq.eq g.P.Profile.cover_of g.P.Profile.outline_of l.number (take l.one-index l.new) l.cells;
+  keeps : KeepsNotes g.P.Key.PartialEq.eq g.P.Outline.PartialEq.eq l.initial.cells l.cells;
 }

@@ -1,14 +1,9 @@
--- Where the search hits, the number stands there already.
-use Rattle.std.proofs.Common.{nat_eq}
-use Rattle.lost_index.proofs.NoteLemmas.{stands-insert, stands_at}
+-- The other notes stand behind and before.
+use Rattle.lost_index.specs.Notes.{is_note}
+use Rattle.lost_index.proofs.NoteLemmas.{stands-insert}
 use Rattle.lost_index.proofs.cell.Cell.add.Goals as goal
 
-pub returns-in_ok-insert-clause-keeps : goal.returns-in_ok-insert-clause-keeps
-returns-in_ok-insert-clause-keeps c = λ other stands.
+pub returns-clause-keeps : goal.returns-clause-keeps
+returns-clause-keeps g c = λ number outline stands.
     rw c.in_ok-insert.ensures.items
-    (stands-insert (nat_eq other) c.self.inside.numbers.items c.in-Err.place c.args.number (rw c.self.view_is stands))
-
-pub returns-in_default-clause-added : goal.returns-in_default-clause-added
-returns-in_default-clause-added c =
-    rw (← c.self.view_is, ← c.deref.ensures.value)
-    (stands_at c.args.number c.deref.result.now c.in_default.field-0 c.in_default.ensures.bound c.in_default.ensures.ok)
+    (stands-insert (is_note g.P.Outline.PartialEq.eq number outline) c.self.inside.notes.items c.end_of-place.result c.args.note (rw c.self.view_is stands))

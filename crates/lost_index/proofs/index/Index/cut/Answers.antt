@@ -9,7 +9,7 @@ use Rattle.lost_index.proofs.index.Index.cut.Goals as goal
 pub invariant_of-self : goal.invariant_of-self
 invariant_of-self g c =
     let regions = c.kept_of-kept.result.now in
-    IsIndexed-kept g.P.Profile.is_region g.P.Profile.cover_of g.P.Key.PartialEq.eq c.self.inside.held c.cut.new.held
+    IsIndexed-kept g.P.Profile.is_region g.P.Profile.cover_of g.P.Profile.outline_of g.P.Key.PartialEq.eq g.P.Outline.PartialEq.eq c.self.inside.held c.cut.new.held
     c.self.inside.cells c.take_rest_back.new.cells c.args.number regions (slice_range regions c.args.from c.args.to) c.self.invariant
     c.kept_of-kept.ensures (Contains-slice_range regions c.args.from c.args.to) (c.cut.ensures.updates regions c.kept_of-kept.ensures)
     c.take_rest_back.ensures.others c.take_rest_back.ensures.still

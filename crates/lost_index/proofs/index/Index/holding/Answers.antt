@@ -10,9 +10,12 @@ pub returns-clause-holding : goal.returns-clause-holding
 returns-clause-holding g c =
     let location = c.args.location.now in
     let is_location = c.in_ok-found.ensures.is_location in
-    holding_is g.P.Profile.is_region g.P.Profile.cover_of g.P.Key.PartialEq.eq g.P.Profile.holds location (g.P.Profile.probes_of location)
+    holding_is g.P.Profile.is_region g.P.Profile.cover_of g.P.Profile.outline_of g.P.Key.PartialEq.eq g.P.Outline.PartialEq.eq g.P.Profile.holds
+    (λ outline. g.P.Profile.may_hold outline location) location (g.P.Profile.probes_of location)
     c.self.inside.held c.self.inside.cells c.self.invariant c.len-count.ensures.ordered
     (λ region is_region holds. g.met.P.Profile.cover_meets_probes region location is_region is_location holds)
+    (λ region is_region holds. g.met.P.Profile.holder_is_near region location is_region is_location holds)
+    (λ outline other equal. g.met.P.Profile.equal_outlines_agree outline other location equal)
     c.in_ok-found.found.items c.sort_unstable.new.self.items c.dedup.new.self.items
     c.in_ok-found.ensures.found c.sort_unstable.ensures.permutation c.sort_unstable.ensures.sorted
     (dedup_is nat_eq c.sort_unstable.new.self.items c.dedup.new.self.items c.dedup.ensures.filtered)

@@ -7,20 +7,20 @@ use Rattle.lost_index.proofs.index.Index.put.Goals as goal
 
 pub invariant_of-self : goal.invariant_of-self
 invariant_of-self g c =
-    IsIndexed-apart g.P.Profile.is_region g.P.Profile.cover_of g.P.Key.PartialEq.eq c.self.inside.held c.self.inside.held
+    IsIndexed-apart g.P.Profile.is_region g.P.Profile.cover_of g.P.Profile.outline_of g.P.Key.PartialEq.eq g.P.Outline.PartialEq.eq c.self.inside.held c.self.inside.held
     c.self.inside.cells c.note_new.new.cells c.args.number c.self.invariant refl c.note_new.ensures.others
     (subst (IsAbove c.args.number) (sym c.self.view_is) c.requires)
 
 pub invariant_of-self-in-Err : goal.invariant_of-self-in-Err
 invariant_of-self-in-Err g c =
-    IsIndexed-apart g.P.Profile.is_region g.P.Profile.cover_of g.P.Key.PartialEq.eq c.self.inside.held c.put.new.held
+    IsIndexed-apart g.P.Profile.is_region g.P.Profile.cover_of g.P.Profile.outline_of g.P.Key.PartialEq.eq g.P.Outline.PartialEq.eq c.self.inside.held c.put.new.held
     c.self.inside.cells c.take_back.new.cells c.args.number c.self.invariant c.in-Err.ensures.refused
-    (λ key number apart noted. c.take_back.ensures.others key number apart (c.note_new.ensures.others key number apart noted))
+    (λ key number outline apart noted. c.take_back.ensures.others key number outline apart (c.note_new.ensures.others key number outline apart noted))
     (subst (IsAbove c.args.number) (sym c.self.view_is) c.requires)
 
 pub invariant_of-self-in_default : goal.invariant_of-self-in_default
 invariant_of-self-in_default g c =
-    IsIndexed-put g.P.Profile.is_region g.P.Profile.cover_of g.P.Key.PartialEq.eq c.self.inside.held c.put.new.held
+    IsIndexed-put g.P.Profile.is_region g.P.Profile.cover_of g.P.Profile.outline_of g.P.Key.PartialEq.eq g.P.Outline.PartialEq.eq c.self.inside.held c.put.new.held
     c.self.inside.cells c.note_new.new.cells c.args.number c.in_ok-entry.entry c.self.invariant c.in_default.ensures.updates
     c.note_new.ensures.others (λ region. All-contains g.P.Profile.is_region c.in_ok-entry.entry region c.in_ok-entry.ensures.are_regions)
     (rw (← c.kept.ensures) c.in_ok-note_new.ensures.noted)

@@ -12,5 +12,5 @@ unreachable-requires g c =
 
 pub invariant_of-self : goal.invariant_of-self
 invariant_of-self g c =
-    IsIndexed-taken g.P.Profile.is_region g.P.Profile.cover_of g.P.Key.PartialEq.eq c.self.inside.held c.remove.new.self
+    IsIndexed-taken g.P.Profile.is_region g.P.Profile.cover_of g.P.Profile.outline_of g.P.Key.PartialEq.eq g.P.Outline.PartialEq.eq c.self.inside.held c.remove.new.self
     c.self.inside.cells c.take_back.new.cells c.args.number c.self.invariant c.remove.ensures.updates.0 c.take_back.ensures.others
