@@ -6,6 +6,10 @@ use Rattle.lost_spec.specs.Book.{Limits, Book, limits_of}
 abbrev pub AreAllowed : Limits → Type 0
 AreAllowed limits = limits_of limits.mappings limits.edits ≡ Some limits
 
+-- the limits that no limits pass: as many mappings and edits as there may be (own)
+abbrev pub widest : Limits
+widest = record { mappings = 65_536; edits = 4_294_967_295 }
+
 -- no more edits were accepted than the limit, which has 32 bits (own)
 pub record IsCounted (b : Book) : Type 0 where
   pub edits : b.edits ≤ b.limits.edits

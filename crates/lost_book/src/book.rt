@@ -82,7 +82,7 @@ impl Book {
     }
 
     /// The allocator that the book keeps.
-    fn alloc(&self) -> Global {
+    pub fn alloc(&self) -> Global {
         *self.mappings.allocator()
     }
 

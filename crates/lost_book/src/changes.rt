@@ -2,7 +2,7 @@
 ghost use Rattle.std.specs.Prelude.{◌≡◌, ◌∷◌, ◌++◌, [], OnOk, OnErr};
 ghost use Rattle.lost_spec.specs.Book.{replaced, without};
 
-use crate::held::place_of;
+use crate::held::position_of;
 use lost_mapping::{Identity, Mapping};
 use std::alloc::AllocError;
 
@@ -19,8 +19,8 @@ pub(crate) fn append(mappings: &mut Vec<Mapping>, mapping: Mapping) -> Result<()
 pub(crate) fn replace(mappings: &mut Vec<Mapping>, mapping: Mapping)
     ensures { mappings.new.items ≡ replaced mapping mappings.old.items }
 {
-    if let Some(place) = place_of(mappings.as_slice(), mapping.identity()) {
-        mappings[place] = mapping;
+    if let Some(position) = position_of(mappings.as_slice(), mapping.identity()) {
+        mappings[position] = mapping;
     }
 }
 
@@ -28,7 +28,7 @@ pub(crate) fn replace(mappings: &mut Vec<Mapping>, mapping: Mapping)
 pub(crate) fn withdraw(mappings: &mut Vec<Mapping>, identity: &Identity)
     ensures { mappings.new.items ≡ without identity.now mappings.old.items }
 {
-    if let Some(place) = place_of(mappings.as_slice(), identity) {
-        let _withdrawn = mappings.remove(place);
+    if let Some(position) = position_of(mappings.as_slice(), identity) {
+        let _withdrawn = mappings.remove(position);
     }
 }

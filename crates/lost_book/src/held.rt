@@ -8,7 +8,7 @@ ghost use Rattle.lost_spec.specs.Services.{has_live_key};
 use lost_mapping::{Identity, Mapping, Moment};
 
 /// Where the mapping with this identity stands.
-pub(crate) fn place_of(mappings: &[Mapping], identity: &Identity) -> Option<usize>
+pub(crate) fn position_of(mappings: &[Mapping], identity: &Identity) -> Option<usize>
     ensures { result ≡ position (λ m. has_identity m identity.now) mappings.now }
 {
     mappings
@@ -17,7 +17,11 @@ pub(crate) fn place_of(mappings: &[Mapping], identity: &Identity) -> Option<usiz
 }
 
 /// Where the first mapping stands that is live at an instant and has this key.
-pub(crate) fn place_of_live_key(mappings: &[Mapping], moment: &Moment, key: &str) -> Option<usize>
+pub(crate) fn position_of_live_key(
+    mappings: &[Mapping],
+    moment: &Moment,
+    key: &str,
+) -> Option<usize>
     ensures { result ≡ position (has_live_key moment.now key.now) mappings.now }
 {
     mappings
@@ -42,14 +46,14 @@ pub(crate) fn is_key_of_another(mappings: &[Mapping], identity: &Identity, key: 
 }
 
 /// Whether the mapping has this source and sourceId.
-pub(crate) fn has_identity(mapping: &Mapping, identity: &Identity) -> bool
+pub fn has_identity(mapping: &Mapping, identity: &Identity) -> bool
     ensures { result ≡ has_identity mapping.now identity.now }
 {
     mapping.identity() == identity
 }
 
 /// Whether the mapping has this key; a default has none.
-pub(crate) fn has_key(mapping: &Mapping, key: &str) -> bool
+pub fn has_key(mapping: &Mapping, key: &str) -> bool
     ensures { result ≡ has_key mapping.now key.now }
 {
     match mapping.key() {

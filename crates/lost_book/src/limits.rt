@@ -1,7 +1,7 @@
 //! How much a book may hold and accept. Rules without a section are this profile's own.
 ghost use Rattle.std.specs.Prelude.{◌≡◌};
 ghost use Rattle.lost_spec.specs.Book.{limits_of};
-ghost use Rattle.lost_book.specs.Bounds.{AreAllowed};
+ghost use Rattle.lost_book.specs.Bounds.{widest, AreAllowed};
 
 use std::marker::Model;
 
@@ -38,6 +38,16 @@ impl Limits {
             Some(Limits { mappings, edits })
         } else {
             None
+        }
+    }
+
+    /// The widest limits: 65,536 mappings, and 4,294,967,295 edits.
+    pub fn widest() -> Limits
+        ensures { result ≡ widest }
+    {
+        Limits {
+            mappings: MAX_MAPPINGS,
+            edits: u32::MAX,
         }
     }
 

@@ -10,14 +10,14 @@ use lost_mapping::{Mapping, Moment};
 use lost_urn::ServiceUrn;
 
 /// Whether the mapping is live at an instant and has this service.
-pub(crate) fn serves(mapping: &Mapping, moment: &Moment, service: &ServiceUrn) -> bool
+pub fn serves(mapping: &Mapping, moment: &Moment, service: &ServiceUrn) -> bool
     ensures { result ≡ serves mapping.now moment.now service.now }
 {
     mapping.is_live(moment) && mapping.service() == service
 }
 
 /// Whether some polygon has the point inside (RFC 5222, section 12.1).
-pub(crate) fn holds_point(mapping: &Mapping, point: &GeoPoint) -> bool
+pub fn holds_point(mapping: &Mapping, point: &GeoPoint) -> bool
     ensures { result ≡ holds mapping.now (AtPoint point.now) }
 {
     mapping
@@ -27,7 +27,7 @@ pub(crate) fn holds_point(mapping: &Mapping, point: &GeoPoint) -> bool
 }
 
 /// Whether some pattern matches the address (RFC 5222, section 12.1).
-pub(crate) fn holds_address(mapping: &Mapping, address: &CivicAddress) -> bool
+pub fn holds_address(mapping: &Mapping, address: &CivicAddress) -> bool
     ensures { result ≡ holds mapping.now (AtAddress address.now) }
 {
     mapping

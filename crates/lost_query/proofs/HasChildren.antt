@@ -12,12 +12,12 @@ use Rattle.lost_query.specs.Finding.{at_positions}
 use Rattle.lost_query.proofs.PositionLemmas.{at_positions-positions}
 use Rattle.std.proofs.lemmas.List.{nil_from_length}
 use Rattle.lost_spec.specs.Services.{children_in, is_holding, services, all_services}
-use Rattle.lost_query.specs.Children.{AreServices, with_some}
+use Rattle.lost_query.specs.Children.{Children, with_some, with_child_to}
 
--- the services are the children of q over these mappings
-pub record HasChildren (q : Option Service) (ms : List Mapping) (services : List Service) : Type 0 where
-  pub all : AreServices services
-  pub are : services ≡ children_in q ms
+-- what was found is the children of q over these mappings
+pub record HasChildren (q : Option Service) (ms : List Mapping) (children : Children) : Type 0 where
+  pub above : children.above ≡ q
+  pub found : children.found ≡ children_in q ms
 
 -- a service that is found comes first
 with_some-ascending_by : (found : Option Service) (services : List Service) → with_some found (ascending_by service_text services) ≡ ascending_by service_text (cons_option found services)
@@ -25,13 +25,13 @@ with_some-ascending_by None services = refl
 with_some-ascending_by (Some s) services = refl
 
 -- one more mapping
-HasChildren-more : (q : Option Service) (m : Mapping) (ms : List Mapping) (old new : List Service) → HasChildren q ms old → AreServices new → new ≡ with_some (child q m.service) old → HasChildren q (m ∷ ms) new
-HasChildren-more q m ms old new before all added =
-    let found = child q m.service in
-    record {
-      all = all;
-      are = added ∙ ap (with_some found) before.are ∙ with_some-ascending_by found (filter_map (λ (n : Mapping). child q n.service) ms);
-    }
+pub HasChildren-more : (q : Option Service) (m : Mapping) (ms : List Mapping) (s : Service) (old new : Children) → HasChildren q ms old → s ≡ m.service → new ≡ with_child_to s old → HasChildren q (m ∷ ms) new
+HasChildren-more q m ms s old new before is added = record {
+  above = ap (λ (c : Children). c.above) added ∙ before.above;
+  found =
+      ap (λ (c : Children). c.found) added ∙ ap (λ u. with_some (child old.above u) old.found) is ∙ ap (λ p. with_some (child p m.service) old.found) before.above
+      ∙ ap (with_some (child q m.service)) before.found ∙ with_some-ascending_by (child q m.service) (filter_map (λ (n : Mapping). child q n.service) ms);
+}
 
 -- what stands at a place comes before what follows it
 drop-slice_get : {Thing : Type 0} (xs : List Thing) (i : ℕ) (x : Thing) → slice_get xs i ≡ Some x → drop i xs ≡ x ∷ drop (suc i) xs
@@ -41,14 +41,14 @@ drop-slice_get (y ∷ ys) (suc i) x is = drop-slice_get ys i x is
 
 module _ (test : Mapping → Bool) (q : Option Service) (ms : List Mapping) where
   -- the last mappings of a list, those that pass, and one before them that passes or fails
-  module _ (i : ℕ) (m : Mapping) (some : 0 < i) (is : slice_get ms (i - 1) ≡ Some m) (old : List Service) (before : HasChildren q (filter test (drop i ms)) old) where
+  module _ (i : ℕ) (m : Mapping) (some : 0 < i) (is : slice_get ms (i - 1) ≡ Some m) (old : Children) (before : HasChildren q (filter test (drop i ms)) old) where
     front : filter test (drop (i - 1) ms) ≡ filter test (m ∷ drop i ms)
     front = let next : suc (i - 1) ≡ i = omega arith in ap (filter test) (drop-slice_get ms (i - 1) m is ∙ ap (λ k. m ∷ drop k ms) next)
 
-    pub HasChildren-passes : test m ≡ true → (new : List Service) → AreServices new → new ≡ with_some (child q m.service) old → HasChildren q (filter test (drop (i - 1) ms)) new
-    HasChildren-passes passes new all added =
+    pub HasChildren-passes : test m ≡ true → (s : Service) (new : Children) → s ≡ m.service → new ≡ with_child_to s old → HasChildren q (filter test (drop (i - 1) ms)) new
+    HasChildren-passes passes s new own added =
         let passing : m ∷ filter test (drop i ms) ≡ filter test (drop (i - 1) ms) = ap (λ b. cond b (m ∷ filter test (drop i ms)) (filter test (drop i ms))) (sym passes) ∙ sym front in
-        subst (λ ns. HasChildren q ns new) passing (HasChildren-more q m (filter test (drop i ms)) old new before all added)
+        subst (λ ns. HasChildren q ns new) passing (HasChildren-more q m (filter test (drop i ms)) s old new before own added)
 
     pub HasChildren-fails : test m ≡ false → HasChildren q (filter test (drop (i - 1) ms)) old
     HasChildren-fails fails =
@@ -58,15 +58,15 @@ module _ (test : Mapping → Bool) (q : Option Service) (ms : List Mapping) wher
 -- ---- at the end
 
 -- where no mapping is left before, the children are the services anywhere
-pub all_services-HasChildren : (b : Book) (t : Instant) (q : Option Service) (i : ℕ) (services : List Service) → i ≤ 0 → HasChildren q (filter (λ m. is_live m t) (drop i b.mappings)) services → services ≡ all_services b t q
+pub all_services-HasChildren : (b : Book) (t : Instant) (q : Option Service) (i : ℕ) (children : Children) → i ≤ 0 → HasChildren q (filter (λ m. is_live m t) (drop i b.mappings)) children → children.found ≡ all_services b t q
 unfolding all_services
-all_services-HasChildren b t q i services past has =
+all_services-HasChildren b t q i children past has =
     let first : i ≡ 0 = omega arith in
-    has.are ∙ ap (λ k. children_in q (filter (λ (m : Mapping). is_live m t) (drop k b.mappings))) first
+    has.found ∙ ap (λ k. children_in q (filter (λ (m : Mapping). is_live m t) (drop k b.mappings))) first
 
 -- where no position is left before, the children are the services at the place
-pub services-HasChildren : (b : Book) (t : Instant) (l : Place) (q : Option Service) (rest done : List ℕ) (found : List Service) → length rest ≡ 0 → rest ++ done ≡ positions (is_holding t l) b.mappings → HasChildren q (at_positions b.mappings done) found → found ≡ services b t l q
+pub services-HasChildren : (b : Book) (t : Instant) (l : Place) (q : Option Service) (rest done : List ℕ) (children : Children) → length rest ≡ 0 → rest ++ done ≡ positions (is_holding t l) b.mappings → HasChildren q (at_positions b.mappings done) children → children.found ≡ services b t l q
 unfolding services
-services-HasChildren b t l q rest done found past is has =
+services-HasChildren b t l q rest done children past is has =
     let all : done ≡ positions (is_holding t l) b.mappings = ap (λ xs. xs ++ done) (sym (nil_from_length rest past)) ∙ is in
-    has.are ∙ ap (children_in q) (at_positions-positions (is_holding t l) b.mappings done all)
+    has.found ∙ ap (children_in q) (at_positions-positions (is_holding t l) b.mappings done all)

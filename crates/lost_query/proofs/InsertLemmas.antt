@@ -5,12 +5,12 @@ use Rattle.std.specs.Ordering.{nat_cmp, is_lt, is_eq, match_ordering}
 use Rattle.std.specs.BTreeSet.{insert_key}
 use Rattle.std.specs.Cmp.Lexicographic.{slice_cmp, texts_ties}
 use Rattle.lost_spec.specs.Text.{Text, is_before, same_text, insert_by}
-use Rattle.lost_spec.specs.Service.{Service, is_service, service_text}
+use Rattle.lost_spec.specs.Service.{Service, is_service, service_text, child}
 use Rattle.lost_spec.proofs.OrderLemmas.{AllByRecursion-insert_by}
 use Rattle.lost_spec.proofs.ListLemmas.{AllByRecursion-weaker}
 use Rattle.lost_urn.specs.Order.{service_cmp}
 use Rattle.lost_urn.proofs.OrderLemmas.{service_cmp_by_text}
-use Rattle.lost_query.specs.Children.{AreServices, with_some}
+use Rattle.lost_query.specs.Children.{Children, AreServices, with_some, with_child_to}
 
 module _ {Thing : Type 0} (text_of : Thing → Text) where
   -- a choice by the order of two texts is a choice by the two tests of `insert_by`
@@ -50,3 +50,9 @@ module _ (found : Option Service) (x : Service) (old new : List Service) (is : f
   -- and a set of services
   pub AreServices-insert_key : AreServices new
   AreServices-insert_key = subst AreServices (sym put_in) (AreServices-insert_by x old (IsService-found found x is one) all)
+
+-- children with the one that was found
+pub with_child_to-found : (q : Option Service) (s : Service) (found : Option Service) (old new : List Service) (children : Children) → children ≡ record { above = q; found = old } → found ≡ child q s → new ≡ with_some found old → ◌≡◌ {A = Children} (record { above = q; found = new }) (with_child_to s children)
+with_child_to-found q s found old new children was is put_in =
+    let whole : List Service → Children = λ services. record { above = q; found = services } in
+    ap whole (put_in ∙ ap (λ o. with_some o old) is) ∙ ap (with_child_to s) (sym was)

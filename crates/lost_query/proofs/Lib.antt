@@ -1,9 +1,11 @@
+pub mod AddedLemmas
 pub mod BoundaryLemmas
 pub mod ChainLemmas
 pub mod FindLemmas
 pub mod HasChildren
 pub mod InsertLemmas
 pub mod JudgedLemmas
+pub mod MemberLemmas
 pub mod NameLemmas
 pub mod PatternLemmas
 pub mod PickLemmas

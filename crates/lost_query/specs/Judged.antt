@@ -3,7 +3,10 @@ use Rattle.std.specs.Prelude.{◌≡◌, Bool, false, not, ◌&&◌, List}
 use Rattle.std.specs.List.{list_all, list_any}
 use Rattle.lost_spec.specs.Civic.{Pairs, names_of, is_known}
 use Rattle.lost_spec.specs.Text.{Text, is_among}
+use Rattle.lost_spec.specs.Service.{Service}
+use Rattle.lost_spec.specs.Moment.{Instant}
 use Rattle.lost_spec.specs.Mapping.{Mapping}
+use Rattle.lost_spec.specs.Find.{serves}
 use Rattle.lost_spec.specs.Validation.{agrees, names_it, is_valid}
 use Rattle.lost_civic.specs.declared.elements.Element.{Element}
 use Rattle.lost_civic.specs.Element.{element_name}
@@ -27,6 +30,10 @@ is_contradicted references address element = is_named references element && not 
 -- a pattern names each of these elements with the address's comparison text (own policy)
 abbrev pub is_reference : List Element → Pairs → Pairs → Bool
 is_reference valid address pattern = list_all (λ element. agrees address (element_name element) pattern) valid
+
+-- a mapping is live at t, has service u, and some pattern of it names each of these elements with the address's comparison text (own policy)
+abbrev pub is_referring : Instant → Service → Pairs → List Element → Mapping → Bool
+is_referring t u address elements m = serves m t u && list_any (is_reference elements address) m.patterns
 
 -- a pattern of a found mapping matches the address and names the element (RFC 5222, section 8.4.2; policy own)
 abbrev pub is_valid_element : List Mapping → Pairs → Element → Bool

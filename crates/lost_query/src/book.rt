@@ -1,7 +1,10 @@
 //! The plain book as holdings.
 use crate::holdings::Holdings;
 use crate::place::Place;
+use crate::services::services_below;
+use crate::validation::patterns::refers;
 use lost_book::Book;
+use lost_civic::{CivicAddress, Element};
 use lost_mapping::{Mapping, Moment};
 use lost_urn::ServiceUrn;
 use std::alloc::AllocError;
@@ -54,5 +57,27 @@ impl Holdings for Book {
 
     fn of_service(&self, moment: &Moment, service: &ServiceUrn) -> Result<Vec<usize>, AllocError> {
         Book::of_service(self, moment, service)
+    }
+
+    fn referring(
+        &self,
+        moment: &Moment,
+        service: &ServiceUrn,
+        address: &CivicAddress,
+        elements: &[Element],
+    ) -> Result<Vec<usize>, AllocError> {
+        self.positions(|mapping| {
+            mapping.is_live(moment)
+                && mapping.service() == service
+                && refers(mapping, address, elements)
+        })
+    }
+
+    fn services_below(
+        &self,
+        moment: &Moment,
+        above: Option<&ServiceUrn>,
+    ) -> Result<Vec<ServiceUrn>, AllocError> {
+        services_below(self, moment, above)
     }
 }

@@ -1,12 +1,15 @@
 //! What holds mappings, and what it is asked. Rules without a section are this profile's own.
 ghost use Rattle.std.specs.Prelude.{◌≡◌, ◌<◌, Some, IfOk, length, position, slice_get};
+ghost use Rattle.std.specs.Option.{option_copied};
 ghost use Rattle.lost_spec.specs.Book as spec;
 ghost use Rattle.lost_spec.specs.Positions.{positions};
 ghost use Rattle.lost_spec.specs.Find.{is_holder, is_standby, serves, is_implemented};
-ghost use Rattle.lost_spec.specs.Services.{is_holding, has_live_key};
+ghost use Rattle.lost_spec.specs.Services.{is_holding, has_live_key, all_services};
+ghost use Rattle.lost_query.specs.Judged.{is_referring};
 ghost use Rattle.lost_query.specs.Place.{place_of};
 
 use crate::place::Place;
+use lost_civic::{CivicAddress, Element};
 use lost_mapping::{Mapping, Moment};
 use lost_urn::ServiceUrn;
 use std::alloc::AllocError;
@@ -63,4 +66,26 @@ pub trait Holdings {
     fn of_service(&self, moment: &Moment, service: &ServiceUrn) -> Result<Vec<usize>, AllocError>
         ensures { IfOk result (λ places.
             places.items ≡ positions (λ m. serves m moment.now service.now) (book self.now).mappings) };
+
+    /// The live mappings of this service, defaults too, with some pattern that names each of these elements with the
+    /// address's comparison text (RFC 5222, section 8.4.2; own policy), or want of memory.
+    fn referring(
+        &self,
+        moment: &Moment,
+        service: &ServiceUrn,
+        address: &CivicAddress,
+        elements: &[Element],
+    ) -> Result<Vec<usize>, AllocError>
+        ensures { IfOk result (λ places.
+            places.items ≡ positions (is_referring moment.now service.now address.now elements.now) (book self.now).mappings) };
+
+    /// The services just below one, or the topmost, of all live mappings, defaults too, in the order of their texts,
+    /// each once (RFC 5222, section 10; own order), or want of memory.
+    fn services_below(
+        &self,
+        moment: &Moment,
+        above: Option<&ServiceUrn>,
+    ) -> Result<Vec<ServiceUrn>, AllocError>
+        ensures { IfOk result (λ found.
+            found.items ≡ all_services (book self.now) moment.now (option_copied above.entry)) };
 }

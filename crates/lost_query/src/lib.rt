@@ -28,3 +28,5 @@ pub use lost_spec::answers::{AnswerError, Warning};
 pub use place::Place;
 pub use reply::{Boundary, Reply, ShownMapping, Validation};
 pub use request::{Body, Location, Request};
+pub use services::children::Children;
+pub use validation::patterns::refers;

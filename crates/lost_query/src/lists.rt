@@ -11,7 +11,7 @@ use crate::holdings::Holdings;
 use crate::path::Route;
 use crate::place::Place;
 use crate::reply::Reply;
-use crate::services::{services_anywhere, services_at};
+use crate::services::services_at;
 use lost_mapping::Moment;
 use lost_urn::ServiceUrn;
 use std::alloc::{AllocError, Global};
@@ -53,6 +53,6 @@ pub(crate) fn list_anywhere<H: Holdings>(
     Ok(Reply::ListServicesResponse {
         edition: holdings.edition(),
         path: route.shown(alloc)?,
-        services: services_anywhere(alloc, holdings, moment, above)?,
+        services: holdings.services_below(moment, above)?,
     })
 }

@@ -6,13 +6,13 @@ ghost use Rattle.lost_query.specs.Place.{place_of};
 
 use crate::holdings::Holdings;
 use crate::place::Place;
-use crate::services::children::{add_child, into_list};
+use crate::services::children::Children;
+use lost_book::Book;
 use lost_mapping::Moment;
 use lost_urn::ServiceUrn;
 use std::alloc::{AllocError, Global};
-use std::collections::BTreeSet;
 
-mod children;
+pub(crate) mod children;
 
 /// The services just below one, or the topmost, of the live mappings that hold the place and are no defaults, in the
 /// order of their texts, each once (RFC 5222, section 11; order own), or want of memory.
@@ -28,32 +28,31 @@ pub(crate) fn services_at<H: Holdings>(
 {
     let positions = holdings.holding(moment, place)?;
 
-    // The set puts them in order, so the order of the search is free: the definition begins with the last one.
-    let mut children = BTreeSet::new(alloc);
+    // The children are put in order, so the order of the search is free: the definition begins with the last one.
+    let mut children = Children::new(alloc, above);
     for position in positions.iter().rev() {
-        add_child(&mut children, above, holdings.mapping(*position))?;
+        children.add(holdings.mapping(*position).service())?;
     }
-    into_list(alloc, children)
+    children.into_list(alloc)
 }
 
-/// The services just below one, or the topmost, of all live mappings, defaults too, in the order of their texts, each
-/// once (RFC 5222, section 10; order own), or want of memory.
-pub(crate) fn services_anywhere<H: Holdings>(
-    alloc: Global,
-    holdings: &H,
+/// The services just below one, or the topmost, of all live mappings of a book, defaults too, in the order of their
+/// texts, each once (RFC 5222, section 10; order own), or want of memory.
+pub(crate) fn services_below(
+    book: &Book,
     moment: &Moment,
     above: Option<&ServiceUrn>,
 ) -> Result<Vec<ServiceUrn>, AllocError>
     ensures { IfOk result (λ found.
-        found.items ≡ all_services (H.book holdings.now) moment.now (option_copied above.entry)) }
+        found.items ≡ all_services book.now moment.now (option_copied above.entry)) }
 {
-    let mut children = BTreeSet::new(alloc);
-    for position in (0..holdings.len()).rev() {
-        let mapping = holdings.mapping(position);
+    let mut children = Children::new(book.alloc(), above);
+    for position in (0..book.len()).rev() {
+        let mapping = book.mapping(position);
         if !mapping.is_live(moment) {
             continue;
         }
-        add_child(&mut children, above, mapping)?;
+        children.add(mapping.service())?;
     }
-    into_list(alloc, children)
+    children.into_list(book.alloc())
 }

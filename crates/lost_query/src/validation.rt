@@ -18,7 +18,7 @@ use lost_urn::ServiceUrn;
 use std::alloc::{AllocError, Global};
 
 mod elements;
-mod patterns;
+pub(crate) mod patterns;
 
 /// How the elements of an address are judged, where these mappings of a service were found at it (RFC 5222, section
 /// 8.4.2; policy own), or want of memory.

@@ -7,6 +7,7 @@ ghost use Rattle.lost_book.specs.Edit.{edit_of};
 use crate::book::Book;
 use crate::changes;
 use crate::edit::Edit;
+use crate::register::{check_publish, check_replace, check_withdraw};
 use lost_mapping::{Identity, Mapping, Stamp};
 use lost_spec::faults::EditError;
 
@@ -36,7 +37,7 @@ impl Book {
     fn publish(&mut self, mapping: Mapping) -> Result<(), EditError>
         ensures { IsApplied self.old (Publish mapping) result self.new }
     {
-        self.check_publish(&mapping)?;
+        check_publish(self, &mapping)?;
         if changes::append(&mut self.mappings, mapping).is_err() {
             return Err(EditError::Memory);
         }
@@ -47,7 +48,7 @@ impl Book {
     fn replace(&mut self, mapping: Mapping) -> Result<(), EditError>
         ensures { IsApplied self.old (Replace mapping) result self.new }
     {
-        self.check_replace(&mapping)?;
+        check_replace(self, &mapping)?;
         changes::replace(&mut self.mappings, mapping);
         self.edits += 1;
         Ok(())
@@ -56,7 +57,7 @@ impl Book {
     fn withdraw(&mut self, identity: &Identity, stamp: &Stamp) -> Result<(), EditError>
         ensures { IsApplied self.old (Withdraw identity.now stamp.now) result self.new }
     {
-        self.check_withdraw(identity, stamp)?;
+        check_withdraw(self, identity, stamp)?;
         changes::withdraw(&mut self.mappings, identity);
         self.edits += 1;
         Ok(())

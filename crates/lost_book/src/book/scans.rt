@@ -8,7 +8,7 @@ ghost use Rattle.lost_spec.specs.Find.{AtPoint, AtAddress, is_holder, is_standby
 ghost use Rattle.lost_spec.specs.Services.{is_holding, has_live_key, by_key};
 
 use crate::book::Book;
-use crate::held::place_of_live_key;
+use crate::held::position_of_live_key;
 use crate::places::{holds_address, holds_point, is_of_chain, serves};
 use lost_civic::CivicAddress;
 use lost_geo::GeoPoint;
@@ -102,13 +102,22 @@ impl Book {
         )
     }
 
+    /// Where the mappings stand that pass a test, or want of memory.
+    pub fn positions<F: Fn(&Mapping) -> bool>(&self, passes: F) -> Result<Vec<usize>, AllocError>
+        requires { F.IsAlwaysCallable passes }
+        ensures { (test : spec.Mapping → Bool) → ((m : spec.Mapping) (r : Bool) → FnReturnsAt F.Fn passes m r → r ≡ test m)
+            → IfOk result (λ places. places.items ≡ positions test self.now.mappings) }
+    {
+        places_of(self.mappings(), self.alloc(), passes)
+    }
+
     /// The first mapping that is live and has this key (RFC 5222, section 9; keys are an own rule).
     pub fn by_key(&self, moment: &Moment, key: &str) -> Option<usize>
         ensures position { result ≡ position (has_live_key moment.now key.now) self.now.mappings }
         ensures mapping { MatchOption result (by_key self.now moment.now key.now ≡ None)
             (λ place. by_key self.now moment.now key.now ≡ slice_get self.now.mappings place) }
     {
-        place_of_live_key(self.mappings(), moment, key)
+        position_of_live_key(self.mappings(), moment, key)
     }
 
     /// Whether some live mapping has the service or one above it (RFC 5222, section 13.1; own reading).

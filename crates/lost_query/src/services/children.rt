@@ -2,12 +2,67 @@
 ghost use Rattle.std.specs.Prelude.{◌≡◌, IfOk, IfSome, OnOk, IsTrue};
 ghost use Rattle.std.specs.Option.{option_copied};
 ghost use Rattle.lost_spec.specs.Service.{is_service, child};
-ghost use Rattle.lost_query.specs.Children.{AreServices, with_some};
+ghost use Rattle.lost_query.specs.Children.{no_children, with_child_to};
 
-use lost_mapping::Mapping;
 use lost_urn::ServiceUrn;
 use std::alloc::{AllocError, Global};
 use std::collections::BTreeSet;
+use std::marker::Model;
+
+/// The services just below one, or the topmost, on the way to services that are added one after another (RFC 5222,
+/// section 10). They come out in the order of their texts, each once, in whatever order and however often the services
+/// were added.
+#[derive(Drop)]
+pub struct Children<'a> {
+    above: Option<&'a ServiceUrn>,
+    found: BTreeSet<ServiceUrn>,
+}
+
+impl<'a> Model for Children<'a> {
+    ghost use Rattle.std.specs.Option.{option_copied};
+    ghost use Rattle.lost_query.specs.Children as spec;
+
+    ghost Value = { spec.Children };
+
+    ghost view = { λ c. record { above = option_copied c.above; found = c.found.keys } };
+
+    ghost invariant = { λ c. spec.AreServices c.found.keys };
+}
+
+impl<'a> Children<'a> {
+    /// No children yet, of this service or without one the topmost.
+    pub fn new(alloc: Global, above: Option<&'a ServiceUrn>) -> Children<'a>
+        ensures { result ≡ no_children (option_copied above.entry) }
+    {
+        Children {
+            above,
+            found: BTreeSet::new(alloc),
+        }
+    }
+
+    /// Puts in the child on the way to a service, unless there is none or it is there. Fails where there is no memory
+    /// for it.
+    pub fn add(&mut self, service: &ServiceUrn) -> Result<(), AllocError>
+        ensures child { OnOk result (self.new ≡ with_child_to service.now self.old) }
+
+        // What is added is a service, as a list of what was added has to show.
+        ensures well_formed { OnOk result (IsTrue (is_service service.now)) }
+    {
+        // Shows to the proof that the labels make a service.
+        let _text = service.text();
+        if let Some(child) = child(self.above, service)? {
+            self.found.insert(child)?;
+        }
+        Ok(())
+    }
+
+    /// The children, in the order of their texts, or want of memory.
+    pub fn into_list(self, alloc: Global) -> Result<Vec<ServiceUrn>, AllocError>
+        ensures { IfOk result (λ services. services.items ≡ self.entry.found) }
+    {
+        self.found.into_iter().collect(alloc)
+    }
+}
 
 /// The service just below one, or the topmost, on the way to a service (RFC 5222, section 10), or want of memory.
 fn child(above: Option<&ServiceUrn>, service: &ServiceUrn) -> Result<Option<ServiceUrn>, AllocError>
@@ -26,31 +81,4 @@ fn child(above: Option<&ServiceUrn>, service: &ServiceUrn) -> Result<Option<Serv
     // Shows to the proof that the labels make a service.
     let _text = child.text();
     Ok(Some(child))
-}
-
-/// Puts the child on the way to a mapping's service into those that were found, unless it is there.
-pub(super) fn add_child(
-    children: &mut BTreeSet<ServiceUrn>,
-    above: Option<&ServiceUrn>,
-    mapping: &Mapping,
-) -> Result<(), AllocError>
-    requires { AreServices children.old.keys }
-    ensures services { OnOk result (AreServices children.new.keys) }
-    ensures added { OnOk result
-        (children.new.keys ≡ with_some (child (option_copied above.entry) mapping.now.service) children.old.keys) }
-{
-    if let Some(child) = child(above, mapping.service())? {
-        children.insert(child)?;
-    }
-    Ok(())
-}
-
-/// The children that were found, in the order of their texts, or want of memory.
-pub(super) fn into_list(
-    alloc: Global,
-    children: BTreeSet<ServiceUrn>,
-) -> Result<Vec<ServiceUrn>, AllocError>
-    ensures { IfOk result (λ services. services.items ≡ children.keys) }
-{
-    children.into_iter().collect(alloc)
 }

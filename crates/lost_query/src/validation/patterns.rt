@@ -1,6 +1,6 @@
 //! What patterns say of the elements of an address.
 ghost use Rattle.std.specs.Prelude.{◌≡◌, ◌++◌, None, Bool, IfOk, OnOk, filter, map};
-ghost use Rattle.std.specs.List.{AllByRecursion};
+ghost use Rattle.std.specs.List.{AllByRecursion, list_any};
 ghost use Rattle.std.specs.Fn.{FnReturnsAt};
 ghost use Rattle.lost_spec.specs.Civic.{Pairs, pattern_fault, matches};
 ghost use Rattle.lost_spec.specs.Validation.{names_it, agrees, patterns_in, of_service};
@@ -66,6 +66,16 @@ fn is_reference(pattern: &CivicPattern, address: &CivicAddress, valid: &[Element
         .all(|element| agrees(pattern, address, *element))
 }
 
+/// Whether some pattern of a mapping names each of these elements with the address's comparison text (own policy).
+pub fn refers(mapping: &Mapping, address: &CivicAddress, elements: &[Element]) -> bool
+    ensures { result ≡ list_any (is_reference elements.now address.now) mapping.now.patterns }
+{
+    mapping
+        .patterns()
+        .iter()
+        .any(|pattern| is_reference(pattern, address, elements))
+}
+
 /// Puts the patterns of a mapping that pass a test behind others, or gives want of memory.
 fn add_patterns<'a, F: Fn(&CivicPattern) -> bool>(
     patterns: &mut Vec<&'a CivicPattern>,
@@ -119,7 +129,7 @@ pub(super) fn reference_patterns<'a, H: Holdings>(
         map (λ p. p.now) patterns.items
         ≡ filter (is_reference valid.now address.now) (patterns_in (of_service (H.book holdings.now) moment.now service.now))) }
 {
-    let positions = holdings.of_service(moment, service)?;
+    let positions = holdings.referring(moment, service, address, valid)?;
     let mut patterns = Vec::new(alloc);
     for position in &positions {
         add_patterns(

@@ -19,5 +19,5 @@ returns g c =
     let place = place_of c.args.place.now in
     let above = option_copied c.args.above in
     let invariant = c.loop-position.invariant in
-    let all : c.loop-position.children.keys ≡ services book c.args.moment.now place above = services-HasChildren book c.args.moment.now place above (iter_rest (rev_source c.loop-position.position-iterator)) invariant.0 c.loop-position.children.keys c.in-None.ensures.steps.0 invariant.1 invariant.2 in
+    let all : c.loop-position.children.found ≡ services book c.args.moment.now place above = services-HasChildren book c.args.moment.now place above (iter_rest (rev_source c.loop-position.position-iterator)) invariant.0 c.loop-position.children c.in-None.ensures.steps.0 invariant.1 invariant.2 in
     search rules

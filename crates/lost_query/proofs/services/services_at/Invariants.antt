@@ -12,4 +12,4 @@ use Rattle.lost_query.proofs.services.services_at.Given as goal
 abbrev pub invariant-loop-position : goal.invariant-loop-position
 invariant-loop-position g l =
     (done : List ℕ) × (iter_rest (rev_source l.position-iterator) ++ done ≡ positions (is_holding l.moment (place_of l.place)) (g.H.Holdings.book l.holdings).mappings)
-    × HasChildren (option_copied l.above) (at_positions (g.H.Holdings.book l.holdings).mappings done) l.children.keys
+    × HasChildren (option_copied l.above) (at_positions (g.H.Holdings.book l.holdings).mappings done) l.children

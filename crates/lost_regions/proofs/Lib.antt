@@ -1,0 +1,3 @@
+pub mod HeldLemmas
+pub mod RegionLemmas
+pub mod RowLemmas

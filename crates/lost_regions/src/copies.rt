@@ -1,0 +1,29 @@
+//! The regions of a mapping, in lists of their own. A copy of a region costs a pointer.
+ghost use Rattle.std.specs.Prelude.{◌≡◌, IfOk};
+
+use lost_civic::CivicPattern;
+use lost_geo::Polygon;
+use lost_mapping::Mapping;
+use std::alloc::{AllocError, Global};
+
+/// The polygons of a mapping, or want of memory.
+pub(crate) fn polygons_of(alloc: Global, mapping: &Mapping) -> Result<Vec<Polygon>, AllocError>
+    ensures { IfOk result (λ polygons. polygons.items ≡ mapping.now.polygons) }
+{
+    let mut polygons = Vec::with_capacity(alloc, mapping.polygons().len())?;
+    for polygon in mapping.polygons() {
+        polygons.push(polygon.clone()?)?;
+    }
+    Ok(polygons)
+}
+
+/// The patterns of a mapping, or want of memory.
+pub(crate) fn patterns_of(alloc: Global, mapping: &Mapping) -> Result<Vec<CivicPattern>, AllocError>
+    ensures { IfOk result (λ patterns. patterns.items ≡ mapping.now.patterns) }
+{
+    let mut patterns = Vec::with_capacity(alloc, mapping.patterns().len())?;
+    for pattern in mapping.patterns() {
+        patterns.push(pattern.clone()?)?;
+    }
+    Ok(patterns)
+}

@@ -1,0 +1,34 @@
+//! What is done to one of the indexes.
+ghost use Rattle.std.specs.Prelude.{◌≡◌, ◌+◌, ◌<◌, ◌^◌, ◌++◌, length};
+ghost use Rattle.lost_index.specs.Held.{with_number};
+ghost use Rattle.lost_regions.specs.Held.{IsHeldWith};
+
+use lost_index::Index;
+use lost_profile::Profile;
+
+/// Keeps the first regions of a number, of which there are `count`. It takes no memory.
+pub(crate) fn keep_first<P: Profile>(
+    index: &mut Index<P>,
+    number: u64,
+    first: &[P::Region],
+    rest: &[P::Region],
+)
+    requires { IsHeldWith number (first.now ++ rest.now) index.old }
+    ensures { index.new ≡ with_number number (λ _. first.now) index.old }
+{
+    index.cut(number, 0, first.len());
+}
+
+/// Keeps the regions of a number behind the first ones. It takes no memory.
+pub(crate) fn keep_rest<P: Profile>(
+    index: &mut Index<P>,
+    number: u64,
+    first: &[P::Region],
+    rest: &[P::Region],
+)
+    requires held { IsHeldWith number (first.now ++ rest.now) index.old }
+    requires count { length first.now + length rest.now < 2 ^ 64 }
+    ensures { index.new ≡ with_number number (λ _. rest.now) index.old }
+{
+    index.cut(number, first.len(), first.len() + rest.len());
+}

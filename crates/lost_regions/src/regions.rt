@@ -1,0 +1,175 @@
+//! The three indexes.
+ghost use Rattle.std.specs.Prelude.{◌≡◌, ◌∷◌, ◌++◌, [], IfOk, OnOk, OnErr};
+ghost use Rattle.lost_spec.specs.Ring.{inside};
+ghost use Rattle.lost_spec.specs.Civic.{matches};
+ghost use Rattle.lost_civicdex.specs.Covers.{names_all};
+ghost use Rattle.lost_index.specs.Held.{IsAbove, holders, with_number};
+ghost use Rattle.lost_regions.specs.Held.{IsHeldWith};
+ghost use Rattle.lost_regions.specs.Regions.{no_regions, AreHeld, IsAboveAll, HasAll, with_mapping, with_more, with_other, without_number};
+
+use crate::copies::{patterns_of, polygons_of};
+use crate::part::{keep_first, keep_rest};
+use lost_civic::CivicAddress;
+use lost_civicdex::{Civic, References, RequiredElements};
+use lost_geo::GeoPoint;
+use lost_grid::Geodetic2d;
+use lost_index::Index;
+use lost_mapping::Mapping;
+use std::alloc::{AllocError, Global};
+use std::marker::Model;
+
+/// The regions of mappings under their numbers, which rise. Contracts see three lists of (number, regions).
+#[derive(Drop)]
+pub struct Regions {
+    alloc: Global,
+    points: Index<Geodetic2d>,
+    addresses: Index<Civic>,
+    references: Index<References>,
+}
+
+impl Model for Regions {
+    ghost use Rattle.lost_regions.specs.Regions as spec;
+
+    ghost Value = { spec.Regions };
+
+    ghost view = { λ r. record { points = r.points; addresses = r.addresses; references = r.references } };
+}
+
+impl Regions {
+    /// No regions. It takes no memory.
+    pub fn new(alloc: Global) -> Regions
+        ensures { result ≡ no_regions }
+    {
+        Regions {
+            alloc,
+            points: Index::new(alloc),
+            addresses: Index::new(alloc),
+            references: Index::new(alloc),
+        }
+    }
+
+    /// Puts a number with the regions of a mapping behind all that are held; the number is above them. Or want of
+    /// memory, which changes nothing.
+    pub fn put(&mut self, number: u64, mapping: &Mapping) -> Result<(), AllocError>
+        requires { IsAboveAll number self.old }
+        ensures put { OnOk result (self.new ≡ with_mapping number mapping.now self.old) }
+        ensures refused { OnErr result (self.new ≡ self.old) }
+    {
+        self.points.put(number, polygons_of(self.alloc, mapping)?)?;
+        if self.put_patterns(number, mapping).is_err() {
+            self.points.take(number);
+            return Err(AllocError);
+        }
+        Ok(())
+    }
+
+    /// The same for the patterns alone.
+    fn put_patterns(&mut self, number: u64, mapping: &Mapping) -> Result<(), AllocError>
+        requires addresses { IsAbove number self.old.addresses }
+        requires references { IsAbove number self.old.references }
+        ensures put { OnOk result (self.new ≡ record {
+          points = self.old.points;
+          addresses = self.old.addresses ++ (number, mapping.now.patterns) ∷ [];
+          references = self.old.references ++ (number, mapping.now.patterns) ∷ [];
+        }) }
+        ensures refused { OnErr result (self.new ≡ self.old) }
+    {
+        let patterns = patterns_of(self.alloc, mapping)?;
+        self.addresses
+            .put(number, patterns_of(self.alloc, mapping)?)?;
+        if self.references.put(number, patterns).is_err() {
+            self.addresses.take(number);
+            return Err(AllocError);
+        }
+        Ok(())
+    }
+
+    /// Puts the regions of another mapping in the place of those of a number that is held. Or want of memory, which
+    /// changes nothing.
+    pub fn change(&mut self, number: u64, old: &Mapping, new: &Mapping) -> Result<(), AllocError>
+        requires { HasAll number old.now.polygons old.now.patterns self.old }
+        ensures changed { OnOk result (self.new ≡ with_other number new.now self.old) }
+        ensures refused { OnErr result (self.new ≡ self.old) }
+    {
+        self.grow(number, old, new)?;
+        self.shed(number, old, new);
+        Ok(())
+    }
+
+    /// Puts the regions of another mapping behind those of a number. Or want of memory, which changes nothing.
+    fn grow(&mut self, number: u64, old: &Mapping, new: &Mapping) -> Result<(), AllocError>
+        requires { HasAll number old.now.polygons old.now.patterns self.old }
+        ensures grown { OnOk result (self.new ≡ with_more number new.now self.old) }
+        ensures refused { OnErr result (self.new ≡ self.old) }
+    {
+        self.points.add(number, polygons_of(self.alloc, new)?)?;
+        if self.grow_patterns(number, old, new).is_err() {
+            keep_first(&mut self.points, number, old.polygons(), new.polygons());
+            return Err(AllocError);
+        }
+        Ok(())
+    }
+
+    /// The same for the patterns alone.
+    fn grow_patterns(&mut self, number: u64, old: &Mapping, new: &Mapping) -> Result<(), AllocError>
+        requires addresses { IsHeldWith number old.now.patterns self.old.addresses }
+        requires references { IsHeldWith number old.now.patterns self.old.references }
+        ensures grown { OnOk result (self.new ≡ record {
+          points = self.old.points;
+          addresses = with_number number (λ regions. regions ++ new.now.patterns) self.old.addresses;
+          references = with_number number (λ regions. regions ++ new.now.patterns) self.old.references;
+        }) }
+        ensures refused { OnErr result (self.new ≡ self.old) }
+    {
+        let patterns = patterns_of(self.alloc, new)?;
+        self.addresses.add(number, patterns_of(self.alloc, new)?)?;
+        if self.references.add(number, patterns).is_err() {
+            keep_first(&mut self.addresses, number, old.patterns(), new.patterns());
+            return Err(AllocError);
+        }
+        Ok(())
+    }
+
+    /// Keeps of a number's regions those of the new mapping, which stand behind those of the old one. It takes no
+    /// memory.
+    fn shed(&mut self, number: u64, old: &Mapping, new: &Mapping)
+        requires { HasAll number (old.now.polygons ++ new.now.polygons) (old.now.patterns ++ new.now.patterns) self.old }
+        ensures { self.new ≡ with_other number new.now self.old }
+    {
+        keep_rest(&mut self.points, number, old.polygons(), new.polygons());
+        keep_rest(&mut self.addresses, number, old.patterns(), new.patterns());
+        keep_rest(&mut self.references, number, old.patterns(), new.patterns());
+    }
+
+    /// Takes a number that is held out, with its regions. It takes no memory.
+    pub fn take(&mut self, number: u64)
+        requires { AreHeld number self.old }
+        ensures { self.new ≡ without_number number self.old }
+    {
+        self.points.take(number);
+        self.addresses.take(number);
+        self.references.take(number);
+    }
+
+    /// The numbers with a polygon that has the point inside (RFC 5222, section 12.2), rising, or want of memory.
+    pub fn at_point(&self, point: &GeoPoint) -> Result<Vec<u64>, AllocError>
+        ensures { IfOk result (λ numbers. numbers.items ≡ holders inside point.now self.now.points) }
+    {
+        self.points.holding(point)
+    }
+
+    /// The numbers with a pattern that matches the address (RFC 5222, section 12.3), rising, or want of memory.
+    pub fn at_address(&self, address: &CivicAddress) -> Result<Vec<u64>, AllocError>
+        ensures { IfOk result (λ numbers. numbers.items ≡ holders matches address.now self.now.addresses) }
+    {
+        self.addresses.holding(address)
+    }
+
+    /// The numbers with a pattern that names all required elements (RFC 5222, section 8.4.2; own policy), rising, or
+    /// want of memory.
+    pub fn naming(&self, required: &RequiredElements) -> Result<Vec<u64>, AllocError>
+        ensures { IfOk result (λ numbers. numbers.items ≡ holders names_all required.now self.now.references) }
+    {
+        self.references.holding(required)
+    }
+}

@@ -1,0 +1,25 @@
+-- The notes of the others stay, and the mapping at the position is noted and in the indexes.
+use Rattle.std.proofs.Common.{◌<◌, length, sym, ap, subst}
+use Rattle.lost_routing.proofs.KeptLemmas.{at_has, at_changed, at_unchanged}
+use Rattle.lost_routing.proofs.held.Held.change.Goals as goal
+
+pub exchange-requires : goal.exchange-requires
+exchange-requires c =
+    at_has c.self.inside.numbers.items c.self.inside.mappings.items c.self.inside.tables c.self.inside.regions c.self.invariant
+    c.args.position c.index-number.result.now c.index.result.now
+    (subst (λ l. c.args.position < length l) (sym (ap (λ k. k.mappings) c.self.view_is)) c.requires) c.index-number.ensures c.index.ensures
+
+pub invariant_of-self : goal.invariant_of-self
+invariant_of-self c =
+    at_unchanged c.self.inside.numbers.items c.self.inside.mappings.items c.self.inside.tables c.self.inside.regions c.self.invariant
+    c.args.position c.index-number.result.now c.index.result.now
+    (subst (λ l. c.args.position < length l) (sym (ap (λ k. k.mappings) c.self.view_is)) c.requires) c.index-number.ensures c.index.ensures
+    c.exchange.new.tables c.exchange.new.regions c.in_err-exchange.ensures.still c.exchange.ensures.others c.in_err-exchange.ensures.refused
+
+pub invariant_of-self-2 : goal.invariant_of-self-2
+invariant_of-self-2 c =
+    at_changed c.self.inside.numbers.items c.self.inside.mappings.items c.self.inside.tables c.self.inside.regions c.self.invariant
+    c.args.position c.index-number.result.now c.index.result.now
+    (subst (λ l. c.args.position < length l) (sym (ap (λ k. k.mappings) c.self.view_is)) c.requires) c.index-number.ensures c.index.ensures
+    c.args.mapping c.exchange.new.tables c.exchange.new.regions c.in_ok-exchange.ensures.noted c.exchange.ensures.others
+    c.in_ok-exchange.ensures.changed

@@ -1,0 +1,63 @@
+//! How edits change the routing. Rules without a section are this profile's own.
+ghost use Rattle.std.specs.Prelude.{◌≡◌, ◌≢◌, None, Some, Err, IfErr, OnOk, OnErr};
+ghost use Rattle.lost_spec.specs.Book.{Publish, Replace, Withdraw, refusal, after};
+ghost use Rattle.lost_book.specs.Edit.{edit_of};
+ghost use Rattle.lost_routing.specs.Applied.{IsApplied};
+
+use crate::routing::Routing;
+use lost_book::{Edit, EditError, check_publish, check_replace, check_withdraw};
+use lost_mapping::{Identity, Mapping, Stamp};
+
+impl Routing {
+    /// Applies an edit: a publish appends, a replacement keeps the place, a withdrawal closes up, and the edition rises
+    /// by one. A withdrawal takes no memory.
+    ///
+    /// # Errors
+    ///
+    /// The refusal of [`Routing::check`], and after it [`EditError::Memory`] for want of memory. The book is then
+    /// unchanged.
+    pub fn apply(&mut self, edit: Edit) -> Result<(), EditError>
+        ensures accepted { OnOk result (refusal self.old (edit_of edit) ≡ None) }
+        ensures changed { OnOk result (self.new ≡ after self.old (edit_of edit)) }
+        ensures refused { IfErr result (λ e. e ≢ EditError.Memory → refusal self.old (edit_of edit) ≡ Some e) }
+        ensures memory_last { result ≡ Err EditError.Memory → refusal self.old (edit_of edit) ≡ None }
+        ensures unchanged { OnErr result (self.new ≡ self.old) }
+    {
+        match edit {
+            Edit::Publish(mapping) => self.publish(mapping),
+            Edit::Replace(mapping) => self.replace(mapping),
+            Edit::Withdraw(identity, stamp) => self.withdraw(&identity, &stamp),
+        }
+    }
+
+    fn publish(&mut self, mapping: Mapping) -> Result<(), EditError>
+        ensures { IsApplied self.old (Publish mapping) result self.new }
+    {
+        check_publish(self, &mapping)?;
+        if self.held.put(self.edits, mapping).is_err() {
+            return Err(EditError::Memory);
+        }
+        self.edits += 1;
+        Ok(())
+    }
+
+    fn replace(&mut self, mapping: Mapping) -> Result<(), EditError>
+        ensures { IsApplied self.old (Replace mapping) result self.new }
+    {
+        check_replace(self, &mapping)?;
+        if self.held.replace(mapping).is_err() {
+            return Err(EditError::Memory);
+        }
+        self.edits += 1;
+        Ok(())
+    }
+
+    fn withdraw(&mut self, identity: &Identity, stamp: &Stamp) -> Result<(), EditError>
+        ensures { IsApplied self.old (Withdraw identity.now stamp.now) result self.new }
+    {
+        check_withdraw(self, identity, stamp)?;
+        self.held.withdraw(identity);
+        self.edits += 1;
+        Ok(())
+    }
+}

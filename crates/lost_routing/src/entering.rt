@@ -1,0 +1,66 @@
+//! What an edit does to the tables and to the indexes.
+ghost use Rattle.std.specs.Prelude.{◌≡◌, OnOk, OnErr};
+ghost use Rattle.lost_tables.specs.Notes.{IsNoted, KeepsOthers};
+ghost use Rattle.lost_regions.specs.Regions.{IsAboveAll, AreHeld, HasAll, with_mapping, with_other, without_number};
+
+use lost_mapping::Mapping;
+use lost_regions::Regions;
+use lost_tables::Tables;
+use std::alloc::AllocError;
+
+/// Notes a mapping under a new number, and puts its regions there. Or want of memory, which changes no region and takes
+/// the notes back.
+pub(crate) fn enter(
+    tables: &mut Tables,
+    regions: &mut Regions,
+    mapping: &Mapping,
+    number: u64,
+) -> Result<(), AllocError>
+    requires { IsAboveAll number regions.old }
+    ensures noted { OnOk result (IsNoted tables.new mapping.now number) }
+    ensures others { KeepsOthers number tables.old tables.new }
+    ensures put { OnOk result (regions.new ≡ with_mapping number mapping.now regions.old) }
+    ensures refused { OnErr result (regions.new ≡ regions.old) }
+{
+    tables.note(mapping, number)?;
+    if regions.put(number, mapping).is_err() {
+        tables.take_back(mapping, number);
+        return Err(AllocError);
+    }
+    Ok(())
+}
+
+/// Notes a mapping in the place of another, under its number, and puts its regions there. Or want of memory, which
+/// changes no region and takes the new notes back.
+pub(crate) fn exchange(
+    tables: &mut Tables,
+    regions: &mut Regions,
+    old: &Mapping,
+    new: &Mapping,
+    number: u64,
+) -> Result<(), AllocError>
+    requires { HasAll number old.now.polygons old.now.patterns regions.old }
+    ensures noted { OnOk result (IsNoted tables.new new.now number) }
+    ensures others { KeepsOthers number tables.old tables.new }
+    ensures still { OnErr result (IsNoted tables.old old.now number → IsNoted tables.new old.now number) }
+    ensures changed { OnOk result (regions.new ≡ with_other number new.now regions.old) }
+    ensures refused { OnErr result (regions.new ≡ regions.old) }
+{
+    tables.note_change(old, new, number)?;
+    if regions.change(number, old, new).is_err() {
+        tables.take_change_back(new, old, number);
+        return Err(AllocError);
+    }
+    tables.take_change_back(old, new, number);
+    Ok(())
+}
+
+/// Takes the notes of a mapping back, and its regions out. It takes no memory.
+pub(crate) fn leave(tables: &mut Tables, regions: &mut Regions, mapping: &Mapping, number: u64)
+    requires { AreHeld number regions.old }
+    ensures others { KeepsOthers number tables.old tables.new }
+    ensures taken { regions.new ≡ without_number number regions.old }
+{
+    tables.take_back(mapping, number);
+    regions.take(number);
+}

@@ -1,0 +1,82 @@
+//! The routing as holdings.
+ghost use Rattle.std.specs.Prelude.{◌≡◌, IfOk};
+ghost use Rattle.std.specs.Option.{option_copied};
+ghost use Rattle.lost_spec.specs.Services.{all_services};
+
+use crate::routing::Routing;
+use lost_civic::{CivicAddress, Element};
+use lost_mapping::{Mapping, Moment};
+use lost_query::{Holdings, Place};
+use lost_urn::ServiceUrn;
+use std::alloc::AllocError;
+
+impl Holdings for Routing {
+    ghost book = { λ b. b };
+
+    fn edition(&self) -> u64 {
+        Routing::edition(self)
+    }
+
+    fn len(&self) -> usize {
+        Routing::len(self)
+    }
+
+    fn mapping(&self, position: usize) -> &Mapping {
+        Routing::mapping(self, position)
+    }
+
+    fn by_key(&self, moment: &Moment, key: &str) -> Option<usize> {
+        self.held.of_live_key(moment, key)
+    }
+
+    #[tactic(auto, unfolding(lost_spec::specs::Find::is_implemented))]
+    fn implemented(&self, moment: &Moment, service: &ServiceUrn) -> bool {
+        self.held.implemented(moment, service)
+    }
+
+    fn holding(&self, moment: &Moment, place: &Place) -> Result<Vec<usize>, AllocError> {
+        match place {
+            Place::Point(point) => self.held.holding_point(moment, point),
+            Place::Address(address) => self.held.holding_address(moment, address),
+        }
+    }
+
+    fn at(
+        &self,
+        moment: &Moment,
+        place: &Place,
+        service: &ServiceUrn,
+    ) -> Result<Vec<usize>, AllocError> {
+        match place {
+            Place::Point(point) => self.held.at_point(moment, point, service),
+            Place::Address(address) => self.held.at_address(moment, address, service),
+        }
+    }
+
+    fn defaults(&self, moment: &Moment, service: &ServiceUrn) -> Result<Vec<usize>, AllocError> {
+        self.held.defaults(moment, service)
+    }
+
+    fn of_service(&self, moment: &Moment, service: &ServiceUrn) -> Result<Vec<usize>, AllocError> {
+        self.held.of_service(moment, service)
+    }
+
+    fn referring(
+        &self,
+        moment: &Moment,
+        service: &ServiceUrn,
+        address: &CivicAddress,
+        elements: &[Element],
+    ) -> Result<Vec<usize>, AllocError> {
+        self.held.referring(moment, service, address, elements)
+    }
+
+    #[tactic(auto, unfolding(lost_spec::specs::Services::all_services))]
+    fn services_below(
+        &self,
+        moment: &Moment,
+        above: Option<&ServiceUrn>,
+    ) -> Result<Vec<ServiceUrn>, AllocError> {
+        self.held.services_below(moment, above)
+    }
+}

@@ -1,0 +1,203 @@
+//! What the mappings are asked. Lists are of positions, rising.
+ghost use Rattle.std.specs.Prelude.{◌≡◌, ◌&&◌, not, IfOk, find, position};
+ghost use Rattle.std.specs.List.{list_any};
+ghost use Rattle.std.specs.Option.{option_copied};
+ghost use Rattle.lost_spec.specs.Book.{has_identity, has_key};
+ghost use Rattle.lost_spec.specs.Positions.{positions};
+ghost use Rattle.lost_spec.specs.Find.{AtPoint, AtAddress, is_holder, is_standby, serves};
+ghost use Rattle.lost_spec.specs.Services.{is_holding, has_live_key};
+
+use crate::held::Held;
+use lost_book::{has_identity, has_key, holds_address, holds_point, serves};
+use lost_civic::CivicAddress;
+use lost_geo::GeoPoint;
+use lost_mapping::{Identity, Mapping, Moment};
+use lost_tables::picks;
+use lost_urn::ServiceUrn;
+use std::alloc::AllocError;
+
+impl Held {
+    /// Where the mapping with this identity stands.
+    #[tactic(auto, using(crate::proofs::CoverLemmas::covers_identity))]
+    pub(crate) fn of_identity(&self, identity: &Identity) -> Option<usize>
+        ensures { result ≡ position (λ m. has_identity m identity.now) self.now.mappings }
+    {
+        let candidates = self.tables.of_identity(identity);
+        picks::first(&self.numbers, &self.mappings, candidates, |mapping| {
+            has_identity(mapping, identity)
+        })
+    }
+
+    /// Whether a mapping with this identity is held.
+    #[tactic(auto, using(crate::proofs::CoverLemmas::covers_identity))]
+    pub(crate) fn is_held(&self, identity: &Identity) -> bool
+        ensures { result ≡ list_any (λ m. has_identity m identity.now) self.now.mappings }
+    {
+        let candidates = self.tables.of_identity(identity);
+        picks::any(&self.numbers, &self.mappings, candidates, |mapping| {
+            has_identity(mapping, identity)
+        })
+    }
+
+    /// The mapping with this identity.
+    pub(crate) fn with_identity(&self, identity: &Identity) -> Option<&Mapping>
+        ensures { option_copied result ≡ find (λ m. has_identity m identity.now) self.now.mappings }
+    {
+        match self.of_identity(identity) {
+            Some(position) => self.mappings.get(position),
+            None => None,
+        }
+    }
+
+    /// Whether a mapping of another identity has this key.
+    #[tactic(auto, using(crate::proofs::CoverLemmas::covers_other_key))]
+    pub(crate) fn is_key_of_another(&self, identity: &Identity, key: &str) -> bool
+        ensures { result ≡ list_any (λ m. not (has_identity m identity.now) && has_key m key.now) self.now.mappings }
+    {
+        let candidates = self.tables.of_key(key);
+        picks::any(&self.numbers, &self.mappings, candidates, |mapping| {
+            !has_identity(mapping, identity) && has_key(mapping, key)
+        })
+    }
+
+    /// Where the first mapping stands that is live at an instant and has this key.
+    #[tactic(auto, using(crate::proofs::CoverLemmas::covers_live_key))]
+    pub(crate) fn of_live_key(&self, moment: &Moment, key: &str) -> Option<usize>
+        ensures { result ≡ position (has_live_key moment.now key.now) self.now.mappings }
+    {
+        let candidates = self.tables.of_key(key);
+        picks::first(&self.numbers, &self.mappings, candidates, |mapping| {
+            mapping.is_live(moment) && has_key(mapping, key)
+        })
+    }
+
+    /// The defaults that are live and have this service, or want of memory.
+    #[tactic(auto, using(crate::proofs::CoverLemmas::covers_default))]
+    pub(crate) fn defaults(
+        &self,
+        moment: &Moment,
+        service: &ServiceUrn,
+    ) -> Result<Vec<usize>, AllocError>
+        ensures { IfOk result (λ places.
+            places.items ≡ positions (is_standby moment.now service.now) self.now.mappings) }
+    {
+        let candidates = self.tables.of_default(service.text());
+        picks::select(
+            self.alloc,
+            &self.numbers,
+            &self.mappings,
+            candidates,
+            |mapping| serves(mapping, moment, service) && mapping.is_default(),
+        )
+    }
+
+    /// The mappings that are live and have this service, or want of memory.
+    #[tactic(auto, using(crate::proofs::CoverLemmas::covers_service))]
+    pub(crate) fn of_service(
+        &self,
+        moment: &Moment,
+        service: &ServiceUrn,
+    ) -> Result<Vec<usize>, AllocError>
+        ensures { IfOk result (λ places.
+            places.items ≡ positions (λ m. serves m moment.now service.now) self.now.mappings) }
+    {
+        let candidates = self.tables.of_service(service.text());
+        picks::select(
+            self.alloc,
+            &self.numbers,
+            &self.mappings,
+            candidates,
+            |mapping| serves(mapping, moment, service),
+        )
+    }
+
+    /// The mappings that are live, are no defaults and hold the point, or want of memory.
+    #[tactic(auto, using(crate::proofs::CoverLemmas::covers_point))]
+    pub(crate) fn holding_point(
+        &self,
+        moment: &Moment,
+        point: &GeoPoint,
+    ) -> Result<Vec<usize>, AllocError>
+        ensures { IfOk result (λ places.
+            places.items ≡ positions (is_holding moment.now (AtPoint point.now)) self.now.mappings) }
+    {
+        let candidates = self.regions.at_point(point)?;
+        picks::select(
+            self.alloc,
+            &self.numbers,
+            &self.mappings,
+            candidates.as_slice(),
+            |mapping| mapping.is_live(moment)
+                && !mapping.is_default()
+                && holds_point(mapping, point),
+        )
+    }
+
+    /// The mappings that are live, are no defaults and hold the address, or want of memory.
+    #[tactic(auto, using(crate::proofs::CoverLemmas::covers_address))]
+    pub(crate) fn holding_address(
+        &self,
+        moment: &Moment,
+        address: &CivicAddress,
+    ) -> Result<Vec<usize>, AllocError>
+        ensures { IfOk result (λ places.
+            places.items ≡ positions (is_holding moment.now (AtAddress address.now)) self.now.mappings) }
+    {
+        let candidates = self.regions.at_address(address)?;
+        picks::select(
+            self.alloc,
+            &self.numbers,
+            &self.mappings,
+            candidates.as_slice(),
+            |mapping| mapping.is_live(moment)
+                && !mapping.is_default()
+                && holds_address(mapping, address),
+        )
+    }
+
+    /// The mappings that are live, are no defaults, have this service and hold the point, or want of memory.
+    #[tactic(auto, using(crate::proofs::CoverLemmas::covers_point_service))]
+    pub(crate) fn at_point(
+        &self,
+        moment: &Moment,
+        point: &GeoPoint,
+        service: &ServiceUrn,
+    ) -> Result<Vec<usize>, AllocError>
+        ensures { IfOk result (λ places.
+            places.items ≡ positions (is_holder moment.now (AtPoint point.now) service.now) self.now.mappings) }
+    {
+        let candidates = self.regions.at_point(point)?;
+        picks::select(
+            self.alloc,
+            &self.numbers,
+            &self.mappings,
+            candidates.as_slice(),
+            |mapping| serves(mapping, moment, service)
+                && !mapping.is_default()
+                && holds_point(mapping, point),
+        )
+    }
+
+    /// The mappings that are live, are no defaults, have this service and hold the address, or want of memory.
+    #[tactic(auto, using(crate::proofs::CoverLemmas::covers_address_service))]
+    pub(crate) fn at_address(
+        &self,
+        moment: &Moment,
+        address: &CivicAddress,
+        service: &ServiceUrn,
+    ) -> Result<Vec<usize>, AllocError>
+        ensures { IfOk result (λ places.
+            places.items ≡ positions (is_holder moment.now (AtAddress address.now) service.now) self.now.mappings) }
+    {
+        let candidates = self.regions.at_address(address)?;
+        picks::select(
+            self.alloc,
+            &self.numbers,
+            &self.mappings,
+            candidates.as_slice(),
+            |mapping| serves(mapping, moment, service)
+                && !mapping.is_default()
+                && holds_address(mapping, address),
+        )
+    }
+}

@@ -1,0 +1,77 @@
+//! The indexed book.
+ghost use Rattle.std.specs.Prelude.{◌≡◌, ◌<◌, Some, IfOk, length, slice_get};
+ghost use Rattle.lost_spec.specs.Book.{empty_book};
+
+use crate::held::Held;
+use lost_book::Limits;
+use lost_mapping::Mapping;
+use std::alloc::{AllocError, Global};
+use std::marker::Model;
+
+/// A book with tables and indexes, by which it finds the mappings that a question is about. Contracts see it as the
+/// record `Book`. A mapping is held under a number, which is the edition before its publish; a replacement keeps it.
+#[derive(Drop)]
+pub struct Routing {
+    pub(crate) limits: Limits,
+    pub(crate) edits: u64,
+    pub(crate) held: Held,
+}
+
+impl Model for Routing {
+    ghost use Rattle.lost_spec.specs.Book as spec;
+    ghost use Rattle.lost_routing.specs.Held.{IsRouted};
+
+    ghost Value = { spec.Book };
+
+    ghost view = { λ r. record { limits = r.limits; mappings = r.held.mappings; edits = r.edits } };
+
+    ghost invariant = { λ r. IsRouted (record { limits = r.limits; mappings = r.held.mappings; edits = r.edits }) r.held.numbers };
+}
+
+impl Routing {
+    /// An empty book within these limits.
+    pub fn new(alloc: Global, limits: Limits) -> Result<Routing, AllocError>
+        ensures { IfOk result (λ book. book ≡ empty_book limits) }
+    {
+        // Shows to the proof that the limit of edits has 32 bits.
+        let _edits = limits.edits();
+        Ok(Routing {
+            limits,
+            edits: 0,
+            held: Held::new(alloc),
+        })
+    }
+
+    /// How many edits were accepted.
+    pub fn edition(&self) -> u64
+        ensures { result ≡ self.now.edits }
+    {
+        self.edits
+    }
+
+    /// How many mappings are held.
+    pub fn len(&self) -> usize
+        ensures { result ≡ length self.now.mappings }
+    {
+        self.held.mappings().len()
+    }
+
+    /// The mapping at a position, which is below `len`.
+    pub fn mapping(&self, position: usize) -> &Mapping
+        requires { position < length self.now.mappings }
+        ensures { slice_get self.now.mappings position ≡ Some result.now }
+    {
+        &self.held.mappings()[position]
+    }
+
+    /// An equal book, or want of memory. It costs a pointer for each mapping, and the indexes anew.
+    pub fn clone(&self) -> Result<Routing, AllocError>
+        ensures { IfOk result (λ copy. copy ≡ self.now) }
+    {
+        Ok(Routing {
+            limits: self.limits,
+            edits: self.edits,
+            held: self.held.clone()?,
+        })
+    }
+}

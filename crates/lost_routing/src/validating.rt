@@ -1,0 +1,111 @@
+//! The mappings that a validation looks at, and the services that are held.
+ghost use Rattle.std.specs.Prelude.{◌≡◌, IfOk, filter, filter_map};
+ghost use Rattle.std.specs.List.{list_any};
+ghost use Rattle.std.specs.Option.{option_copied};
+ghost use Rattle.lost_spec.specs.Positions.{positions};
+ghost use Rattle.lost_spec.specs.Mapping.{is_live};
+ghost use Rattle.lost_spec.specs.Services.{children_in};
+ghost use Rattle.lost_civicdex.specs.Keys.{key_of};
+ghost use Rattle.lost_query.specs.Judged.{is_referring};
+
+use crate::held::Held;
+use lost_book::serves;
+use lost_civic::{CivicAddress, Element};
+use lost_civicdex::RequiredElements;
+use lost_mapping::Moment;
+use lost_query::{Children, refers};
+use lost_tables::picks;
+use lost_urn::ServiceUrn;
+use std::alloc::AllocError;
+
+impl Held {
+    /// The live mappings of this service with some pattern that names each of these elements with the address's
+    /// comparison text, or want of memory. Without elements the mappings of the service are tested; where an element
+    /// does not stand in the address there are none.
+    #[tactic(auto, using(crate::proofs::NamedLemmas::nowhere_where_missing, crate::proofs::NamedLemmas::nowhere_where_none))]
+    pub(crate) fn referring(
+        &self,
+        moment: &Moment,
+        service: &ServiceUrn,
+        address: &CivicAddress,
+        elements: &[Element],
+    ) -> Result<Vec<usize>, AllocError>
+        ensures { IfOk result (λ places.
+            places.items ≡ positions (is_referring moment.now service.now address.now elements.now) self.now.mappings) }
+    {
+        if elements.is_empty() {
+            return self.referring_of_service(moment, service, address, elements);
+        }
+        let Some(required) = RequiredElements::of_address(self.alloc, address, elements)? else {
+            return Ok(Vec::new(self.alloc));
+        };
+        if required.keys().len() < elements.len() {
+            return Ok(Vec::new(self.alloc));
+        }
+        self.referring_named(moment, service, address, elements, &required)
+    }
+
+    /// The same, where the elements stand in the address with these texts: the index of references is asked.
+    fn referring_named(
+        &self,
+        moment: &Moment,
+        service: &ServiceUrn,
+        address: &CivicAddress,
+        elements: &[Element],
+        required: &RequiredElements,
+    ) -> Result<Vec<usize>, AllocError>
+        requires { required.now ≡ filter_map (key_of address.now) elements.now }
+        ensures { IfOk result (λ places.
+            places.items ≡ positions (is_referring moment.now service.now address.now elements.now) self.now.mappings) }
+    {
+        let candidates = self.regions.naming(required)?;
+        picks::select(
+            self.alloc,
+            &self.numbers,
+            &self.mappings,
+            candidates.as_slice(),
+            |mapping| serves(mapping, moment, service) && refers(mapping, address, elements),
+        )
+    }
+
+    /// The same, of the mappings of the service one after another.
+    fn referring_of_service(
+        &self,
+        moment: &Moment,
+        service: &ServiceUrn,
+        address: &CivicAddress,
+        elements: &[Element],
+    ) -> Result<Vec<usize>, AllocError>
+        ensures { IfOk result (λ places.
+            places.items ≡ positions (is_referring moment.now service.now address.now elements.now) self.now.mappings) }
+    {
+        let candidates = self.tables.of_service(service.text());
+        picks::select(
+            self.alloc,
+            &self.numbers,
+            &self.mappings,
+            candidates,
+            |mapping| serves(mapping, moment, service) && refers(mapping, address, elements),
+        )
+    }
+
+    /// The services just below one, or the topmost, of the live mappings, or want of memory.
+    pub(crate) fn services_below(
+        &self,
+        moment: &Moment,
+        above: Option<&ServiceUrn>,
+    ) -> Result<Vec<ServiceUrn>, AllocError>
+        ensures { IfOk result (λ found.
+            found.items ≡ children_in (option_copied above.entry) (filter (λ m. is_live m moment.now) self.now.mappings)) }
+    {
+        let mut children = Children::new(self.alloc, above);
+        for position in (0..self.mappings.len()).rev() {
+            let mapping = &self.mappings[position];
+            if !mapping.is_live(moment) {
+                continue;
+            }
+            children.add(mapping.service())?;
+        }
+        children.into_list(self.alloc)
+    }
+}

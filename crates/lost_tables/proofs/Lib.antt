@@ -1,0 +1,4 @@
+pub mod NoteLemmas
+pub mod TableLemmas
+pub mod PickLemmas
+pub mod WalkLemmas

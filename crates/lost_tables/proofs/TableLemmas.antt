@@ -1,0 +1,64 @@
+-- What four maps of lists keep is what the tables keep.
+use Rattle.std.proofs.Common.{◌≡◌, ℕ, Bool, true, false, Option, None, Some, List, subst}
+use Rattle.std.specs.Prelude.{if◌then◌else◌, IfSome}
+use Rattle.std.proofs.lemmas.Bool.{false≢true}
+use Rattle.lost_spec.specs.Text.{Text}
+use Rattle.lost_spec.specs.Service.{service_text}
+use Rattle.lost_spec.specs.Mapping.{Mapping}
+use Rattle.lost_spec.specs.Book.{Identity, identity_of}
+use Rattle.lost_tables.specs.declared.tables.Tables.{Tables}
+use Rattle.lost_tables.specs.Lists.{Stands, KeepsOtherNumbers, KeepsUnder, under_text, under_identity}
+use Rattle.lost_tables.specs.Notes.{ByIdentity, ByKey, ByService, ByDefault, Keeps, KeepsOthers, IsNoted, default_text}
+
+-- what stands where a test passes
+there_if : {X : Type 0} (b : Bool) (x : X) (P : X → Type 0) → IfSome (if b then Some x else None) P → b ≡ true → P x
+there_if true x P h passes = h
+there_if false x P h passes = absurd (false≢true passes)
+
+kept_if : {X : Type 0} (o : Option X) (f g : X → List ℕ) (n : ℕ) → IfSome o (λ x. KeepsUnder x f g)
+    → IfSome o (λ x. Stands n (f x)) → IfSome o (λ x. Stands n (g x))
+kept_if None f g n keeps h = h
+kept_if (Some x) f g n keeps h = keeps n h
+
+kept_all : {X : Type 0} (o : Option X) (f g : X → List ℕ) (n : ℕ) → ((x : X) → Stands n (f x) → Stands n (g x))
+    → IfSome o (λ x. Stands n (f x)) → IfSome o (λ x. Stands n (g x))
+kept_all None f g n keeps h = h
+kept_all (Some x) f g n keeps h = keeps x h
+
+module _ (old new : Tables) where
+  pub keeps_others : (gone : ℕ) → KeepsOtherNumbers gone (under_identity old.identities) (under_identity new.identities)
+      → KeepsOtherNumbers gone (under_text old.keys) (under_text new.keys)
+      → KeepsOtherNumbers gone (under_text old.services) (under_text new.services)
+      → KeepsOtherNumbers gone (under_text old.defaults) (under_text new.defaults) → KeepsOthers gone old new
+  keeps_others gone identities keys services defaults (ByIdentity identity) number other h = identities identity number other h
+  keeps_others gone identities keys services defaults (ByKey key) number other h = keys key number other h
+  keeps_others gone identities keys services defaults (ByService service) number other h = services (service_text service) number other h
+  keeps_others gone identities keys services defaults (ByDefault service) number other h = defaults (service_text service) number other h
+
+  -- what is noted of a mapping stays where nothing is taken away from what it is known by
+  pub still_noted : (m : Mapping) (number : ℕ) (identity : Identity) (key : Option Text) (service : Text) (standing : Option Text)
+      → identity ≡ identity_of m → key ≡ m.key → service ≡ service_text m.service → standing ≡ default_text m
+      → KeepsUnder identity (under_identity old.identities) (under_identity new.identities)
+      → IfSome key (λ key. KeepsUnder key (under_text old.keys) (under_text new.keys))
+      → KeepsUnder service (under_text old.services) (under_text new.services)
+      → IfSome standing (λ text. KeepsUnder text (under_text old.defaults) (under_text new.defaults))
+      → IsNoted old m number → IsNoted new m number
+  still_noted m number identity key service standing is_identity is_key is_service is_standing identities keys services defaults noted = record {
+    by_identity = subst (λ i. KeepsUnder i (under_identity old.identities) (under_identity new.identities)) is_identity identities number noted.by_identity;
+    by_key = kept_if m.key (under_text old.keys) (under_text new.keys) number
+        (subst (λ o. IfSome o (λ key. KeepsUnder key (under_text old.keys) (under_text new.keys))) is_key keys) noted.by_key;
+    by_service = subst (λ text. KeepsUnder text (under_text old.services) (under_text new.services)) is_service services number noted.by_service;
+    by_default = λ is_default. there_if m.is_default (service_text m.service)
+        (λ text. KeepsUnder text (under_text old.defaults) (under_text new.defaults))
+        (subst (λ o. IfSome o (λ text. KeepsUnder text (under_text old.defaults) (under_text new.defaults))) is_standing defaults)
+        is_default number (noted.by_default is_default);
+  }
+
+  -- and where all stays
+  pub noted_kept : Keeps old new → (m : Mapping) (number : ℕ) → IsNoted old m number → IsNoted new m number
+  noted_kept keeps m number noted = record {
+    by_identity = keeps (ByIdentity (identity_of m)) number noted.by_identity;
+    by_key = kept_all m.key (under_text old.keys) (under_text new.keys) number (λ key. keeps (ByKey key) number) noted.by_key;
+    by_service = keeps (ByService m.service) number noted.by_service;
+    by_default = λ is_default. keeps (ByDefault m.service) number (noted.by_default is_default);
+  }

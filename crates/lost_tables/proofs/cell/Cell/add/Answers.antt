@@ -1,0 +1,14 @@
+-- Where the search hits, the number stands there already.
+use Rattle.std.proofs.Common.{nat_eq}
+use Rattle.lost_tables.proofs.NoteLemmas.{stands-insert, stands_at}
+use Rattle.lost_tables.proofs.cell.Cell.add.Goals as goal
+
+pub returns-in_ok-insert-clause-keeps : goal.returns-in_ok-insert-clause-keeps
+returns-in_ok-insert-clause-keeps c = λ other stands.
+    rw c.in_ok-insert.ensures.items
+    (stands-insert (nat_eq other) c.self.inside.numbers.items c.in-Err.place c.args.number (rw c.self.view_is stands))
+
+pub returns-in_default-clause-added : goal.returns-in_default-clause-added
+returns-in_default-clause-added c =
+    rw (← c.self.view_is, ← c.deref.ensures.value)
+    (stands_at c.args.number c.deref.result.now c.in_default.field-0 c.in_default.ensures.bound c.in_default.ensures.ok)

@@ -1,0 +1,19 @@
+-- The least place that a candidate gives is the first that passes.
+use Rattle.std.proofs.Common.{◌≤◌, length, subst, arith}
+use Rattle.lost_tables.specs.Picks.{passing}
+use Rattle.lost_tables.proofs.PickLemmas.{IsLeast, least_more, all_given, least_is_first}
+use Rattle.lost_tables.proofs.picks.first.Goals as goal
+
+pub loop-candidate-preserved : goal.loop-candidate-preserved
+loop-candidate-preserved g c = λ test is.
+    least_more (passing test c.args.numbers.now c.args.things.now) c.args.candidates.now c.loop-candidate.candidate-index
+    c.loop-candidate.least c.passing_place.result c.lesser-least.result c.loop-candidate-test.true (c.passing_place.ensures test is)
+    c.lesser-least.ensures (c.loop-candidate.invariant test is)
+
+pub returns : goal.returns
+returns g c = λ test is covers.
+    let past : length c.args.candidates.now ≤ c.loop-candidate.candidate-index = omega arith in
+    least_is_first test c.args.numbers.now c.args.things.now c.requires.rising c.requires.paired c.args.candidates.now covers c.loop-candidate.least
+    (subst (IsLeast c.loop-candidate.least)
+    (all_given (passing test c.args.numbers.now c.args.things.now) c.args.candidates.now c.loop-candidate.candidate-index past)
+    (c.loop-candidate.invariant test is))

@@ -1,0 +1,40 @@
+-- Lists of numbers, by the things that they are listed under (own).
+use Rattle.std.specs.Prelude.{◌≡◌, ℕ, true, false, ◌&&◌, Bool, List, [], unwrap_or, nat_eq, String}
+use Rattle.std.specs.HashMap.{HashMap, get, get_by_text}
+use Rattle.std.specs.List.{list_any}
+use Rattle.lost_spec.specs.Text.{Text, same_text}
+use Rattle.lost_spec.specs.Book.{Identity}
+
+-- the number stands in the list
+abbrev pub Stands : ℕ → List ℕ → Type 0
+Stands number numbers = list_any (nat_eq number) numbers ≡ true
+
+module _ {Thing : Type 0} where
+  -- all that was listed is
+  abbrev pub KeepsLists : (Thing → List ℕ) → (Thing → List ℕ) → Type 0
+  KeepsLists old new = (thing : Thing) (number : ℕ) → Stands number (old thing) → Stands number (new thing)
+
+  -- all that was listed of other numbers is
+  abbrev pub KeepsOtherNumbers : ℕ → (Thing → List ℕ) → (Thing → List ℕ) → Type 0
+  KeepsOtherNumbers gone old new =
+      (thing : Thing) (number : ℕ) → nat_eq gone number ≡ false → Stands number (old thing) → Stands number (new thing)
+
+  -- all that was listed under a thing is
+  abbrev pub KeepsUnder : Thing → (Thing → List ℕ) → (Thing → List ℕ) → Type 0
+  KeepsUnder thing old new = (number : ℕ) → Stands number (old thing) → Stands number (new thing)
+
+-- the numbers under a text; none where there is no list
+abbrev pub under_text : {A S : Type 0} → HashMap (String A) (List ℕ) S → Text → List ℕ
+under_text lists text = unwrap_or (get_by_text lists text) []
+
+-- the same source and sourceId, byte for byte (RFC 5222, section 5.1)
+abbrev pub same_identity : Identity → Identity → Bool
+same_identity a b = same_text a.source b.source && same_text a.source_id b.source_id
+
+-- the numbers under a key of an equality; none where there is no list
+abbrev pub under : {K S : Type 0} → (K → K → Bool) → HashMap K (List ℕ) S → K → List ℕ
+under eq lists key = unwrap_or (get eq lists key) []
+
+-- the numbers under an identity; none where there is no list
+abbrev pub under_identity : {S : Type 0} → HashMap Identity (List ℕ) S → Identity → List ℕ
+under_identity lists identity = under same_identity lists identity

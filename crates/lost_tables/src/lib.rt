@@ -1,0 +1,14 @@
+//! Tables of what mappings are known by, and the picking of mappings by their numbers. A number is the one under which
+//! an indexed book holds a mapping. Rules without a section are this profile's own.
+#![tactic(auto)]
+
+mod cell;
+mod identities;
+mod known;
+pub mod laws;
+mod lists;
+pub mod picks;
+mod tables;
+mod texts;
+
+pub use tables::Tables;

@@ -1,0 +1,166 @@
+//! The numbers of mappings by identity, by key, by service, and by service of defaults.
+
+use crate::cell::Cell;
+use crate::known::default_text;
+use crate::{identities, lists, texts};
+use indexmap::IndexMap;
+use lost_mapping::{Identity, Mapping};
+use std::alloc::{AllocError, Global};
+
+/// For each thing that mappings are known by, a list of the numbers of those mappings. Contracts see it by
+/// `numbers_of`. A number may be listed where its mapping is no longer known by that: a reader tests what it finds.
+#[derive(Drop)]
+pub struct Tables {
+    alloc: Global,
+    identities: IndexMap<Identity, Cell>,
+    keys: IndexMap<String, Cell>,
+    services: IndexMap<String, Cell>,
+    defaults: IndexMap<String, Cell>,
+}
+
+impl Tables {
+    ghost use Rattle.std.specs.Prelude.{◌≡◌, ◌<◌, Some, [], length, slice_get, OnOk};
+    ghost use Rattle.lost_spec.specs.Service.{Service, service_text};
+    ghost use Rattle.lost_tables.specs.Notes.{Note, ByIdentity, ByKey, ByService, ByDefault, numbers_of, service_lists, Keeps, KeepsOthers, IsNoted};
+
+    /// Tables with no number. It takes no memory.
+    pub fn new(alloc: Global) -> Tables
+        ensures { (note : Note) → numbers_of result note ≡ [] }
+    {
+        Tables {
+            alloc,
+            identities: IndexMap::new(alloc),
+            keys: IndexMap::new(alloc),
+            services: IndexMap::new(alloc),
+            defaults: IndexMap::new(alloc),
+        }
+    }
+
+    /// The numbers that are listed under an identity. It takes no memory.
+    pub fn of_identity(&self, identity: &Identity) -> &[u64]
+        ensures { result.now ≡ numbers_of self.now (ByIdentity identity.now) }
+    {
+        lists::numbers_under(&self.identities, identity)
+    }
+
+    /// The numbers that are listed under a key. It takes no memory.
+    pub fn of_key(&self, key: &str) -> &[u64]
+        ensures { result.now ≡ numbers_of self.now (ByKey key.now) }
+    {
+        texts::numbers_under(&self.keys, key)
+    }
+
+    /// The numbers that are listed under the service of a text. It takes no memory.
+    pub fn of_service(&self, text: &str) -> &[u64]
+        ensures { (service : Service) → text.now ≡ service_text service
+            → result.now ≡ numbers_of self.now (ByService service) }
+    {
+        texts::numbers_under(&self.services, text)
+    }
+
+    /// The numbers that are listed under the service of a text as defaults. It takes no memory.
+    pub fn of_default(&self, text: &str) -> &[u64]
+        ensures { (service : Service) → text.now ≡ service_text service
+            → result.now ≡ numbers_of self.now (ByDefault service) }
+    {
+        texts::numbers_under(&self.defaults, text)
+    }
+
+    /// How many lists of services there are.
+    pub fn service_count(&self) -> usize
+        ensures { result ≡ length (service_lists self.now) }
+    {
+        self.services.len()
+    }
+
+    /// The numbers of one of the lists of services. It takes no memory.
+    pub fn service_numbers(&self, position: usize) -> &[u64]
+        requires { position < length (service_lists self.now) }
+        ensures { slice_get (service_lists self.now) position ≡ Some result.now }
+    {
+        match self.services.get_index(position) {
+            Some((_, cell)) => cell.numbers(),
+            None => unreachable!(),
+        }
+    }
+
+    /// Lists a number under each note of a mapping, or want of memory; it is then listed under none of them.
+    pub fn note(&mut self, mapping: &Mapping, number: u64) -> Result<(), AllocError>
+        ensures noted { OnOk result (IsNoted self.new mapping.now number) }
+        ensures keeps { OnOk result (Keeps self.old self.new) }
+        ensures others { KeepsOthers number self.old self.new }
+    {
+        if self.list(mapping, number).is_err() {
+            self.take_back(mapping, number);
+            return Err(AllocError);
+        }
+        Ok(())
+    }
+
+    /// Takes a number away from each note of a mapping. It takes no memory.
+    pub fn take_back(&mut self, mapping: &Mapping, number: u64)
+        ensures others { KeepsOthers number self.old self.new }
+    {
+        let service = mapping.service().text();
+        lists::unlist(&mut self.identities, mapping.identity(), None, number);
+        texts::unlist(&mut self.keys, mapping.key(), None, number);
+        texts::unlist(&mut self.services, Some(service), None, number);
+        texts::unlist(&mut self.defaults, default_text(mapping), None, number);
+    }
+
+    /// Lists the number of a mapping under each note of the one that is to replace it, or want of memory; it is then
+    /// listed under none of those that the old mapping does not have.
+    pub fn note_change(
+        &mut self,
+        old: &Mapping,
+        new: &Mapping,
+        number: u64,
+    ) -> Result<(), AllocError>
+        ensures noted { OnOk result (IsNoted self.new new.now number) }
+        ensures keeps { OnOk result (Keeps self.old self.new) }
+        ensures others { KeepsOthers number self.old self.new }
+        ensures still { IsNoted self.old old.now number → IsNoted self.new old.now number }
+    {
+        if self.list(new, number).is_err() {
+            self.take_change_back(new, old, number);
+            return Err(AllocError);
+        }
+        Ok(())
+    }
+
+    /// Takes a number away from those notes of a mapping that another mapping does not have. It takes no memory.
+    pub fn take_change_back(&mut self, gone: &Mapping, still: &Mapping, number: u64)
+        ensures others { KeepsOthers number self.old self.new }
+        ensures still { IsNoted self.old still.now number → IsNoted self.new still.now number }
+    {
+        let (service, kept) = (gone.service().text(), still.service().text());
+        let (identity, same) = (gone.identity(), still.identity());
+        lists::unlist(&mut self.identities, identity, Some(same), number);
+        texts::unlist(&mut self.keys, gone.key(), still.key(), number);
+        texts::unlist(&mut self.services, Some(service), Some(kept), number);
+        texts::unlist(
+            &mut self.defaults,
+            default_text(gone),
+            default_text(still),
+            number,
+        );
+    }
+
+    /// Lists a number under each note of a mapping, or want of memory. What was listed stays.
+    fn list(&mut self, mapping: &Mapping, number: u64) -> Result<(), AllocError>
+        ensures noted { OnOk result (IsNoted self.new mapping.now number) }
+        ensures keeps { Keeps self.old self.new }
+    {
+        let service = mapping.service().text();
+        identities::list(&mut self.identities, self.alloc, mapping.identity(), number)?;
+        texts::list(&mut self.keys, self.alloc, mapping.key(), number)?;
+        texts::list(&mut self.services, self.alloc, Some(service), number)?;
+        texts::list(
+            &mut self.defaults,
+            self.alloc,
+            default_text(mapping),
+            number,
+        )?;
+        Ok(())
+    }
+}

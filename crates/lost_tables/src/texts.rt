@@ -1,0 +1,108 @@
+//! Lists of numbers under texts.
+ghost use Rattle.std.specs.Prelude.{◌≡◌, false, IfSome, IsTrue, OnOk, []};
+ghost use Rattle.std.specs.Option.{option_copied};
+ghost use Rattle.lost_spec.specs.Text.{same_text, Text};
+ghost use Rattle.lost_spec.specs.Book.{is_key};
+ghost use Rattle.lost_tables.specs.Lists.{Stands, KeepsLists, KeepsOtherNumbers, KeepsUnder, under_text};
+
+use crate::cell::Cell;
+use indexmap::IndexMap;
+use std::alloc::{AllocError, Global};
+
+/// The numbers under a text.
+#[tactic(auto, using(std::proofs::lemmas::Map::Text::text_keys))]
+pub(crate) fn numbers_under<'a>(lists: &'a IndexMap<String, Cell>, text: &str) -> &'a [u64]
+    ensures { result.now ≡ under_text lists.now text.now }
+{
+    match lists.get(text) {
+        Some(cell) => cell.numbers(),
+        None => &[],
+    }
+}
+
+/// Lists a number under a text, where there is one, or want of memory. What was listed stays.
+pub(crate) fn list(
+    lists: &mut IndexMap<String, Cell>,
+    alloc: Global,
+    text: Option<&str>,
+    number: u64,
+) -> Result<(), AllocError>
+    ensures listed { OnOk result (IfSome (option_copied text.entry) (λ text. Stands number (under_text lists.new text))) }
+    ensures keeps { KeepsLists (under_text lists.old) (under_text lists.new) }
+{
+    match text {
+        Some(text) => list_under(lists, alloc, text, number),
+        None => Ok(()),
+    }
+}
+
+/// Lists a number under a text, or want of memory. What was listed stays.
+#[tactic(auto, using(std::proofs::lemmas::Map::Text::text_keys))]
+fn list_under(
+    lists: &mut IndexMap<String, Cell>,
+    alloc: Global,
+    text: &str,
+    number: u64,
+) -> Result<(), AllocError>
+    ensures listed { OnOk result (Stands number (under_text lists.new text.now)) }
+    ensures keeps { KeepsLists (under_text lists.old) (under_text lists.new) }
+{
+    if let Some(cell) = lists.get_mut(text) {
+        return cell.add(number);
+    }
+    lists.insert(String::from_str(alloc, text)?, Cell::of(alloc, number)?)?;
+    Ok(())
+}
+
+/// Takes a number away from a text, where there is one, unless the text is that of `still`.
+pub(crate) fn unlist(
+    lists: &mut IndexMap<String, Cell>,
+    gone: Option<&str>,
+    still: Option<&str>,
+    number: u64,
+)
+    ensures others { KeepsOtherNumbers number (under_text lists.old) (under_text lists.new) }
+    ensures still { IfSome (option_copied still.entry) (λ text. KeepsUnder text (under_text lists.old) (under_text lists.new)) }
+{
+    let Some(text) = gone else {
+        return;
+    };
+    if !is_text(still, text) {
+        unlist_under(lists, text, number);
+    }
+}
+
+/// Whether there is a text, and it is this one.
+fn is_text(own: Option<&str>, text: &str) -> bool
+    ensures { result ≡ is_key (option_copied own.entry) text.now }
+{
+    match own {
+        Some(own) => own == text,
+        None => false,
+    }
+}
+
+/// Takes a number away from a text, and the list with it where no other number is in it.
+#[tactic(auto, using(std::proofs::lemmas::Map::Text::text_keys))]
+fn unlist_under(lists: &mut IndexMap<String, Cell>, text: &str, number: u64)
+    ensures others { KeepsOtherNumbers number (under_text lists.old) (under_text lists.new) }
+    ensures elsewhere { (other : Text) → same_text other text.now ≡ false → KeepsUnder other (under_text lists.old) (under_text lists.new) }
+{
+    if remove_from_list(lists, text, number) {
+        lists.swap_remove(text);
+    }
+}
+
+/// Takes a number out of the list under a text, and says whether the list is then empty.
+#[tactic(auto, using(std::proofs::lemmas::Map::Text::text_keys))]
+fn remove_from_list(lists: &mut IndexMap<String, Cell>, text: &str, number: u64) -> bool
+    ensures others { KeepsOtherNumbers number (under_text lists.old) (under_text lists.new) }
+    ensures elsewhere { (other : Text) → same_text other text.now ≡ false → KeepsUnder other (under_text lists.old) (under_text lists.new) }
+    ensures empty { IsTrue result → under_text lists.new text.now ≡ [] }
+{
+    let Some(cell) = lists.get_mut(text) else {
+        return false;
+    };
+    cell.remove(number);
+    cell.is_empty()
+}
