@@ -1,7 +1,0 @@
-pub mod FloatLemmas
-pub mod ListLemmas
-pub mod DeskLemmas
-pub mod EachLemmas
-pub mod LocationLemmas
-pub mod TreeLemmas
-pub mod ServiceLemmas

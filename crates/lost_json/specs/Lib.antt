@@ -1,10 +1,1 @@
-pub mod Gives
-pub mod Members
-pub mod Requests
-pub mod Desk
-pub mod Replies
-pub mod DeskReplies
-pub mod DeskLines
 pub mod Line
-pub mod PlainNames
-pub mod Put

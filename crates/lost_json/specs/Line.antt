@@ -5,8 +5,8 @@ use Rattle.lost_spec.specs.Moment.{Instant}
 use Rattle.lost_spec.specs.Book.{Book}
 use Rattle.lost_spec.specs.Request.{Request, Reply, BadRequest}
 use Rattle.lost_spec.specs.Answer.{answer}
-use Rattle.lost_json.specs.Requests.{line_request}
-use Rattle.lost_json.specs.Replies.{reply_text}
+use Rattle.lost_reading.specs.Requests.{line_request}
+use Rattle.lost_writing.specs.Replies.{reply_text}
 
 -- the reply to what a line spells: the answer to a request, and `badRequest` to anything else
 abbrev pub reply_to : Book → Text → Instant → Option Request → Reply

@@ -1,29 +1,16 @@
 //! The line that answers a line. Rules without a section are this profile's own.
-ghost use Rattle.std.specs.Prelude.{◌≡◌, IfOk};
-ghost use Rattle.lost_spec.specs.Request.{BadRequest, InternalError};
+ghost use Rattle.std.specs.Prelude.{◌≡◌, Some, IfOk};
+ghost use Rattle.lost_spec.specs.Text.{Text};
 ghost use Rattle.lost_query.specs.Reply.{reply_of};
-ghost use Rattle.lost_json.specs.Requests.{line_request};
-ghost use Rattle.lost_json.specs.Replies.{reply_text};
+ghost use Rattle.lost_query.specs.Request.{request_of};
+ghost use Rattle.lost_reading.specs.Requests.{line_request};
 ghost use Rattle.lost_json.specs.Line.{reply_to as reply_meant, line_reply};
 
-use crate::request::{ReadError, read_request};
-use crate::writing::write_reply;
 use lost_mapping::{Moment, Source};
-use lost_query::{Holdings, Reply, answer};
+use lost_query::{Holdings, Reply, Request, answer};
+use lost_reading::{ReadError, read_request};
+use lost_writing::write_reply;
 use std::alloc::{AllocError, Global};
-
-/// The line of the error `internalError` (RFC 5222, section 13.1).
-pub const INTERNAL_ERROR: &[u8] = b"{\"errors\":{\"error\":\"internalError\"}}\n";
-
-/// The line of the error `badRequest` (RFC 5222, section 13.1).
-pub const BAD_REQUEST: &[u8] = b"{\"errors\":{\"error\":\"badRequest\"}}\n";
-
-/// The two lines above are those of the replies `internalError` and `badRequest`.
-#[tactic(auto, unfolding(crate::specs::Replies::reply_text, serde_json::proofs::OnLiterals::serde_json_on_literals))]
-pub fn law_constant_lines()
-    ensures internal_error { INTERNAL_ERROR.now ≡ reply_text InternalError }
-    ensures bad_request { BAD_REQUEST.now ≡ reply_text BadRequest }
-{}
 
 /// The reply to a line: the answer to the request that it spells, and `badRequest` where it spells none.
 fn reply_to<H: Holdings>(
@@ -57,5 +44,21 @@ pub fn reply_line<H: Holdings>(
     ensures { IfOk result (λ reply. reply.items ≡ line_reply (H.book holdings.now) name.now moment.now line.now) }
 {
     let reply = reply_to(alloc, holdings, name, moment, line)?;
+    write_reply(alloc, &reply)
+}
+
+/// Answers a request that was read from a line, as [`reply_line`] does, and writes the reply's line, or want of memory.
+#[tactic(auto, unfolding(crate::specs::Line::line_reply))]
+pub fn reply_request<H: Holdings>(
+    alloc: Global,
+    holdings: &H,
+    name: &Source,
+    moment: &Moment,
+    request: &Request,
+) -> Result<Vec<u8>, AllocError>
+    ensures { IfOk result (λ reply. (line : Text) → line_request line ≡ Some (request_of request.now)
+        → reply.items ≡ line_reply (H.book holdings.now) name.now moment.now line) }
+{
+    let reply = answer(alloc, holdings, name, moment, request)?;
     write_reply(alloc, &reply)
 }

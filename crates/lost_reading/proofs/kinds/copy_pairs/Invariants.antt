@@ -1,0 +1,10 @@
+use Rattle.std.proofs.Common.{◌≡◌, List, ◌++◌, Some}
+use Rattle.serde_json.specs.View.{members_view}
+use Rattle.serde_json.proofs.Views.{Entry}
+use Rattle.lost_civic.specs.Pairs.{seen_pairs}
+use Rattle.lost_reading.specs.Members.{pairs_of}
+use Rattle.lost_reading.proofs.kinds.copy_pairs.Given as goal
+
+abbrev pub invariant-loop-name : goal.invariant-loop-name
+invariant-loop-name l =
+    (done : List Entry) × (l.members.entries ≡ done ++ l.name-iterator) × (pairs_of (members_view done) ≡ Some (seen_pairs l.pairs.items))

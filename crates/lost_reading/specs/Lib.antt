@@ -1,0 +1,6 @@
+pub mod Gives
+pub mod Members
+pub mod Requests
+pub mod Desk
+pub mod DeskLines
+pub mod Lines

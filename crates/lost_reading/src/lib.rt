@@ -1,0 +1,20 @@
+//! Lines of JSON as they are read (own format over RFC 5222): which lines are requests and which order the map desk's
+//! edits.
+#![tactic(auto)]
+
+mod desk;
+mod kinds;
+mod locations;
+mod options;
+mod parts;
+mod reading;
+mod regions;
+mod request;
+mod services;
+mod whole;
+
+pub use desk::{DeskFault, DeskLine, read_desk};
+pub use locations::{CIVIC, GEODETIC, KNOWN_SYSTEM, are_locations};
+pub use options::{MAX_NAMES, by_value};
+pub use request::{ReadError, read_request};
+pub use whole::{Line, read_line};

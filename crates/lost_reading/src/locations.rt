@@ -1,0 +1,175 @@
+//! Locations of a request (RFC 5222, section 12). Rules without a section are this profile's own.
+ghost use Rattle.std.specs.Prelude.{◌≡◌, None, Some, Ok, map, codes};
+ghost use Rattle.serde_json.specs.View.{view, members_view};
+ghost use Rattle.lost_spec.specs.Text.{is_among, has_repeat};
+ghost use Rattle.lost_query.specs.Request.{body_of, location_of, locations_of};
+ghost use Rattle.lost_reading.specs.Gives.{Gives};
+ghost use Rattle.lost_reading.specs.Members as kinds;
+ghost use Rattle.lost_reading.specs.Members.{the_member};
+ghost use Rattle.lost_reading.specs.Requests.{point_body, address_body, body_in, is_known_system, srs_known_in, location_of_members, location_in, are_locations, locations_in};
+
+use crate::kinds::named_texts;
+use crate::reading::{Kind, member, readable, required};
+use crate::request::ReadError;
+use lost_query::{Body, Location};
+use serde_json::{Map, Value};
+use std::alloc::Global;
+
+/// The reference system that is known (RFC 5222, section 12.2).
+pub const KNOWN_SYSTEM: &str = "urn:ogc:def:crs:EPSG::4326";
+
+/// The profile of points (RFC 5222, section 12.2).
+pub const GEODETIC: &str = "geodetic-2d";
+
+/// The profile of addresses (RFC 5222, section 12.3).
+pub const CIVIC: &str = "civic";
+
+/// The most locations of a request.
+const MAX_LOCATIONS: usize = 8;
+
+/// A list of 1 to 8 locations, no two of one profile (RFC 5222, section 8.3.1; bounds own).
+#[derive(Drop)]
+pub(crate) struct Locations(pub Vec<Location>);
+
+impl Kind for Locations {
+    ghost use Rattle.std.specs.Prelude.{List};
+    ghost use Rattle.lost_spec.specs.Request as spec;
+
+    ghost Seen = { List spec.Location };
+
+    ghost seen = { λ locations. locations_of locations.0.items };
+
+    ghost meant = { locations_in };
+
+    fn read(alloc: Global, value: &Value) -> Result<Locations, ReadError> {
+        let locations = Vec::<Location>::read(alloc, value)?;
+        if are_locations(locations.as_slice()) {
+            Ok(Locations(locations))
+        } else {
+            Err(ReadError::BadRequest)
+        }
+    }
+}
+
+/// Whether there are 1 to 8 locations, no two of one profile (RFC 5222, section 8.3.1; bounds own).
+pub fn are_locations(locations: &[Location]) -> bool
+    ensures { result ≡ are_locations (locations_of locations.now) }
+{
+    1 <= locations.len() && locations.len() <= MAX_LOCATIONS && !repeats_profile(locations)
+}
+
+/// Whether a profile stands twice. It takes the square of their number, which is at most 8 where this is asked.
+fn repeats_profile(locations: &[Location]) -> bool
+    ensures { result ≡ has_repeat (map (λ location. location.profile) (locations_of locations.now)) }
+{
+    let mut rest = locations;
+    while let Some((location, others)) = rest.split_first() {
+        if has_profile(others, location.profile.as_str()) {
+            return true;
+        }
+        rest = others;
+    }
+    false
+}
+
+fn has_profile(locations: &[Location], profile: &str) -> bool
+    ensures { result ≡ is_among profile.now (map (λ location. location.profile) (locations_of locations.now)) }
+{
+    locations
+        .iter()
+        .any(|location| profile == location.profile.as_str())
+}
+
+impl Kind for Location {
+    ghost use Rattle.lost_spec.specs.Request as spec;
+
+    ghost Seen = { spec.Location };
+
+    ghost seen = { location_of };
+
+    ghost meant = { location_in };
+
+    fn read(alloc: Global, value: &Value) -> Result<Location, ReadError> {
+        match value.as_object() {
+            Some(members) => read_location(alloc, members),
+            None => Err(ReadError::BadRequest),
+        }
+    }
+}
+
+/// The location of an object.
+fn read_location(alloc: Global, members: &Map<String, Value>) -> Result<Location, ReadError>
+    ensures { Gives location_of result (location_of_members (members_view members.now.entries)) }
+{
+    let id = required::<String>(alloc, members, "id")?;
+    let profile = required::<String>(alloc, members, "profile")?;
+    let srs_known = is_srs_known(profile.as_str(), members);
+    let body = read_body(alloc, profile.as_str(), members)?;
+    Ok(Location {
+        id,
+        profile,
+        srs_known,
+        body,
+    })
+}
+
+/// Whether the reference system is known: it is looked at for `geodetic-2d` alone.
+fn is_srs_known(profile: &str, members: &Map<String, Value>) -> bool
+    ensures { result ≡ srs_known_in profile.now (members_view members.now.entries) }
+{
+    profile != GEODETIC || has_known_system(members)
+}
+
+/// Whether the reference system is absent or the one that is known.
+fn has_known_system(members: &Map<String, Value>) -> bool
+    ensures { result ≡ is_known_system (the_member (codes "srsName") (members_view members.now.entries)) }
+{
+    match member(members, "srsName") {
+        Some(value) => names_known_system(value),
+        None => true,
+    }
+}
+
+fn names_known_system(value: &Value) -> bool
+    ensures { result ≡ is_known_system (Some (view value.now)) }
+{
+    match value.as_str() {
+        Some(text) => KNOWN_SYSTEM == text,
+        None => false,
+    }
+}
+
+/// The content of a location. That of another profile is not looked at.
+fn read_body(alloc: Global, profile: &str, members: &Map<String, Value>) -> Result<Body, ReadError>
+    ensures { Gives body_of result (Some (body_in profile.now (members_view members.now.entries))) }
+{
+    if profile == GEODETIC {
+        read_point(alloc, members)
+    } else if profile == CIVIC {
+        read_address(alloc, members)
+    } else {
+        Ok(Body::Unreadable)
+    }
+}
+
+/// The content of a location of `geodetic-2d`.
+fn read_point(alloc: Global, members: &Map<String, Value>) -> Result<Body, ReadError>
+    ensures { Gives body_of result (Some (point_body (the_member (codes "pos") (members_view members.now.entries)))) }
+{
+    match readable::<(i64, i64)>(alloc, members, "pos")? {
+        Some((lat, lon)) => Ok(Body::Point(lat, lon)),
+        None => Ok(Body::Unreadable),
+    }
+}
+
+/// The content of a location of `civic`. What is no object of texts is unreadable though memory is short.
+fn read_address(alloc: Global, members: &Map<String, Value>) -> Result<Body, ReadError>
+    ensures given { Gives body_of result (Some (address_body (the_member (codes "address") (members_view members.now.entries)))) }
+    ensures unreadable { kinds.required kinds.pairs_in (codes "address") (members_view members.now.entries) ≡ None
+        → result ≡ Ok Body.Unreadable }
+{
+    match named_texts(alloc, members, "address")? {
+        Some(pairs) => Ok(Body::Address(pairs.0)),
+        None => Ok(Body::Unreadable),
+    }
+}

@@ -1,0 +1,154 @@
+//! Request lines. Rules without a section are this profile's own.
+ghost use Rattle.std.specs.Prelude.{◌≡◌, None, Err, option_and_then, codes};
+ghost use Rattle.serde_json.specs.Find.{as_object};
+ghost use Rattle.serde_json.specs.View.{view, members_view};
+ghost use Rattle.lost_query.specs.Request.{request_of};
+ghost use Rattle.lost_reading.specs.Gives.{Gives, read_code};
+ghost use Rattle.lost_reading.specs.Members as kinds;
+ghost use Rattle.lost_reading.specs.Requests.{find_service_of, services_at_of, services_of, boundary_of, request_named, request_in, line_request};
+
+use crate::locations::Locations;
+use crate::options::{ByValue, read_path};
+use crate::reading::{defaulting, only_member, read_tree, required};
+use crate::services::{optional_service, required_service};
+use lost_query::Request;
+use serde_json::{Map, Value};
+use std::alloc::Global;
+use thiserror::Error;
+
+/// Why a line was not read as a request.
+#[derive(Clone, Copy, PartialEq, Eq, Debug, Error)]
+pub enum ReadError {
+    /// The line is no request.
+    #[error("the line is no request")]
+    BadRequest,
+    /// Memory ran out while it was read.
+    #[error("memory ran out")]
+    Memory,
+}
+
+impl ReadError {
+    /// The number of the refusal, 1 or 2 in the order of the variants.
+    pub fn code(self) -> u8
+        ensures { result ≡ read_code self }
+    {
+        match self {
+            ReadError::BadRequest => 1,
+            ReadError::Memory => 2,
+        }
+    }
+}
+
+/// Reads a request line (RFC 5222, sections 8 to 12; own format): an object with exactly one member, named
+/// `findService`, `listServicesByLocation`, `listServices` or `getServiceBoundary`, whose value is an object.
+///
+/// # Errors
+///
+/// [`ReadError::BadRequest`] where the line is no request, and [`ReadError::Memory`] for want of memory.
+#[tactic(auto, unfolding(crate::specs::Requests::line_request))]
+pub fn read_request(alloc: Global, line: &[u8]) -> Result<Request, ReadError>
+    ensures { Gives request_of result (line_request line.now) }
+{
+    let tree = read_tree(alloc, line)?;
+    read_tree_request(alloc, &tree)
+}
+
+/// The request of a tree: an object with exactly one member, whose value is an object.
+fn read_tree_request(alloc: Global, tree: &Value) -> Result<Request, ReadError>
+    ensures { Gives request_of result (request_in (view tree.now)) }
+{
+    match only_member(tree) {
+        Some((name, value)) => read_member_request(alloc, name, value),
+        None => Err(ReadError::BadRequest),
+    }
+}
+
+pub(crate) fn read_member_request(
+    alloc: Global,
+    name: &str,
+    value: &Value,
+) -> Result<Request, ReadError>
+    ensures { Gives request_of result (option_and_then (request_named name.now) (as_object (view value.now))) }
+{
+    match value.as_object() {
+        Some(members) => read_named_request(alloc, name, members),
+        None => Err(ReadError::BadRequest),
+    }
+}
+
+/// The request of this name, by the members of its value.
+fn read_named_request(
+    alloc: Global,
+    name: &str,
+    members: &Map<String, Value>,
+) -> Result<Request, ReadError>
+    ensures { Gives request_of result (request_named name.now (members_view members.now.entries)) }
+{
+    if "findService" == name {
+        read_find_service(alloc, members)
+    } else if "listServicesByLocation" == name {
+        read_services_at(alloc, members)
+    } else if "listServices" == name {
+        read_services(alloc, members)
+    } else if "getServiceBoundary" == name {
+        read_boundary(alloc, members)
+    } else {
+        Err(ReadError::BadRequest)
+    }
+}
+
+/// `findService` (RFC 5222, section 8).
+fn read_find_service(alloc: Global, members: &Map<String, Value>) -> Result<Request, ReadError>
+    ensures given { Gives request_of result (find_service_of (members_view members.now.entries)) }
+    ensures service_first { kinds.required kinds.service_in (codes "service") (members_view members.now.entries) ≡ None
+        → result ≡ Err ReadError.BadRequest }
+{
+    let service = required_service(alloc, members)?;
+    let locations = required::<Locations>(alloc, members, "location")?;
+    let validate = defaulting(alloc, members, "validateLocation", false)?;
+    let by_value = defaulting(alloc, members, "serviceBoundary", ByValue(false))?;
+    let path = read_path(alloc, members)?;
+    Ok(Request::FindService {
+        service,
+        locations: locations.0,
+        validate,
+        by_value: by_value.0,
+        path,
+    })
+}
+
+/// `listServicesByLocation` (RFC 5222, section 11).
+fn read_services_at(alloc: Global, members: &Map<String, Value>) -> Result<Request, ReadError>
+    ensures given { Gives request_of result (services_at_of (members_view members.now.entries)) }
+    ensures service_first { kinds.optional kinds.service_in (codes "service") (members_view members.now.entries) ≡ None
+        → result ≡ Err ReadError.BadRequest }
+{
+    let service = optional_service(alloc, members)?;
+    let locations = required::<Locations>(alloc, members, "location")?;
+    let path = read_path(alloc, members)?;
+    Ok(Request::ListServicesByLocation {
+        service,
+        locations: locations.0,
+        path,
+    })
+}
+
+/// `listServices` (RFC 5222, section 10).
+fn read_services(alloc: Global, members: &Map<String, Value>) -> Result<Request, ReadError>
+    ensures given { Gives request_of result (services_of (members_view members.now.entries)) }
+    ensures service_first { kinds.optional kinds.service_in (codes "service") (members_view members.now.entries) ≡ None
+        → result ≡ Err ReadError.BadRequest }
+{
+    let service = optional_service(alloc, members)?;
+    let path = read_path(alloc, members)?;
+    Ok(Request::ListServices { service, path })
+}
+
+/// `getServiceBoundary` (RFC 5222, section 9).
+fn read_boundary(alloc: Global, members: &Map<String, Value>) -> Result<Request, ReadError>
+    ensures { Gives request_of result (boundary_of (members_view members.now.entries)) }
+{
+    let key = required::<String>(alloc, members, "key")?;
+    let path = read_path(alloc, members)?;
+    Ok(Request::GetServiceBoundary { key, path })
+}

@@ -1,0 +1,16 @@
+//! Request lines read by tokens (own format over RFC 5222): a line becomes one flat list of tokens in place of a tree.
+//! This reader answers only where it is certain, and leaves every other line to the tree.
+#![tactic(auto)]
+
+mod line;
+mod locations;
+mod numbers;
+mod options;
+mod part;
+mod requests;
+mod tree;
+mod whole;
+
+pub use json::Scratch;
+pub use line::read_common;
+pub use whole::{read_line, read_request};

@@ -1,0 +1,94 @@
+//! A line as one list of tokens. Rules without a section are this profile's own.
+ghost use Rattle.std.specs.Prelude.{◌≡◌, ℕ, List, true, Some, None, IfSome, OnSome, option_and_then, map};
+ghost use Rattle.std.specs.Bool.{OnTrue};
+ghost use Rattle.std.specs.List.{list_all};
+ghost use Rattle.json.specs.Tape.{node_token};
+ghost use Rattle.serde_json.specs.Read.{read};
+ghost use Rattle.lost_query.specs.Request.{request_of};
+ghost use Rattle.lost_reading.specs.Desk.{order_in, desk_line};
+ghost use Rattle.lost_reading.specs.Requests.{request_in, line_request};
+ghost use Rattle.lost_tokens.specs.Tapes.{data_of, is_sure, IsTapeOf};
+
+use crate::numbers::whole_number;
+use crate::requests::read_root;
+use crate::tree::Tree;
+use json::{Node, Scratch, Tape};
+use lost_query::Request;
+use std::alloc::Global;
+
+/// The longest line that is read by tokens, in bytes.
+const MAX_LINE: usize = 8_192;
+
+/// The most tokens of a line that is read by tokens, so that it nests at most 127 deep.
+const MAX_TOKENS: usize = 254;
+
+/// Reads a request line of a common shape by its tokens (RFC 5222, sections 8 to 12; own format). `None` says nothing of
+/// the line, and comes for want of memory too: the tree decides then. What `scratch` holds is kept from line to line.
+pub fn read_common(alloc: Global, line: &[u8], scratch: &mut Scratch) -> Option<Request>
+    ensures request { IfSome result (λ request. line_request line.now ≡ Some (request_of request)) }
+    ensures no_desk_line { OnSome result (desk_line line.now ≡ None) }
+{
+    if line.len() > MAX_LINE {
+        return None;
+    }
+    match simdutf8::basic::from_utf8(line) {
+        Ok(text) => read_text(alloc, text, scratch),
+        Err(_) => None,
+    }
+}
+
+/// The request of a text.
+fn read_text(alloc: Global, text: &str, scratch: &mut Scratch) -> Option<Request>
+    ensures request { IfSome result (λ request. option_and_then request_in (read text.now) ≡ Some (request_of request)) }
+    ensures no_order { OnSome result (option_and_then order_in (read text.now) ≡ None) }
+{
+    match Tape::parse(text, scratch, Vec::new(alloc)) {
+        Ok(tape) => read_tape(alloc, &tape),
+        Err(_) => None,
+    }
+}
+
+/// The request of a list of tokens, that of the value of a text.
+fn read_tape(alloc: Global, tape: &Tape<'_>) -> Option<Request>
+    requires { (text : List ℕ) × IsTapeOf text tape.now }
+    ensures { (text : List ℕ) → IsTapeOf text tape.now → IfSome result (λ request.
+        (option_and_then request_in (read text) ≡ Some (request_of request)) × (option_and_then order_in (read text) ≡ None)) }
+{
+    let root = root_of(tape)?;
+    read_root(alloc, &root)
+}
+
+/// The value of a list of tokens, where its numbers are whole and it is short enough to nest no deeper than a tree may.
+fn root_of<'t, 'a>(tape: &'t Tape<'a>) -> Option<Tree<'t, 'a>>
+    requires { (text : List ℕ) × IsTapeOf text tape.now }
+    ensures { (text : List ℕ) → IsTapeOf text tape.now → IfSome result (λ root. read text ≡ Some (data_of root)) }
+{
+    let nodes = tape.nodes();
+    if nodes.len() > MAX_TOKENS || !are_sure(nodes) {
+        return None;
+    }
+    Some(Tree {
+        element: tape.root(),
+    })
+}
+
+/// Whether each number is a whole one that fits in 64 bits.
+fn are_sure(nodes: &[Node<'_>]) -> bool
+    ensures { OnTrue result (list_all is_sure (map node_token nodes.now) ≡ true) }
+{
+    for node in nodes {
+        if !is_sure(node) {
+            return false;
+        }
+    }
+    true
+}
+
+fn is_sure(node: &Node<'_>) -> bool
+    ensures { OnTrue result (is_sure (node_token node.now) ≡ true) }
+{
+    match node {
+        Node::Number(text) => whole_number(text).is_some(),
+        _ => true,
+    }
+}

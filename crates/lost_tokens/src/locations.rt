@@ -1,0 +1,125 @@
+//! The locations of a request (RFC 5222, section 12). Rules without a section are this profile's own.
+ghost use Rattle.std.specs.Prelude.{◌≡◌, Some, IfSome, codes};
+ghost use Rattle.lost_query.specs.Request.{body_of, location_of, locations_of};
+ghost use Rattle.lost_reading.specs.Members.{the_member, required, pairs_in};
+ghost use Rattle.lost_reading.specs.Requests.{point_body, address_body, body_in, is_known_system, srs_known_in, location_of_members, location_in, locations_in};
+ghost use Rattle.lost_tokens.specs.Tapes.{data_of, members_of};
+
+use crate::part::{Part, owned, read_list, read_position, required_member, required_text};
+use crate::tree::Tree;
+use lost_query::{Body, Location};
+use lost_reading::{CIVIC, GEODETIC, KNOWN_SYSTEM, are_locations};
+use std::alloc::Global;
+
+/// The locations that a request must have: 1 to 8, no two of one profile.
+pub(crate) fn read_locations(alloc: Global, object: &Tree<'_, '_>) -> Option<Vec<Location>>
+    ensures { IfSome result (λ locations. required locations_in (codes "location") (members_of object.now) ≡ Some (locations_of locations.items)) }
+{
+    let tree = required_member(object, "location")?;
+    read_each_location(alloc, &tree)
+}
+
+fn read_each_location(alloc: Global, tree: &Tree<'_, '_>) -> Option<Vec<Location>>
+    ensures { IfSome result (λ locations. locations_in (data_of tree.now) ≡ Some (locations_of locations.items)) }
+{
+    let locations = read_list::<Location>(alloc, tree)?;
+    if are_locations(locations.as_slice()) {
+        Some(locations)
+    } else {
+        None
+    }
+}
+
+impl Part for Location {
+    ghost use Rattle.lost_spec.specs.Request as spec;
+
+    ghost Seen = { spec.Location };
+
+    ghost seen = { location_of };
+
+    ghost meant = { location_in };
+
+    fn read(alloc: Global, tree: &Tree<'_, '_>) -> Option<Location> {
+        if tree.is_object() {
+            read_location(alloc, tree)
+        } else {
+            None
+        }
+    }
+}
+
+/// The location of an object.
+fn read_location(alloc: Global, object: &Tree<'_, '_>) -> Option<Location>
+    ensures { IfSome result (λ location. location_of_members (members_of object.now) ≡ Some (location_of location)) }
+{
+    let id = required_text(object, "id")?;
+    let profile = required_text(object, "profile")?;
+    let srs_known = is_srs_known(profile, object)?;
+    let body = read_body(profile, object)?;
+    let id = owned(alloc, id)?;
+    let profile = owned(alloc, profile)?;
+    Some(Location {
+        id,
+        profile,
+        srs_known,
+        body,
+    })
+}
+
+/// Whether the reference system is known: it is looked at for `geodetic-2d` alone.
+fn is_srs_known(profile: &str, object: &Tree<'_, '_>) -> Option<bool>
+    ensures { IfSome result (λ known. srs_known_in profile.now (members_of object.now) ≡ known) }
+{
+    if profile == GEODETIC {
+        has_known_system(object)
+    } else {
+        Some(true)
+    }
+}
+
+/// Whether the reference system is absent or the one that is known.
+fn has_known_system(object: &Tree<'_, '_>) -> Option<bool>
+    ensures { IfSome result (λ known. is_known_system (the_member (codes "srsName") (members_of object.now)) ≡ known) }
+{
+    match object.member("srsName") {
+        Some(tree) => names_known_system(&tree),
+        None => Some(true),
+    }
+}
+
+fn names_known_system(tree: &Tree<'_, '_>) -> Option<bool>
+    ensures { IfSome result (λ known. is_known_system (Some (data_of tree.now)) ≡ known) }
+{
+    let text = tree.text()?;
+    Some(KNOWN_SYSTEM == text)
+}
+
+/// The content of a location. That of another profile is not looked at.
+fn read_body(profile: &str, object: &Tree<'_, '_>) -> Option<Body>
+    ensures { IfSome result (λ body. body_in profile.now (members_of object.now) ≡ body_of body) }
+{
+    if profile == GEODETIC {
+        read_point(object)
+    } else if profile == CIVIC {
+        None
+    } else {
+        Some(Body::Unreadable)
+    }
+}
+
+/// The content of a location of `geodetic-2d`.
+fn read_point(object: &Tree<'_, '_>) -> Option<Body>
+    ensures { IfSome result (λ body. point_body (the_member (codes "pos") (members_of object.now)) ≡ body_of body) }
+{
+    match object.member("pos") {
+        Some(tree) => read_point_at(&tree),
+        None => Some(Body::Unreadable),
+    }
+}
+
+fn read_point_at(tree: &Tree<'_, '_>) -> Option<Body>
+    ensures { IfSome result (λ body. point_body (Some (data_of tree.now)) ≡ body_of body) }
+{
+    let (lat, lon) = read_position(tree)?;
+    Some(Body::Point(lat, lon))
+}

@@ -1,0 +1,91 @@
+//! The service, the path and the wishes of a request. Rules without a section are this profile's own.
+ghost use Rattle.std.specs.Prelude.{◌≡◌, Some, IfSome, option_map, false, codes};
+ghost use Rattle.serde_json.specs.Find.{as_bool};
+ghost use Rattle.lost_mapping.specs.Texts.{texts_of};
+ghost use Rattle.lost_reading.specs.Members.{service_in, required, optional, defaulting};
+ghost use Rattle.lost_reading.specs.Requests.{path_kind, path_in, by_value_kind};
+ghost use Rattle.lost_tokens.specs.Tapes.{data_of, members_of};
+
+use crate::part::{read_list, required_member};
+use crate::tree::Tree;
+use lost_reading::{MAX_NAMES, by_value};
+use lost_urn::ServiceUrn;
+use std::alloc::Global;
+
+/// The service of a text.
+fn read_service(alloc: Global, tree: &Tree<'_, '_>) -> Option<ServiceUrn>
+    ensures { IfSome result (λ service. service_in (data_of tree.now) ≡ Some service) }
+{
+    let text = tree.text()?;
+    match ServiceUrn::parse(alloc, text.as_bytes()) {
+        Ok(service) => Some(service),
+        Err(_) => None,
+    }
+}
+
+/// The service that a request must have.
+pub(crate) fn required_service(alloc: Global, object: &Tree<'_, '_>) -> Option<ServiceUrn>
+    ensures { IfSome result (λ service. required service_in (codes "service") (members_of object.now) ≡ Some service) }
+{
+    let tree = required_member(object, "service")?;
+    read_service(alloc, &tree)
+}
+
+/// The service that a request may have.
+pub(crate) fn optional_service(alloc: Global, object: &Tree<'_, '_>) -> Option<Option<ServiceUrn>>
+    ensures { IfSome result (λ found. optional service_in (codes "service") (members_of object.now) ≡ Some (option_map (λ service. service) found)) }
+{
+    match object.member("service") {
+        Some(tree) => Some(Some(read_service(alloc, &tree)?)),
+        None => Some(None),
+    }
+}
+
+/// Whether validation is wanted (RFC 5222, section 8.3.3): it is not where nothing is said of it.
+pub(crate) fn read_validate(object: &Tree<'_, '_>) -> Option<bool>
+    ensures { IfSome result (λ wanted. defaulting as_bool false (codes "validateLocation") (members_of object.now) ≡ Some wanted) }
+{
+    match object.member("validateLocation") {
+        Some(tree) => tree.truth(),
+        None => Some(false),
+    }
+}
+
+/// Whether boundaries are wanted by value (RFC 5222, section 8.3.4): by reference where nothing is said of them.
+pub(crate) fn read_by_value(object: &Tree<'_, '_>) -> Option<bool>
+    ensures { IfSome result (λ wanted. defaulting by_value_kind false (codes "serviceBoundary") (members_of object.now) ≡ Some wanted) }
+{
+    match object.member("serviceBoundary") {
+        Some(tree) => read_preference(&tree),
+        None => Some(false),
+    }
+}
+
+fn read_preference(tree: &Tree<'_, '_>) -> Option<bool>
+    ensures { IfSome result (λ wanted. by_value_kind (data_of tree.now) ≡ Some wanted) }
+{
+    let text = tree.text()?;
+    by_value(text)
+}
+
+/// The path of a request (RFC 5222, section 6), empty where it has none.
+pub(crate) fn read_path(alloc: Global, object: &Tree<'_, '_>) -> Option<Vec<String>>
+    ensures { IfSome result (λ path. path_in (members_of object.now) ≡ Some (texts_of path.items)) }
+{
+    match object.member("path") {
+        Some(tree) => read_names(alloc, &tree),
+        None => Some(Vec::new(alloc)),
+    }
+}
+
+/// At most 32 texts.
+fn read_names(alloc: Global, tree: &Tree<'_, '_>) -> Option<Vec<String>>
+    ensures { IfSome result (λ path. path_kind (data_of tree.now) ≡ Some (texts_of path.items)) }
+{
+    let names = read_list::<String>(alloc, tree)?;
+    if names.len() <= MAX_NAMES {
+        Some(names)
+    } else {
+        None
+    }
+}

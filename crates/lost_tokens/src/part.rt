@@ -1,0 +1,114 @@
+//! Parts of a line that are read by themselves, and lists of them.
+ghost use Rattle.std.specs.Prelude.{◌≡◌, ◌++◌, ◌∷◌, [], Some, IfSome, OnSome, map, string_bytes};
+ghost use Rattle.serde_json.specs.Data.{Items as SpecItems};
+ghost use Rattle.serde_json.specs.Find.{as_str};
+ghost use Rattle.lost_reading.specs.Members.{the_member, required, each_of, list_in, position_in};
+ghost use Rattle.lost_tokens.specs.Tapes.{data_of, members_of, HoldsItems};
+
+use crate::tree::{Tree, Trees};
+use std::alloc::Global;
+
+/// What a value of a line is read as, where that is certain.
+pub(crate) trait Part: Drop {
+    ghost use Rattle.std.specs.Prelude.{Option};
+    ghost use Rattle.serde_json.specs.Data.{Data};
+
+    // What contracts see of what was read.
+    ghost Seen: { Type 0 };
+
+    ghost seen: { Self → Self.Seen };
+
+    // What a value means, where it is of this kind.
+    ghost meant: { Data → Option Self.Seen };
+
+    /// What the value is read as. Nothing is said where it is not read.
+    fn read(alloc: Global, tree: &Tree<'_, '_>) -> Option<Self>
+        ensures { IfSome result (λ part. meant (data_of tree.now) ≡ Some (seen part)) };
+}
+
+impl Part for String {
+    ghost use Rattle.lost_spec.specs.Text.{Text};
+
+    ghost Seen = { Text };
+
+    ghost seen = { string_bytes };
+
+    ghost meant = { as_str };
+
+    fn read(alloc: Global, tree: &Tree<'_, '_>) -> Option<String> {
+        let text = tree.text()?;
+        owned(alloc, text)
+    }
+}
+
+/// A copy of a text.
+pub(crate) fn owned(alloc: Global, text: &str) -> Option<String>
+    ensures { IfSome result (λ copy. string_bytes copy ≡ text.now) }
+{
+    match String::from_str(alloc, text) {
+        Ok(copy) => Some(copy),
+        Err(_) => None,
+    }
+}
+
+/// The list of an array.
+pub(crate) fn read_list<T: Part>(alloc: Global, tree: &Tree<'_, '_>) -> Option<Vec<T>>
+    ensures { IfSome result (λ list. list_in T.meant (data_of tree.now) ≡ Some (map T.seen list.items)) }
+{
+    let items = tree.items()?;
+    read_each(alloc, items)
+}
+
+/// Each item, in order.
+fn read_each<T: Part>(alloc: Global, items: Trees<'_, '_>) -> Option<Vec<T>>
+    ensures { (held : SpecItems) → HoldsItems items.entry held
+        → IfSome result (λ list. each_of T.meant held ≡ Some (map T.seen list.items)) }
+{
+    let mut items = items;
+    let mut list = Vec::new(alloc);
+    while let Some(item) = items.next() {
+        let part = T::read(alloc, &item)?;
+        add(&mut list, part)?;
+    }
+    Some(list)
+}
+
+/// Adds a part at the end of a list.
+fn add<T: Drop>(list: &mut Vec<T>, part: T) -> Option<()>
+    ensures { OnSome result (list.new.items ≡ list.old.items ++ part ∷ []) }
+{
+    match list.push(part) {
+        Ok(()) => Some(()),
+        Err(_) => None,
+    }
+}
+
+/// The member of this name, which must be there.
+pub(crate) fn required_member<'t, 'a>(object: &Tree<'t, 'a>, name: &str) -> Option<Tree<'t, 'a>>
+    ensures { IfSome result (λ tree. the_member name.now (members_of object.now) ≡ Some (data_of tree)) }
+{
+    object.member(name)
+}
+
+/// The text of this name, which must be there.
+pub(crate) fn required_text<'a>(object: &Tree<'_, 'a>, name: &str) -> Option<&'a str>
+    ensures { IfSome result (λ text. required as_str name.now (members_of object.now) ≡ Some text.now) }
+{
+    let tree = required_member(object, name)?;
+    tree.text()
+}
+
+/// A latitude and a longitude.
+pub(crate) fn read_position(tree: &Tree<'_, '_>) -> Option<(i64, i64)>
+    ensures { IfSome result (λ position. position_in (data_of tree.now) ≡ Some position) }
+{
+    let mut items = tree.items()?;
+    let first = items.next()?;
+    let second = items.next()?;
+    let lat = first.whole()?;
+    let lon = second.whole()?;
+    match items.next() {
+        Some(_) => None,
+        None => Some((lat, lon)),
+    }
+}

@@ -1,0 +1,96 @@
+//! The four requests, by the members of their objects. Rules without a section are this profile's own.
+ghost use Rattle.std.specs.Prelude.{◌≡◌, false, Some, None, IfSome, OnSome, codes};
+ghost use Rattle.lost_query.specs.Request.{request_of, locations_of};
+ghost use Rattle.lost_reading.specs.Members.{required};
+ghost use Rattle.lost_reading.specs.Desk.{is_desk_name, order_in};
+ghost use Rattle.lost_reading.specs.Requests.{locations_in, find_service_of, services_at_of, services_of, boundary_of, request_named, request_in};
+ghost use Rattle.lost_tokens.specs.Tapes.{data_of, members_of};
+
+use crate::locations::read_locations;
+use crate::options::{optional_service, read_by_value, read_path, read_validate, required_service};
+use crate::part::{owned, required_text};
+use crate::tree::Tree;
+use lost_query::Request;
+use std::alloc::Global;
+
+/// The request of a line's value: an object with one member, whose value is an object.
+pub(crate) fn read_root(alloc: Global, root: &Tree<'_, '_>) -> Option<Request>
+    ensures request { IfSome result (λ request. request_in (data_of root.now) ≡ Some (request_of request)) }
+    ensures no_order { OnSome result (order_in (data_of root.now) ≡ None) }
+{
+    let (name, value) = root.only_member()?;
+    if value.is_object() {
+        read_named(alloc, name, &value)
+    } else {
+        None
+    }
+}
+
+/// The request of this name, which is none of a desk line.
+fn read_named(alloc: Global, name: &str, object: &Tree<'_, '_>) -> Option<Request>
+    ensures request { IfSome result (λ request. request_named name.now (members_of object.now) ≡ Some (request_of request)) }
+    ensures no_desk_name { OnSome result (is_desk_name name.now ≡ false) }
+{
+    if "findService" == name {
+        read_find_service(alloc, object)
+    } else if "listServicesByLocation" == name {
+        read_services_at(alloc, object)
+    } else if "listServices" == name {
+        read_services(alloc, object)
+    } else if "getServiceBoundary" == name {
+        read_boundary(alloc, object)
+    } else {
+        None
+    }
+}
+
+/// `findService` (RFC 5222, section 8).
+fn read_find_service(alloc: Global, object: &Tree<'_, '_>) -> Option<Request>
+    ensures { IfSome result (λ request. find_service_of (members_of object.now) ≡ Some (request_of request)) }
+{
+    let service = required_service(alloc, object)?;
+    let locations = read_locations(alloc, object)?;
+    let validate = read_validate(object)?;
+    let by_value = read_by_value(object)?;
+    let path = read_path(alloc, object)?;
+    Some(Request::FindService {
+        service,
+        locations,
+        validate,
+        by_value,
+        path,
+    })
+}
+
+/// `listServicesByLocation` (RFC 5222, section 11).
+fn read_services_at(alloc: Global, object: &Tree<'_, '_>) -> Option<Request>
+    ensures { IfSome result (λ request. services_at_of (members_of object.now) ≡ Some (request_of request)) }
+{
+    let service = optional_service(alloc, object)?;
+    let locations = read_locations(alloc, object)?;
+    let path = read_path(alloc, object)?;
+    Some(Request::ListServicesByLocation {
+        service,
+        locations,
+        path,
+    })
+}
+
+/// `listServices` (RFC 5222, section 10).
+fn read_services(alloc: Global, object: &Tree<'_, '_>) -> Option<Request>
+    ensures { IfSome result (λ request. services_of (members_of object.now) ≡ Some (request_of request)) }
+{
+    let service = optional_service(alloc, object)?;
+    let path = read_path(alloc, object)?;
+    Some(Request::ListServices { service, path })
+}
+
+/// `getServiceBoundary` (RFC 5222, section 9).
+fn read_boundary(alloc: Global, object: &Tree<'_, '_>) -> Option<Request>
+    ensures { IfSome result (λ request. boundary_of (members_of object.now) ≡ Some (request_of request)) }
+{
+    let key = required_text(object, "key")?;
+    let path = read_path(alloc, object)?;
+    let key = owned(alloc, key)?;
+    Some(Request::GetServiceBoundary { key, path })
+}

@@ -1,0 +1,34 @@
+//! Lines that are read by tokens where they are requests of a common shape, and else by their tree.
+ghost use Rattle.lost_query.specs.Request.{request_of};
+ghost use Rattle.lost_reading.specs.Desk.{desk_line};
+ghost use Rattle.lost_reading.specs.Gives.{Gives};
+ghost use Rattle.lost_reading.specs.Lines.{GivesWhole};
+ghost use Rattle.lost_reading.specs.Requests.{line_request};
+
+use crate::line::read_common;
+use json::Scratch;
+use lost_query::Request;
+use lost_reading::{DeskFault, Line, ReadError};
+use std::alloc::Global;
+
+/// Reads a line (own format) as [`lost_reading::read_line`] does, with its errors, and sooner where it is a request of a
+/// common shape. What `scratch` holds is kept from line to line.
+pub fn read_line(alloc: Global, line: &[u8], scratch: &mut Scratch) -> Result<Line, DeskFault>
+    ensures { GivesWhole result (desk_line line.now) (line_request line.now) }
+{
+    match read_common(alloc, line, scratch) {
+        Some(request) => Ok(Line::Request(request)),
+        None => lost_reading::read_line(alloc, line),
+    }
+}
+
+/// Reads a request line as [`lost_reading::read_request`] does, with its errors, and sooner where its shape is common.
+/// What `scratch` holds is kept from line to line.
+pub fn read_request(alloc: Global, line: &[u8], scratch: &mut Scratch) -> Result<Request, ReadError>
+    ensures { Gives request_of result (line_request line.now) }
+{
+    match read_common(alloc, line, scratch) {
+        Some(request) => Ok(request),
+        None => lost_reading::read_request(alloc, line),
+    }
+}

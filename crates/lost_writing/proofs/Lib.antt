@@ -1,0 +1,4 @@
+pub mod TokenLemmas
+pub mod ShapeLemmas
+pub mod ListLemmas
+pub mod NamedLemmas

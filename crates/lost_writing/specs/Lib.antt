@@ -1,0 +1,6 @@
+pub mod Replies
+pub mod DeskReplies
+pub mod PlainNames
+pub mod Tokens
+pub mod Written
+pub mod Named

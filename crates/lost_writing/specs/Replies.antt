@@ -1,0 +1,179 @@
+-- Reply lines: the tree that each reply is written as. (RFC 5222, sections 8.4, 9 to 11 and 13; own format.)
+use Rattle.std.specs.Prelude.{List, [], ◌∷◌, ◌++◌, map, Option, Some, None, option_map, codes}
+use Rattle.serde_json.specs.Data.{Data, number, string, array, object, unsigned, Members, no_members, member, put}
+use Rattle.serde_json.specs.Find.{of_integer}
+use Rattle.serde_json.specs.View.{items_of}
+use Rattle.serde_json.specs.Written.{compact_text}
+use Rattle.lost_spec.specs.declared.answers.AnswerError.{AnswerError}
+use Rattle.lost_spec.specs.declared.answers.AnswerError.TheVariants.{Loop, LocationProfileUnrecognized, SrsInvalid, LocationInvalid, NotFound, ServiceNotImplemented}
+use Rattle.lost_spec.specs.declared.answers.Warning.{Warning}
+use Rattle.lost_spec.specs.declared.answers.Warning.TheVariants.{ServiceSubstitution, DefaultMappingReturned, LocationValidationUnavailable}
+use Rattle.lost_spec.specs.Text.{Text}
+use Rattle.lost_spec.specs.Service.{Service, service_text}
+use Rattle.lost_spec.specs.Ring.{Point}
+use Rattle.lost_spec.specs.Civic.{Pairs}
+use Rattle.lost_spec.specs.Mapping.{Expires, NoCache, NoExpiration, At, DisplayName, Mapping}
+use Rattle.lost_spec.specs.Validation.{Validation}
+use Rattle.lost_spec.specs.Request.{Boundary, ByReference, ByPolygons, ByPatterns, NoBoundary, ShownMapping, Reply, FindServiceResponse, ListServicesByLocationResponse, ListServicesResponse, GetServiceBoundaryResponse, Errors, BadRequest, InternalError}
+
+-- ---- pieces
+
+-- a list of things, each written in one way
+abbrev pub list_data : {Thing : Type 0} → (Thing → Data) → List Thing → Data
+list_data written things = array (items_of (map written things))
+
+-- a list of texts
+abbrev pub texts_data : List Text → Data
+texts_data texts = list_data string texts
+
+-- a member that stands before others where it is there
+abbrev pub member_if : Text → Option Data → Members → Members
+member_if name None rest = rest
+member_if name (Some value) rest = member name value rest
+
+-- an object with one member
+abbrev pub one_member : Text → Data → Data
+one_member name value = object (member name value no_members)
+
+-- ---- regions (RFC 5222, section 5.5)
+
+abbrev pub position_data : Point → Data
+position_data point = list_data (λ coordinate. number (of_integer coordinate)) (point.lat ∷ point.lon ∷ [])
+
+abbrev pub polygon_data : List Point → Data
+polygon_data polygon =
+    object (member (codes "polygon") (list_data position_data polygon) (member (codes "profile") (string (codes "geodetic-2d")) no_members))
+
+-- the members of pairs, put in one after another, in ascending byte order of their names
+abbrev pub put_pairs : Members → Pairs → Members
+put_pairs members [] = members
+put_pairs members (pair ∷ pairs) = put_pairs (put pair.0 (string pair.1) members) pairs
+
+abbrev pub pattern_data : Pairs → Data
+pattern_data pattern =
+    object (member (codes "pattern") (object (put_pairs no_members pattern)) (member (codes "profile") (string (codes "civic")) no_members))
+
+-- ---- mappings (RFC 5222, section 8.4.1)
+
+abbrev pub expires_text : Expires → Text
+expires_text NoCache = codes "NO-CACHE"
+expires_text NoExpiration = codes "NO-EXPIRATION"
+expires_text (At stamp) = stamp.text
+
+abbrev pub display_name_data : DisplayName → Data
+display_name_data name = object (member (codes "lang") (string name.lang) (member (codes "text") (string name.text) no_members))
+
+-- display names, left out where there are none
+abbrev pub display_names_data : List DisplayName → Option Data
+display_names_data [] = None
+display_names_data (name ∷ names) = Some (list_data display_name_data (name ∷ names))
+
+-- the boundary by value, where it is shown so
+abbrev pub value_data : Boundary → Option Data
+value_data (ByReference key source) = None
+value_data (ByPolygons polygons) = Some (list_data polygon_data polygons)
+value_data (ByPatterns patterns) = Some (list_data pattern_data patterns)
+value_data NoBoundary = None
+
+-- the boundary by reference, where it is shown so
+abbrev pub reference_data : Boundary → Option Data
+reference_data (ByReference key source) = Some (object (member (codes "key") (string key) (member (codes "source") (string source) no_members)))
+reference_data (ByPolygons polygons) = None
+reference_data (ByPatterns patterns) = None
+reference_data NoBoundary = None
+
+-- a mapping with this boundary
+abbrev pub mapping_data : Boundary → Mapping → Data
+mapping_data boundary m =
+    object (member_if (codes "displayName") (display_names_data m.display_names)
+    (member (codes "expires") (string (expires_text m.expires))
+    (member (codes "lastUpdated") (string m.stamp.text)
+    (member (codes "service") (string (service_text m.service))
+    (member_if (codes "serviceBoundary") (value_data boundary)
+    (member_if (codes "serviceBoundaryReference") (reference_data boundary)
+    (member_if (codes "serviceNumber") (option_map string m.number)
+    (member (codes "source") (string m.source)
+    (member (codes "sourceId") (string m.source_id)
+    (member (codes "uri") (texts_data m.uris) no_members))))))))))
+
+abbrev pub shown_data : ShownMapping → Data
+shown_data shown = mapping_data shown.boundary shown.mapping
+
+-- ---- names (RFC 5222, sections 13.1 and 13.2)
+
+abbrev pub error_name : AnswerError → Text
+error_name Loop = codes "loop"
+error_name LocationProfileUnrecognized = codes "locationProfileUnrecognized"
+error_name SrsInvalid = codes "SRSInvalid"
+error_name LocationInvalid = codes "locationInvalid"
+error_name NotFound = codes "notFound"
+error_name ServiceNotImplemented = codes "serviceNotImplemented"
+
+abbrev pub warning_name : Warning → Text
+warning_name ServiceSubstitution = codes "serviceSubstitution"
+warning_name DefaultMappingReturned = codes "defaultMappingReturned"
+warning_name LocationValidationUnavailable = codes "locationValidationUnavailable"
+
+-- warnings, left out where there are none
+abbrev pub warnings_data : List Warning → Option Data
+warnings_data [] = None
+warnings_data (warning ∷ warnings) = Some (list_data (λ w. string (warning_name w)) (warning ∷ warnings))
+
+-- ---- replies
+
+-- the names of an address's elements (RFC 5222, section 8.4.2)
+abbrev pub validation_data : Validation → Data
+validation_data judged =
+    object (member (codes "invalid") (texts_data judged.invalid)
+    (member (codes "unchecked") (texts_data judged.unchecked)
+    (member (codes "valid") (texts_data judged.valid) no_members)))
+
+abbrev pub services_data : List Service → Data
+services_data services = list_data (λ s. string (service_text s)) services
+
+-- all regions of a mapping, polygons first (RFC 5222, section 9)
+abbrev pub regions_data : List (List Point) → List Pairs → Data
+regions_data polygons patterns = array (items_of (map polygon_data polygons ++ map pattern_data patterns))
+
+abbrev pub error_data : Text → Data
+error_data name = one_member (codes "errors") (one_member (codes "error") (string name))
+
+abbrev pub reply_data : Reply → Data
+reply_data (FindServiceResponse edition location_used judged mappings path warnings) =
+    one_member (codes "findServiceResponse") (object
+    (member (codes "edition") (number (unsigned edition))
+    (member (codes "locationUsed") (string location_used)
+    (member_if (codes "locationValidation") (option_map validation_data judged)
+    (member (codes "mapping") (list_data shown_data mappings)
+    (member (codes "path") (texts_data path)
+    (member_if (codes "warnings") (warnings_data warnings) no_members)))))))
+reply_data (ListServicesByLocationResponse edition location_used path services) =
+    one_member (codes "listServicesByLocationResponse") (object
+    (member (codes "edition") (number (unsigned edition))
+    (member (codes "locationUsed") (string location_used)
+    (member (codes "path") (texts_data path)
+    (member (codes "serviceList") (services_data services) no_members)))))
+reply_data (ListServicesResponse edition path services) =
+    one_member (codes "listServicesResponse") (object
+    (member (codes "edition") (number (unsigned edition))
+    (member (codes "path") (texts_data path)
+    (member (codes "serviceList") (services_data services) no_members))))
+reply_data (GetServiceBoundaryResponse edition path polygons patterns) =
+    one_member (codes "getServiceBoundaryResponse") (object
+    (member (codes "edition") (number (unsigned edition))
+    (member (codes "path") (texts_data path)
+    (member (codes "serviceBoundary") (regions_data polygons patterns) no_members))))
+reply_data (Errors edition error) =
+    one_member (codes "errors") (object
+    (member (codes "edition") (number (unsigned edition))
+    (member (codes "error") (string (error_name error)) no_members)))
+reply_data BadRequest = error_data (codes "badRequest")
+reply_data InternalError = error_data (codes "internalError")
+
+-- the line of a tree: its compact text, and byte 10
+abbrev pub line_of : Data → Text
+line_of value = compact_text value ++ 10 ∷ []
+
+-- the line of a reply
+unfoldable pub reply_text : Reply → Text
+reply_text reply = line_of (reply_data reply)

@@ -1,0 +1,96 @@
+//! The desk's replies. Rules without a section are this profile's own.
+ghost use Rattle.std.specs.Prelude.{◌≡◌};
+ghost use Rattle.lost_writing.specs.DeskReplies.{desk_text, IsCode, IsInTable, refusal_name as refusal_name_of};
+ghost use Rattle.lost_writing.specs.PlainNames.{IsPlainName};
+
+use lost_text::DeskText;
+
+/// A reply to a desk line (own format).
+#[derive(Clone, Copy, PartialEq, Eq, Debug)]
+pub enum DeskReply {
+    /// The edit is staged; so many edits are pending.
+    Staged(u64),
+    /// All pending edits are published; so many edits were accepted in all.
+    Committed(u64),
+    /// The line is refused, with the number of the refusal.
+    Refused(u8),
+}
+
+/// The name of a refusal, from 1 to 20.
+#[tactic(auto, unfolding(serde_json::proofs::OnLiterals::serde_json_on_literals))]
+fn refusal_name(code: u8) -> &'static str
+    requires { IsCode code }
+    ensures name { result.now ≡ refusal_name_of code }
+    ensures plain { IsPlainName result.now }
+{
+    match code {
+        1 => "BadLine",
+        2 => "BadSource",
+        3 => "BadSourceId",
+        4 => "BadStamp",
+        5 => "BadExpires",
+        6 => "BadService",
+        7 => "BadUri",
+        8 => "BadNumber",
+        9 => "BadRegion",
+        10 => "RegionMissing",
+        11 => "TooLarge",
+        12 => "BadKey",
+        13 => "IdentityHeld",
+        14 => "IdentityUnknown",
+        15 => "NotNewer",
+        16 => "KeyHeld",
+        17 => "KeyUnchanged",
+        18 => "Full",
+        19 => "EditsSpent",
+        _ => "Memory",
+    }
+}
+
+#[tactic(auto, unfolding(crate::specs::DeskReplies::desk_text, serde_json::proofs::OnLiterals::serde_json_on_literals))]
+fn write_staged(pending: u64) -> DeskText
+    ensures { result ≡ desk_text (DeskReply.Staged pending) }
+{
+    let mut text = DeskText::new();
+    text.push(b"{\"staged\":{\"pending\":");
+    text.push_number(pending);
+    text.push(b"}}\n");
+    text
+}
+
+#[tactic(auto, unfolding(crate::specs::DeskReplies::desk_text, serde_json::proofs::OnLiterals::serde_json_on_literals))]
+fn write_committed(edition: u64) -> DeskText
+    ensures { result ≡ desk_text (DeskReply.Committed edition) }
+{
+    let mut text = DeskText::new();
+    text.push(b"{\"committed\":{\"edition\":");
+    text.push_number(edition);
+    text.push(b"}}\n");
+    text
+}
+
+#[tactic(auto, unfolding(crate::specs::DeskReplies::desk_text, serde_json::proofs::OnLiterals::serde_json_on_literals))]
+fn write_refused(code: u8) -> DeskText
+    requires { IsCode code }
+    ensures { result ≡ desk_text (DeskReply.Refused code) }
+{
+    let mut text = DeskText::new();
+    text.push(b"{\"refused\":{\"code\":");
+    text.push_number(u64::from(code));
+    text.push(b",\"name\":\"");
+    text.push(refusal_name(code).as_bytes());
+    text.push(b"\"}}\n");
+    text
+}
+
+/// Writes a desk's reply. The caller has: a refusal is one of the table, 1 to 20.
+pub fn write_desk(reply: &DeskReply) -> DeskText
+    requires { IsInTable reply.now }
+    ensures { result ≡ desk_text reply.now }
+{
+    match reply {
+        DeskReply::Staged(pending) => write_staged(*pending),
+        DeskReply::Committed(edition) => write_committed(*edition),
+        DeskReply::Refused(code) => write_refused(*code),
+    }
+}

@@ -1,0 +1,12 @@
+//! Lines of replies (own format over RFC 5222): to requests, and to what the map desk orders.
+#![tactic(auto)]
+
+mod constant_lines;
+mod desk_reply;
+mod token_text;
+mod writing;
+
+pub use constant_lines::{BAD_REQUEST, INTERNAL_ERROR, law_constant_lines};
+pub use desk_reply::{DeskReply, write_desk};
+pub use lost_text::DeskText;
+pub use writing::write_reply;

@@ -1,0 +1,59 @@
+//! Lists of things, each written in one way.
+ghost use Rattle.std.specs.Prelude.{◌≡◌, map, OnOk};
+ghost use Rattle.serde_json.specs.Data.{string};
+ghost use Rattle.lost_mapping.specs.Texts.{texts_of};
+ghost use Rattle.lost_writing.specs.Replies.{list_data, texts_data};
+ghost use Rattle.lost_writing.specs.Tokens.{then_value, then_values};
+
+use crate::token_text::TokenText;
+use std::alloc::AllocError;
+
+/// What is written as a tree (own format).
+pub(crate) trait Written {
+    ghost use Rattle.serde_json.specs.Data.{Data};
+
+    /// The tree that it is written as.
+    ghost tree: { Self → Data };
+
+    /// Writes its tokens, or wants memory.
+    fn write(&self, text: &mut TokenText) -> Result<(), AllocError>
+        ensures { OnOk result (text.new ≡ then_value (tree self.now) text.old) };
+}
+
+impl Written for String {
+    ghost use Rattle.std.specs.Prelude.{string_bytes};
+
+    ghost tree = { λ text. string (string_bytes text) };
+
+    fn write(&self, text: &mut TokenText) -> Result<(), AllocError> {
+        text.text(self.as_str())
+    }
+}
+
+/// Writes each thing, without the brackets of a list.
+#[tactic(auto, using(crate::proofs::TokenLemmas::values_more))]
+pub(crate) fn write_each<T: Written>(text: &mut TokenText, things: &[T]) -> Result<(), AllocError>
+    ensures { OnOk result (text.new ≡ then_values (map T.tree things.now) text.old) }
+{
+    for thing in things {
+        thing.write(text)?;
+    }
+    Ok(())
+}
+
+/// Writes the list of these things.
+#[tactic(auto, using(crate::proofs::TokenLemmas::list_written))]
+pub(crate) fn write_list<T: Written>(text: &mut TokenText, things: &[T]) -> Result<(), AllocError>
+    ensures { OnOk result (text.new ≡ then_value (list_data T.tree things.now) text.old) }
+{
+    text.begin_list()?;
+    write_each(text, things)?;
+    text.end_list()
+}
+
+/// Writes the list of these texts.
+pub(crate) fn write_texts(text: &mut TokenText, texts: &[String]) -> Result<(), AllocError>
+    ensures { OnOk result (text.new ≡ then_value (texts_data (texts_of texts.now)) text.old) }
+{
+    write_list(text, texts)
+}
