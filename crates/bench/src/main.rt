@@ -2,6 +2,7 @@
 //! replayed once, and the number of its replies is printed, so that the gate runs the same code.
 #![tactic(auto)]
 
+mod crowds;
 mod measures;
 mod streams;
 

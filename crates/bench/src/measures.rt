@@ -2,7 +2,9 @@
 ghost use Rattle.std.specs.Prelude.{◌≡◌, IfSome, length};
 ghost use Rattle.lost_lines.specs.Cutting.{lines_of};
 
+use crate::crowds::{Crowd, repeated};
 use crate::streams::{joined, long_requests, publishes, requests};
+use lost_lines::MAX_LINE;
 use lost_mapping::{Moment, Source};
 use lost_server::{Turns, Watched, replay};
 use std::alloc::Global;
@@ -17,6 +19,12 @@ const MAPPINGS: [u32; 3] = [10, 100, 1_000];
 const REQUESTS: u32 = 20_000;
 
 const LONG_REQUESTS: u32 = 20;
+
+/// What lines are crowded with.
+const CROWDS: [Crowd; 2] = [Crowd::Uris, Crowd::Locations];
+
+/// A crowded line of the greatest length is compared with so many that are as much shorter.
+const PARTS: u32 = 16;
 
 /// Replays each stream once, shorter, and prints how many replies it has.
 pub(crate) fn print_counts<R: Print + AllocGlobal>(rt: &R) -> io::Result<()> {
@@ -36,7 +44,16 @@ pub(crate) fn print_counts<R: Print + AllocGlobal>(rt: &R) -> io::Result<()> {
     println!(rt;
         "lines of 1 MiB: {} replies",
         replies(alloc, stream.as_slice())?
-    )
+    )?;
+    for crowd in CROWDS {
+        let stream = crowd.line(alloc, MAX_LINE)?;
+        println!(rt;
+            "1 MiB of {}: {} replies",
+            crowd.word(),
+            replies(alloc, stream.as_slice())?
+        )?;
+    }
+    Ok(())
 }
 
 /// Measures, and prints the ratios.
@@ -66,6 +83,31 @@ pub(crate) fn print_ratios<R: Print + Clock + AllocGlobal>(rt: &R) -> io::Result
     println!(rt;
         "lines of 1 MiB: {speed} lines a second, so as many MiB; one takes as long as {} lines at 10 mappings",
         first.checked_div(speed).unwrap_or(0)
+    )?;
+    for crowd in CROWDS {
+        print_crowd(rt, crowd, microseconds(rt, asked.as_slice())?)?;
+    }
+    Ok(())
+}
+
+/// Measures lines that are crowded, and prints how long they take beside as many plain lines of the same length, and
+/// beside shorter lines with as many bytes.
+fn print_crowd<R: Print + Clock + AllocGlobal>(rt: &R, crowd: Crowd, plain: u64) -> io::Result<()> {
+    let alloc = rt.alloc();
+    let part = MAX_LINE.checked_div(PARTS as usize).unwrap_or(0);
+    let long = crowd.line(alloc, MAX_LINE)?;
+    let short = crowd.line(alloc, part)?;
+    let whole = microseconds(
+        rt,
+        repeated(alloc, long.as_slice(), LONG_REQUESTS)?.as_slice(),
+    )?;
+    let parts = LONG_REQUESTS.saturating_mul(PARTS);
+    let in_parts = microseconds(rt, repeated(alloc, short.as_slice(), parts)?.as_slice())?;
+    println!(rt;
+        "lines of 1 MiB of {}: {} of a hundred of the time of plain ones, {} of a hundred of that of {PARTS} times as many lines that are as much shorter",
+        crowd.word(),
+        share(whole, plain),
+        share(whole, in_parts)
     )
 }
 

@@ -1,11 +1,9 @@
 //! Streams to replay: mappings side by side, and requests that ask for each in turn.
+use lost_lines::MAX_LINE;
 use std::alloc::{AllocError, Global};
 
 /// The side of a mapping's square, in 1e-7 degrees.
 const SIDE: u32 = 10_000;
-
-/// The bytes of a line of the greatest length.
-const LONGEST: usize = 1_048_576;
 
 /// Publishes of so many mappings, and a commit.
 pub(crate) fn publishes(alloc: Global, mappings: u32) -> Result<Vec<u8>, AllocError> {
@@ -36,7 +34,7 @@ pub(crate) fn long_requests(alloc: Global, requests: u32) -> Result<Vec<u8>, All
     for _ in 0..requests {
         let line = request(alloc, 0)?;
         push(&mut stream, line.as_str())?;
-        for _ in line.len()..LONGEST {
+        for _ in line.len()..MAX_LINE {
             stream.push(b' ')?;
         }
         push(&mut stream, "\n")?;
@@ -52,7 +50,8 @@ pub(crate) fn joined(first: &[u8], second: &[u8], alloc: Global) -> Result<Vec<u
     Ok(stream)
 }
 
-fn push(stream: &mut Vec<u8>, text: &str) -> Result<(), AllocError> {
+/// Appends a text.
+pub(crate) fn push(stream: &mut Vec<u8>, text: &str) -> Result<(), AllocError> {
     Ok(stream.extend_from_slice(text.as_bytes())?)
 }
 

@@ -41,6 +41,7 @@ impl Shelf {
     ) -> Result<String, Trouble> {
         match call {
             "book limits" => new_limits(alloc, limits(fields)?),
+            "book widest limits" => new_limits(alloc, Some(Limits::widest())),
             "book new" => {
                 let limits = limits(fields)?.ok_or(Trouble::NoCase)?;
                 self.book = Some(Book::new(alloc, limits)?);
@@ -139,8 +140,8 @@ fn apply(alloc: Global, book: &mut Book, edit: Edit) -> Result<String, Trouble> 
 /// The edition, the length, and each mapping's sourceId, key and stamp.
 fn held(alloc: Global, book: &Book) -> Result<String, Trouble> {
     let mut text = format!(in alloc; "edition {}, {} held:", book.edition(), book.len())?;
-    for place in 0..book.len() {
-        let mapping = book.mapping(place);
+    for position in 0..book.len() {
+        let mapping = book.mapping(position);
         for part in [
             mapping.identity().source_id(),
             mapping.key().unwrap_or("-"),
@@ -160,8 +161,8 @@ fn asked(alloc: Global, book: &Book, call: &str, fields: &Fields) -> Result<Stri
     }
     let moment = stamp(alloc, fields.bytes(1)?)?.moment();
     let text = fields.text(2)?;
-    let places = match call {
-        "book key" => return place(alloc, Holdings::by_key(book, &moment, text)),
+    let positions = match call {
+        "book key" => return shown_position(alloc, Holdings::by_key(book, &moment, text)),
         "book implemented" => {
             let service = service(alloc, text.as_bytes())?;
             return owned(
@@ -178,7 +179,7 @@ fn asked(alloc: Global, book: &Book, call: &str, fields: &Fields) -> Result<Stri
         "book of" => Holdings::of_service(book, &moment, &service(alloc, text.as_bytes())?)?,
         _ => return Err(Trouble::NoCase),
     };
-    ids(alloc, book, places.as_slice())
+    ids(alloc, book, positions.as_slice())
 }
 
 /// A point, or an address where there is a `=`.
@@ -190,22 +191,22 @@ fn place_of(alloc: Global, text: &str) -> Result<Place, Trouble> {
     }
 }
 
-fn place(alloc: Global, place: Option<usize>) -> Result<String, Trouble> {
-    match place {
-        Some(place) => Ok(format!(in alloc; "{place}")?),
+fn shown_position(alloc: Global, position: Option<usize>) -> Result<String, Trouble> {
+    match position {
+        Some(position) => Ok(format!(in alloc; "{position}")?),
         None => owned(alloc, "none"),
     }
 }
 
 /// The sourceIds of the mappings at these positions, or a dash where there is none.
-fn ids(alloc: Global, book: &Book, places: &[usize]) -> Result<String, Trouble> {
-    if places.is_empty() {
+fn ids(alloc: Global, book: &Book, positions: &[usize]) -> Result<String, Trouble> {
+    if positions.is_empty() {
         return owned(alloc, "-");
     }
     let mut text = String::new(alloc);
-    for place in places {
-        if *place < book.len() {
-            text.push_str(book.mapping(*place).identity().source_id())?;
+    for position in positions {
+        if *position < book.len() {
+            text.push_str(book.mapping(*position).identity().source_id())?;
         }
     }
     Ok(text)

@@ -1,7 +1,7 @@
 //! Calls of lost_civic.
 use crate::fields::Fields;
 use crate::trouble::Trouble;
-use crate::words::{compared, owned, push_pairs, refused, text_pairs, yes_or_no};
+use crate::words::{checked, compared, owned, push_pairs, refused, text_pairs, yes_or_no};
 use lost_civic::{CivicAddress, CivicError, CivicPattern, Element};
 use std::alloc::Global;
 
@@ -17,6 +17,16 @@ pub(crate) fn said(alloc: Global, call: &str, fields: &Fields) -> Result<String,
         }
         "civic address" => new_address(alloc, text),
         "civic pattern" => new_pattern(alloc, text),
+        "civic address check" => {
+            let pairs = text_pairs(alloc, text, ';')?;
+            let fault = CivicAddress::check(pairs.as_slice()).err();
+            checked(alloc, fault.map(CivicError::code))
+        }
+        "civic pattern check" => {
+            let pairs = text_pairs(alloc, text, ';')?;
+            let fault = CivicPattern::check(pairs.as_slice()).err();
+            checked(alloc, fault.map(CivicError::code))
+        }
         "civic same addresses" => {
             let other = address(alloc, fields.text(2)?)?;
             owned(alloc, compared(&address(alloc, text)?, &other))
@@ -54,8 +64,8 @@ fn pattern(alloc: Global, text: &str) -> Result<CivicPattern, Trouble> {
 /// The names of all elements, each behind a space, as far as each stands at its index.
 fn elements(alloc: Global) -> Result<String, Trouble> {
     let mut text = String::new(alloc);
-    for (place, element) in Element::ALL.iter().enumerate() {
-        if element.index() == place {
+    for (position, element) in Element::ALL.iter().enumerate() {
+        if element.index() == position {
             text.push_str(" ")?;
             text.push_str(element.name())?;
         }

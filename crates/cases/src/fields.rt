@@ -27,26 +27,26 @@ impl Fields {
         }
     }
 
-    /// The field at a place, from 0, where the call stands.
-    pub(crate) fn bytes(&self, place: usize) -> Result<&[u8], Trouble> {
-        match self.fields.get(place) {
+    /// The field at a position, from 0, where the call stands.
+    pub(crate) fn bytes(&self, position: usize) -> Result<&[u8], Trouble> {
+        match self.fields.get(position) {
             Some(field) => Ok(field.as_slice()),
             None => Err(Trouble::NoCase),
         }
     }
 
-    /// The field at a place as text.
-    pub(crate) fn text(&self, place: usize) -> Result<&str, Trouble> {
-        str::from_utf8(self.bytes(place)?).map_err(|_| Trouble::NoCase)
+    /// The field at a position as text.
+    pub(crate) fn text(&self, position: usize) -> Result<&str, Trouble> {
+        str::from_utf8(self.bytes(position)?).map_err(|_| Trouble::NoCase)
     }
 
-    /// The field at a place as a number.
-    pub(crate) fn number(&self, place: usize) -> Result<i64, Trouble> {
-        self.text(place)?.parse().map_err(|_| Trouble::NoCase)
+    /// The field at a position as a number.
+    pub(crate) fn number(&self, position: usize) -> Result<i64, Trouble> {
+        self.text(position)?.parse().map_err(|_| Trouble::NoCase)
     }
 
-    /// The field at a place as a number that is not negative.
-    pub(crate) fn count(&self, place: usize) -> Result<u64, Trouble> {
-        self.text(place)?.parse().map_err(|_| Trouble::NoCase)
+    /// The field at a position as a number that is not negative.
+    pub(crate) fn count(&self, position: usize) -> Result<u64, Trouble> {
+        self.text(position)?.parse().map_err(|_| Trouble::NoCase)
     }
 }

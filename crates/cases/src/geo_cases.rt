@@ -2,7 +2,7 @@
 use crate::fields::Fields;
 use crate::trouble::Trouble;
 use crate::words::{compared, number_pair, number_pairs, owned, refused, yes_or_no};
-use lost_geo::{GeoPoint, Polygon};
+use lost_geo::{GeoPoint, Polygon, is_ring};
 use std::alloc::Global;
 
 /// What a call gives.
@@ -12,6 +12,10 @@ pub(crate) fn said(alloc: Global, call: &str, fields: &Fields) -> Result<String,
         "geo point" => new_point(alloc, number_pair(text)?),
         "geo same" => owned(alloc, compared(&point(text)?, &point(fields.text(2)?)?)),
         "geo ring" => new_ring(alloc, text),
+        "geo is ring" => {
+            let positions = number_pairs(alloc, text)?;
+            owned(alloc, yes_or_no(is_ring(positions.as_slice())))
+        }
         "geo positions" => shown_positions(alloc, polygon(alloc, text)?.positions()),
         "geo bounds" => shown_bounds(alloc, &polygon(alloc, text)?),
         "geo inside" => {

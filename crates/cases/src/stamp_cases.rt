@@ -1,7 +1,7 @@
 //! Calls of lost_mapping that need no mapping: stamps, instants, sources and identities.
 use crate::fields::Fields;
 use crate::trouble::Trouble;
-use crate::words::{compared, owned, refused};
+use crate::words::{checked, compared, owned, refused, yes_or_no};
 use lost_mapping::{Identity, MappingError, Moment, Source, SourceError, Stamp, StampError};
 use std::alloc::Global;
 
@@ -9,12 +9,17 @@ use std::alloc::Global;
 pub(crate) fn said(alloc: Global, call: &str, fields: &Fields) -> Result<String, Trouble> {
     match call {
         "stamp" => new_stamp(alloc, fields.bytes(1)?),
+        "stamp check" => owned(alloc, yes_or_no(Stamp::is_stamp(fields.bytes(1)?))),
         "source" => new_source(alloc, fields.bytes(1)?),
         "same sources" => {
             let other = source(alloc, fields.bytes(2)?)?;
             owned(alloc, compared(&source(alloc, fields.bytes(1)?)?, &other))
         }
         "identity" => new_identity(alloc, fields.text(1)?, fields.text(2)?),
+        "identity check" => {
+            let fault = Identity::check(fields.text(1)?, fields.text(2)?).err();
+            checked(alloc, fault.map(MappingError::code))
+        }
         "same identities" => {
             let other = identity(alloc, fields.text(3)?, fields.text(4)?)?;
             let one = identity(alloc, fields.text(1)?, fields.text(2)?)?;
@@ -102,10 +107,10 @@ fn new_identity(alloc: Global, source: &str, id: &str) -> Result<String, Trouble
     }
 }
 
-/// The instant of a day and a nanosecond, which stand from a place on.
-fn moment(fields: &Fields, place: usize) -> Result<Option<Moment>, Trouble> {
-    let day = i32::try_from(fields.number(place)?).map_err(|_| Trouble::NoCase)?;
-    let nanosecond = fields.count(place.saturating_add(1))?;
+/// The instant of a day and a nanosecond, which stand from a position on.
+fn moment(fields: &Fields, position: usize) -> Result<Option<Moment>, Trouble> {
+    let day = i32::try_from(fields.number(position)?).map_err(|_| Trouble::NoCase)?;
+    let nanosecond = fields.count(position.saturating_add(1))?;
     Ok(Moment::new(day, nanosecond))
 }
 

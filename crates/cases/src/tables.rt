@@ -37,15 +37,15 @@ pub(crate) fn is_as_wanted<R: Files + Print + AllocGlobal>(rt: &R, name: &str) -
         if line.is_empty() || line.starts_with('#') {
             continue;
         }
-        let place = number.saturating_add(1);
+        let line_number = number.saturating_add(1);
         match judge(rt.alloc(), &mut shelf, line) {
             Ok(None) => count = count.saturating_add(1),
             Ok(Some(said)) => {
-                println!(rt; "{name}, line {place}, gives {said}")?;
+                println!(rt; "{name}, line {line_number}, gives {said}")?;
                 all = false;
             }
             Err(trouble) => {
-                println!(rt; "{name}, line {place}: {trouble}")?;
+                println!(rt; "{name}, line {line_number}: {trouble}")?;
                 return Ok(false);
             }
         }

@@ -1,7 +1,9 @@
 //! Calls of lost_urn.
+ghost use Rattle.std.specs.Prelude.{◌≤◌, IfOk, length};
+
 use crate::fields::Fields;
 use crate::trouble::Trouble;
-use crate::words::{compared, copy_of, owned, refused, yes_or_no};
+use crate::words::{checked, compared, copy_of, owned, refused, yes_or_no};
 use lost_urn::{ServiceUrn, UrnError};
 use std::alloc::Global;
 use std::cmp::Ordering;
@@ -11,7 +13,9 @@ pub(crate) fn said(alloc: Global, call: &str, fields: &Fields) -> Result<String,
     let text = fields.bytes(1)?;
     match call {
         "urn parse" => parse(alloc, text),
+        "urn check" => checked(alloc, ServiceUrn::check(text).err().map(UrnError::code)),
         "urn cut" => cut(alloc, &service(alloc, text)?, fields.count(2)?),
+        "urn front" => front(alloc, &service(alloc, text)?, fields.count(2)?),
         "urn at or below" => {
             let other = service(alloc, fields.bytes(2)?)?;
             owned(
@@ -52,11 +56,23 @@ fn shown(alloc: Global, service: &ServiceUrn) -> Result<String, Trouble> {
     Ok(format!(in alloc; "{text} {depth} {same}")?)
 }
 
-fn cut(alloc: Global, service: &ServiceUrn, labels: u64) -> Result<String, Trouble> {
+/// A number of labels that the service has, of which there is at least one.
+fn some_labels(service: &ServiceUrn, labels: u64) -> Result<usize, Trouble>
+    ensures { IfOk result (λ n. (1 ≤ n) × (n ≤ length service.now)) }
+{
     let labels = usize::try_from(labels).map_err(|_| Trouble::NoCase)?;
     if labels < 1 || labels > service.depth() {
         return Err(Trouble::NoCase);
     }
+    Ok(labels)
+}
+
+fn front(alloc: Global, service: &ServiceUrn, labels: u64) -> Result<String, Trouble> {
+    owned(alloc, service.front(some_labels(service, labels)?))
+}
+
+fn cut(alloc: Global, service: &ServiceUrn, labels: u64) -> Result<String, Trouble> {
+    let labels = some_labels(service, labels)?;
     let front = service.cut(labels)?;
     let (text, depth) = (front.text(), front.depth());
     Ok(format!(in alloc; "{text} {depth}")?)

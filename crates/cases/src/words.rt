@@ -3,6 +3,14 @@ use crate::trouble::Trouble;
 use std::alloc::Global;
 use std::hash::{DefaultHasher, Hash, Hasher};
 
+/// `passes`, or the number of a refusal.
+pub(crate) fn checked(alloc: Global, refusal: Option<u8>) -> Result<String, Trouble> {
+    match refusal {
+        Some(code) => refused(alloc, code),
+        None => owned(alloc, "passes"),
+    }
+}
+
 /// A text of its own.
 pub(crate) fn owned(alloc: Global, text: &str) -> Result<String, Trouble> {
     Ok(String::from_str(alloc, text)?)

@@ -3,7 +3,7 @@ use Rattle.std.specs.Prelude.{◌≡◌, [], ◌∷◌, ◌++◌, Some, Ok, code
 use Rattle.lost_spec.specs.Text.{Text}
 use Rattle.lost_spec.specs.Book.{Publish as PublishEdit}
 use Rattle.lost_spec.specs.Examples.{usual_limits, server, now, mapping_a}
-use Rattle.lost_json.specs.Desk.{Stage as StageOrder, desk_line}
+use Rattle.lost_reading.specs.Desk.{Stage as StageOrder, desk_line}
 use Rattle.lost_core.specs.World.{Replying, Stage, Publish, Enter, Tell, Answer, Staged, Published, Entered, Told, Replied, NoWorker, World, events}
 use Rattle.lost_core.specs.Values.{replies_of}
 

@@ -16,7 +16,7 @@ mod version;
 mod view;
 
 /// The book in each copy.
-pub type CopyBook = lost_book::Book;
+pub type CopyBook = lost_routing::Routing;
 
 pub use desk::Desk;
 pub use faults::{CommitError, OpenError};

@@ -8,7 +8,7 @@ use crate::answerer::{Answer, Answerer};
 use std::alloc::Global;
 
 /// The most bytes of a line, its byte 10 not counted.
-const MAX_LINE: usize = 1_048_576;
+pub const MAX_LINE: usize = 1_048_576;
 
 /// The line that is being read: its bytes while they are within the limit and memory was not refused, and their number,
 /// which stops at one more than the limit. What is kept is never over the limit.

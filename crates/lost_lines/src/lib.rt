@@ -15,6 +15,7 @@ mod watched;
 
 pub use answerer::{Answer, Answerer, Text};
 pub use counts::Counts;
+pub use cutter::MAX_LINE;
 pub use fault::ServeError;
 pub use lines::run_lines;
 pub use turns::{Turns, law_usual_turns};

@@ -9,10 +9,10 @@ use Rattle.std.proofs.lemmas.List.Sums.{fold-append}
 use Rattle.lost_spec.specs.Text.{Text}
 use Rattle.lost_spec.specs.Moment.{Instant}
 use Rattle.lost_spec.specs.Book.{Book, Edit, refusal, after, changed}
-use Rattle.lost_json.specs.declared.desk.DeskFault.{DeskFault}
-use Rattle.lost_json.specs.declared.desk_reply.DeskReply.TheVariants.{Committed}
-use Rattle.lost_json.specs.Desk.{Order, Stage, Commit, desk_line}
-use Rattle.lost_json.specs.DeskReplies.{desk_text}
+use Rattle.lost_reading.specs.declared.desk.DeskFault.{DeskFault}
+use Rattle.lost_writing.specs.declared.desk_reply.DeskReply.TheVariants.{Committed}
+use Rattle.lost_reading.specs.Desk.{Order, Stage, Commit, desk_line}
+use Rattle.lost_writing.specs.DeskReplies.{desk_text}
 use Rattle.lost_lines.specs.Cutting.{is_long}
 use Rattle.lost_lines.specs.Run.{Cut, Whole, TooLong, Unread, Reply, IsCut, Run, text_of, memory_count}
 use Rattle.lost_server.specs.Stream.{edit_text, Mark, Unmarked, ShortOfMemory, RefusedMemory, Line, is_good, is_unmarked, widest, book, staged_edit, is_commit_order, edit_of_line, is_commit, keep, kept_of, accepted, published_from, published, order_text, unmarked_text, marked_text, text_after, texts_after, IsTaken, IsMark, AreMarksAfter}
@@ -26,7 +26,7 @@ book_push : (es : List Edit) (e : Edit) → book (es ++ e ∷ []) ≡ after (boo
 book_push es e = fold-append after _ es (e ∷ [])
 
 -- a book is as it was after an edit that it refuses, and one edit further after one that it accepts
-after_refused : (b : Book) (e : Edit) → is_none (refusal b e) ≡ false → after b e ≡ b
+pub after_refused : (b : Book) (e : Edit) → is_none (refusal b e) ≡ false → after b e ≡ b
 after_refused b e refused = rw refused refl
 
 after_accepted : (b : Book) (e : Edit) → is_none (refusal b e) ≡ true → after b e ≡ changed b e

@@ -1,4 +1,5 @@
 pub mod Stream
 pub mod Step
+pub mod Pair
 pub mod Replay
 pub mod Replayer

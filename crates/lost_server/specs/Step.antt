@@ -3,10 +3,10 @@ use Rattle.std.specs.Prelude.{◌≡◌, ℕ, ◌-◌, Bool, true, false, Option
 use Rattle.lost_spec.specs.Text.{Text}
 use Rattle.lost_spec.specs.Moment.{Instant}
 use Rattle.lost_spec.specs.Book.{Book, Edit, refusal, after}
-use Rattle.lost_json.specs.declared.desk.DeskFault.{DeskFault}
-use Rattle.lost_json.specs.declared.desk_reply.DeskReply.TheVariants.{Staged, Committed}
-use Rattle.lost_json.specs.Desk.{Order, Stage, Commit, desk_line, desk_fault_code}
-use Rattle.lost_json.specs.DeskReplies.{desk_text}
+use Rattle.lost_reading.specs.declared.desk.DeskFault.{DeskFault}
+use Rattle.lost_writing.specs.declared.desk_reply.DeskReply.TheVariants.{Staged, Committed}
+use Rattle.lost_reading.specs.Desk.{Order, Stage, Commit, desk_line, desk_fault_code}
+use Rattle.lost_writing.specs.DeskReplies.{desk_text}
 use Rattle.lost_json.specs.Line.{line_reply}
 use Rattle.lost_lines.specs.Run.{Cut, Whole, TooLong, Unread, Reply}
 use Rattle.lost_server.specs.Stream.{Mark, Unmarked, ShortOfMemory, RefusedMemory, IsTaken, edit_text, refused_text, bad_request, internal_error}

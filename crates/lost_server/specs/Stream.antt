@@ -7,11 +7,12 @@ use Rattle.lost_spec.specs.Codes.{edit_code}
 use Rattle.lost_spec.specs.Moment.{Instant}
 use Rattle.lost_spec.specs.Book.{Limits, Book, Edit, refusal, book_of}
 use Rattle.lost_spec.specs.Request.{BadRequest, InternalError}
-use Rattle.lost_json.specs.declared.desk.DeskFault.{DeskFault}
-use Rattle.lost_json.specs.declared.desk_reply.DeskReply.TheVariants.{Staged, Committed, Refused}
-use Rattle.lost_json.specs.Desk.{Order, Stage, Commit, desk_line, desk_fault_code}
-use Rattle.lost_json.specs.DeskReplies.{desk_text}
-use Rattle.lost_json.specs.Replies.{reply_text}
+use Rattle.lost_book.specs.Bounds.{widest as widest_limits}
+use Rattle.lost_reading.specs.declared.desk.DeskFault.{DeskFault}
+use Rattle.lost_writing.specs.declared.desk_reply.DeskReply.TheVariants.{Staged, Committed, Refused}
+use Rattle.lost_reading.specs.Desk.{Order, Stage, Commit, desk_line, desk_fault_code}
+use Rattle.lost_writing.specs.DeskReplies.{desk_text}
+use Rattle.lost_writing.specs.Replies.{reply_text}
 use Rattle.lost_json.specs.Line.{line_reply}
 use Rattle.lost_lines.specs.Cutting.{is_long}
 
@@ -42,7 +43,7 @@ is_good line = is_unmarked line.mark && not (is_long line.text)
 
 -- the limits of the books: as many mappings and edits as there may be
 abbrev pub widest : Limits
-widest = record { mappings = 65_536; edits = 4_294_967_295 }
+widest = widest_limits
 
 abbrev pub book : List Edit → Book
 book es = book_of widest es

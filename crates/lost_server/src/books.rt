@@ -1,37 +1,31 @@
 //! The book that is published, and the book of what is staged too. Rules without a section are this profile's own.
 ghost use Rattle.std.specs.Prelude.{◌≡◌, ◌≢◌, ◌-◌, false, None, Some, Ok, Err, IfOk, IsErr, Option, Result};
+ghost use Rattle.std.specs.Result.{result_err};
 ghost use Rattle.lost_spec.specs.Text.{Text};
 ghost use Rattle.lost_spec.specs.Moment.{Instant};
 ghost use Rattle.lost_spec.specs.Book.{empty_book};
 ghost use Rattle.lost_book.specs.Edit.{edit_of};
-ghost use Rattle.lost_json.specs.Desk.{Stage, Commit};
+ghost use Rattle.lost_query.specs.Request.{request_of};
+ghost use Rattle.lost_reading.specs.Desk.{Stage, Commit};
+ghost use Rattle.lost_reading.specs.Requests.{line_request};
 ghost use Rattle.lost_lines.specs.Answer.{reply_of};
 ghost use Rattle.lost_server.specs.Stream as stream;
 ghost use Rattle.lost_server.specs.Step.{IsAnswered};
 
-use crate::replies::{desk_answer, internal_error};
-use lost_book::{Book, Edit, EditError, Limits};
-use lost_json::{DeskFault, DeskReply, reply_line};
+use crate::pair::Pair;
+use crate::replies::{bad_request, desk_answer, internal_error};
+use lost_book::{Edit, EditError, Limits};
+use lost_json::{DeskReply, reply_request};
 use lost_lines::{Answer, Text as ReplyText};
 use lost_mapping::{Moment, Source};
+use lost_query::Request;
 use std::alloc::{AllocError, Global};
 use std::marker::Model;
 
-/// The most mappings that are held.
-const MAX_MAPPINGS: u32 = 65_536;
-
-/// The most edits that are accepted.
-const MAX_EDITS: u32 = 4_294_967_295;
-
-/// The number of the refusal for want of memory.
-const MEMORY: u8 = 20;
-
-/// The book that requests are answered from, and the book that edits are staged in. A commit puts a copy of
-/// the staged one in the place of the published one. Contracts see it as the record `Books`.
+/// The two books of a replay. Contracts see them as the record `Books`.
 #[derive(Drop)]
 pub(crate) struct Books {
-    published: Book,
-    staged: Book,
+    pair: Pair,
 }
 
 impl Model for Books {
@@ -39,7 +33,7 @@ impl Model for Books {
 
     ghost Value = { spec.Books };
 
-    ghost view = { λ b. record { published = b.published; staged = b.staged } };
+    ghost view = { λ b. b.pair };
 }
 
 impl Books {
@@ -49,8 +43,7 @@ impl Books {
             books ≡ record { published = empty_book stream.widest; staged = empty_book stream.widest }) }
     {
         Ok(Books {
-            published: Book::new(alloc, widest())?,
-            staged: Book::new(alloc, widest())?,
+            pair: Pair::new(alloc, Limits::widest())?,
         })
     }
 
@@ -60,60 +53,47 @@ impl Books {
             IsAnswered name t self.old line (Some (Ok (Stage (edit_of edit)))) (reply_of result) self.new }
         ensures desk_reply { (reply_of result).is_internal_error ≡ false }
     {
-        match self.staged.apply(edit) {
-            Ok(()) => desk_answer(DeskReply::Staged(self.pending())),
-            Err(error) if error == EditError::Memory => desk_answer(DeskReply::Refused(MEMORY)),
+        let staged = self.pair.stage(edit);
+        self.edit_answer(staged)
+    }
+
+    /// Answers for an edit that was staged or refused: its refusal, or how many edits are staged and not published. Want
+    /// of memory is code 20.
+    pub(crate) fn edit_answer(&self, staged: Result<(), EditError>) -> Answer
+        ensures told { reply_of result ≡ record {
+          text = stream.edit_text (result_err staged) (self.now.staged.edits - self.now.published.edits);
+          is_internal_error = false;
+        } }
+        ensures memory { staged ≡ Err EditError.Memory → reply_of result ≡ record { text = stream.refused_text 20; is_internal_error = false } }
+    {
+        match staged {
+            Ok(()) => desk_answer(DeskReply::Staged(self.pair.pending())),
             Err(error) => desk_answer(DeskReply::Refused(error.code())),
         }
     }
 
-    /// How many edits are staged and not published.
-    fn pending(&self) -> u64
-        ensures { result ≡ self.now.staged.edits - self.now.published.edits }
-    {
-        self.staged
-            .edition()
-            .saturating_sub(self.published.edition())
-    }
-
-    /// Publishes all that is staged, whole, or changes nothing for want of memory, which is code 20.
+    /// Publishes all that is staged. It takes no memory.
     pub(crate) fn commit(&mut self) -> Answer
         ensures answered { (name : Text) (t : Instant) (line : Text) →
             IsAnswered name t self.old line (Some (Ok Commit)) (reply_of result) self.new }
         ensures desk_reply { (reply_of result).is_internal_error ≡ false }
     {
-        let copy = self.staged.clone();
-        self.publish(copy)
+        self.pair.commit();
+        desk_answer(DeskReply::Committed(self.pair.published().edition()))
     }
 
-    /// Publishes a copy of what is staged, or changes nothing where there was no memory for it.
-    pub(crate) fn publish(&mut self, copy: Result<Book, AllocError>) -> Answer
-        requires { IfOk copy (λ book. book ≡ self.old.staged) }
-        ensures answered { (name : Text) (t : Instant) (line : Text) →
-            IsAnswered name t self.old line (Some (Ok Commit)) (reply_of result) self.new }
-        ensures desk_reply { (reply_of result).is_internal_error ≡ false }
-        ensures memory { IsErr copy → reply_of result ≡ record { text = stream.refused_text 20; is_internal_error = false } }
-    {
-        match copy {
-            Ok(book) => {
-                self.published = book;
-                desk_answer(DeskReply::Committed(self.published.edition()))
-            }
-            Err(_) => desk_answer(DeskReply::Refused(MEMORY)),
-        }
-    }
-
-    /// Answers a line that is no desk line, over the published book.
+    /// Answers a request, over the published book.
     pub(crate) fn request(
         &self,
         alloc: Global,
         name: &Source,
         moment: &Moment,
-        line: &[u8],
+        request: &Request,
     ) -> Answer
-        ensures { IsAnswered name.now moment.now self.now line.now None (reply_of result) self.now }
+        ensures { (line : Text) → line_request line ≡ Some (request_of request.now)
+            → IsAnswered name.now moment.now self.now line None (reply_of result) self.now }
     {
-        match reply_line(alloc, &self.published, name, moment, line) {
+        match reply_request(alloc, self.pair.published(), name, moment, request) {
             Ok(text) => Answer {
                 text: ReplyText::Kept(text),
                 is_internal_error: false,
@@ -121,11 +101,13 @@ impl Books {
             Err(_) => internal_error(),
         }
     }
-}
 
-/// As many mappings and edits as there may be.
-fn widest() -> Limits
-    ensures { result ≡ stream.widest }
-{
-    Limits::new(MAX_MAPPINGS, MAX_EDITS).unwrap()
+    /// Answers a line that is neither a desk line nor a request.
+    #[tactic(auto, unfolding(lost_json::specs::Line::line_reply))]
+    pub(crate) fn neither(&self) -> Answer
+        ensures { (name : Text) (t : Instant) (line : Text) → line_request line ≡ None
+            → IsAnswered name t self.now line None (reply_of result) self.now }
+    {
+        bad_request()
+    }
 }

@@ -2,6 +2,7 @@
 #![tactic(auto)]
 
 mod books;
+mod pair;
 mod replayer;
 mod replaying;
 mod replies;

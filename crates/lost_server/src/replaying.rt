@@ -8,6 +8,7 @@ use crate::books::Books;
 use crate::replayer::Replayer;
 use lost_lines::{Counts, ServeError, Turns, Watched, run_lines};
 use lost_mapping::{Moment, Source};
+use lost_tokens::Scratch;
 use std::alloc::Global;
 use std::io::{Read, Write};
 
@@ -73,6 +74,7 @@ pub fn replay<R: Read, W: Write>(
         name,
         moment: *moment,
         books,
+        scratch: Scratch::new(alloc),
     };
     run_lines(alloc, input, output, &mut replayer, turns)
 }

@@ -1,6 +1,6 @@
 //! Replies that take no memory.
 ghost use Rattle.std.specs.Prelude.{◌≡◌, true, false};
-ghost use Rattle.lost_json.specs.DeskReplies.{desk_text, IsInTable};
+ghost use Rattle.lost_writing.specs.DeskReplies.{desk_text, IsInTable};
 ghost use Rattle.lost_lines.specs.Answer.{reply_of};
 ghost use Rattle.lost_server.specs.Stream as stream;
 

@@ -3,6 +3,7 @@ use super::row::{REPLIES, ROW, replayed};
 use crate::ServeError;
 use crate::books::Books;
 use crate::replayer::Replayer;
+use lost_book::EditError;
 use lost_lines::{Answer, Answerer};
 use lost_mapping::{Moment, Source};
 use std::alloc::{AllocError, Global};
@@ -72,13 +73,13 @@ fn is_answer(answer: &Answer, line: &[u8], is_internal_error: bool) -> bool {
         && answer.is_internal_error == is_internal_error
 }
 
-/// Where the memory for a commit is refused, the answer is code 20, and counts for nothing; where a line could
-/// not be kept, it is `internalError`, and is counted.
+/// Where the memory for an edit is refused, the answer is code 20, and counts for nothing; where a line
+/// could not be kept, it is `internalError`, and is counted.
 #[test]
 fn each_mark_has_its_answer(rt: HostRuntime) -> Result<(), Fail> {
     let mut books = Books::new(rt.alloc())?;
-    let committed = books.publish(Err(AllocError));
-    assert!(rt; is_answer(&committed, MEMORY, false));
+    let staged = books.edit_answer(Err(EditError::Memory));
+    assert!(rt; is_answer(&staged, MEMORY, false));
     let name = Source::parse(rt.alloc(), b"lost.example").map_err(|_| "memory")?;
     let moment = Moment::new(0, 0).ok_or("a moment")?;
     let mut replayer = Replayer {

@@ -6,10 +6,10 @@ use Rattle.lost_spec.specs.Examples.{all_words, usual_limits, server, now, polic
 use Rattle.lost_spec.specs.Request.{Errors}
 use Rattle.lost_spec.specs.Answer.{answer}
 use Rattle.lost_spec.specs.declared.answers.AnswerError.TheVariants.{ServiceNotImplemented}
-use Rattle.lost_json.specs.Members.{tree_of}
-use Rattle.lost_json.specs.Desk.{Stage as StageOrder, desk_line}
-use Rattle.lost_json.specs.Requests.{line_request}
-use Rattle.lost_json.specs.Replies.{reply_text}
+use Rattle.lost_reading.specs.Members.{tree_of}
+use Rattle.lost_reading.specs.Desk.{Stage as StageOrder, desk_line}
+use Rattle.lost_reading.specs.Requests.{line_request}
+use Rattle.lost_writing.specs.Replies.{reply_text}
 use Rattle.lost_json.specs.Line.{reply_to, line_reply}
 use Rattle.lost_core.specs.World.{Replying, Staged, Published, Entered, Told, Replied, NoWorker, events}
 use Rattle.lost_core.specs.Values.{replies_of}
