@@ -61,7 +61,7 @@ def house():
     left, right, width = 60, 500, 300
     rows = [
         ("lost_lines", "cuts lines, writes replies in order"),
-        ("lost_json", "line to request, reply to line"),
+        ("lost_reading, lost_writing", "line to request, reply to line"),
         ("lost_query", "answers a request over holdings"),
         ("lost_book", "the mappings held"),
         ("lost_geo, lost_civic", "inside a ring, matches a pattern"),
@@ -75,7 +75,7 @@ def house():
             p.line([(left + 190, y), (left + 190, y - 30)], BLUE, arrow="blue")
     edits = [
         ("lost_lines", "cuts lines, writes replies in order"),
-        ("lost_json", "desk line to edit, or its refusal"),
+        ("lost_reading, lost_writing", "desk line to edit, or its refusal"),
         ("lost_server", "stages an edit, commits what is staged"),
         ("lost_book", "the first refusal, or the next book"),
         ("lost_urn, lost_mapping", "builds and checks the mapping"),
