@@ -6,6 +6,7 @@ use crate::replayer::Replayer;
 use lost_book::EditError;
 use lost_lines::{Answer, Answerer};
 use lost_mapping::{Moment, Source};
+use lost_tokens::Scratch;
 use std::alloc::{AllocError, Global};
 use std::test::Fail;
 
@@ -86,6 +87,7 @@ fn each_mark_has_its_answer(rt: HostRuntime) -> Result<(), Fail> {
         name: &name,
         moment,
         books,
+        scratch: Scratch::new(rt.alloc()),
     };
     assert!(rt; is_answer(&replayer.answer_unread(), INTERNAL, true));
     Ok(())
