@@ -20,24 +20,20 @@ pub(crate) fn has_odd_crossings(first: &GeoPoint, rest: &[GeoPoint], place: &Geo
 }
 
 /// Whether the edge between two positions crosses at the place (own rule: lower and left edges belong, upper and
-/// right ones do not).
+/// right ones do not). Most edges of a long ring are wholly above or wholly below, which one comparison tells.
 fn crosses(from: &GeoPoint, to: &GeoPoint, place: &GeoPoint) -> bool
     ensures { result ≡ crosses_at (from.now, to.now) place.now }
 {
-    if from.lat() <= to.lat() {
-        rises_east_of(from, to, place)
-    } else {
-        rises_east_of(to, from, place)
-    }
-}
-
-/// Whether the place has a latitude from `low` up to before `high`, and is to the left of the line between them.
-fn rises_east_of(low: &GeoPoint, high: &GeoPoint, place: &GeoPoint) -> bool
-    ensures { result ≡ (int_le low.now.lat place.now.lat && int_lt place.now.lat high.now.lat
-        && is_left_of low.now high.now place.now) }
-{
     let lat = place.lat();
-    low.lat() <= lat && lat < high.lat() && is_left(low, high, place)
+    let (begins_low, ends_low) = (from.lat() <= lat, to.lat() <= lat);
+    if begins_low == ends_low {
+        return false;
+    }
+    if begins_low {
+        is_left(from, to, place)
+    } else {
+        is_left(to, from, place)
+    }
 }
 
 /// Whether the place is to the left of the line from `low` to `high`.
