@@ -1,2 +1,3 @@
 pub mod TreeLemmas
 pub mod PartLemmas
+pub mod MemberLemmas

@@ -9,13 +9,13 @@ use Rattle.json.specs.Json.{Json}
 use Rattle.json.specs.Find as find
 use Rattle.json.specs.Find.{BeginsWith, InItems, InMembers, NextItem, NextMember, Finds, later_or}
 use Rattle.serde_json.specs.Data.{Data, null, boolean, number, string, array, object, Items, no_items, item, Members, no_members, member, put}
-use Rattle.serde_json.specs.Find.{get_member, as_null, as_bool, as_number, as_str, as_array, as_object, as_i64}
+use Rattle.serde_json.specs.Find.{get_member, as_null, as_bool, as_number, as_str, as_array, as_object}
 use Rattle.serde_json.specs.Read.{number_of, of_json, of_items, of_members}
 use Rattle.serde_json.proofs.Views.{get_member-put, get_member-put_other}
 use Rattle.lost_reading.specs.Members.{unless_null, the_member, only_member, each_of, whole_in, two_of, position_in}
 use Rattle.lost_reading.specs.Desk.{is_desk_name}
 use Rattle.lost_tokens.specs.Tapes.{tree_at, data_of, members_of, IsTree, HoldsItems}
-use Rattle.lost_tokens.proofs.TreeLemmas.{Held, held, tree_at-from, data_of-from, IsTree-from}
+use Rattle.lost_tokens.proofs.TreeLemmas.{held, tree_at-from, data_of-from, IsTree-from}
 
 -- ---- what a reading is made of
 
@@ -23,7 +23,7 @@ made : {A B : Type 0} (f : A → B) (o : Option A) (b : B) → option_map f o �
 made f None b e = absurd (cc)
 made f (Some a) b e = (a, refl, cc)
 
-went : {A B : Type 0} (f : A → Option B) (o : Option A) (b : B) → option_and_then f o ≡ Some b → (a : A) × (o ≡ Some a) × (f a ≡ Some b)
+pub went : {A B : Type 0} (f : A → Option B) (o : Option A) (b : B) → option_and_then f o ≡ Some b → (a : A) × (o ≡ Some a) × (f a ≡ Some b)
 went f None b e = absurd (cc)
 went f (Some a) b e = (a, refl, e)
 
@@ -87,7 +87,7 @@ number_held ts s h given =
 abbrev Opens : Option (List Token) → Json → Type 0
 Opens r j = MatchOption r (find.as_object j ≡ None) (λ rest. (ms : json.Members) × (j ≡ json.object ms) × InMembers rest ms)
 
-object_of : (ms : json.Members) (d : Data) → of_json (json.object ms) ≡ Some d → (found : Members) × (of_members ms no_members ≡ Some found) × (object found ≡ d)
+pub object_of : (ms : json.Members) (d : Data) → of_json (json.object ms) ≡ Some d → (found : Members) × (of_members ms no_members ≡ Some found) × (object found ≡ d)
 object_of ms d is = made object (of_members ms no_members) d is
 
 pub object_held : (ts : List Token) (r : Option (List Token)) → IsTree ts → ((j : Json) → BeginsWith ts j → Opens r j) → is_some r ≡ true → as_object (data_of ts) ≡ Some (members_of ts)

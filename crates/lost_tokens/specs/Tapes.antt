@@ -1,12 +1,14 @@
 -- What the tokens of a line stand for. (Own.)
-use Rattle.std.specs.Prelude.{◌≡◌, ℕ, List, length, Bool, true, Option, Some, is_some, unwrap_or, option_and_then}
+use Rattle.std.specs.Prelude.{◌≡◌, ℕ, List, [], ◌∷◌, length, Bool, true, Option, Some, is_some, unwrap_or, option_and_then}
+use Rattle.std.specs.Borrow.{Bor}
 use Rattle.json.specs.Token.{Token}
 use Rattle.json.specs.Json as json
 use Rattle.json.specs.Lex.{tokens}
-use Rattle.json.specs.Find.{BeginsWith, InItems}
-use Rattle.serde_json.specs.Data.{Data, null, Items, Members, no_members}
+use Rattle.json.specs.Find.{BeginsWith, InItems, InMembers}
+use Rattle.serde_json.specs.Data.{Data, null, string, Items, Members, no_members, member}
 use Rattle.serde_json.specs.Find.{as_object}
-use Rattle.serde_json.specs.Read.{number_of, of_json, of_items}
+use Rattle.serde_json.specs.Read.{number_of, of_json, of_items, of_members}
+use Rattle.lost_spec.specs.Text.{Text}
 
 -- the tree of the value that tokens begin with
 unfoldable pub tree_at : List Token → Option Data
@@ -42,6 +44,19 @@ is_sure Token.bad = true
 -- the tokens begin with items of an array that have trees, to its end
 abbrev pub HasItems : List Token → Type 0
 HasItems ts = (items : Items) × HoldsItems ts items
+
+-- the tokens begin with members of an object, to its end; put into those before them they make these
+abbrev pub HoldsMembers : List Token → Members → Members → Type 0
+HoldsMembers ts before all = (ms : json.Members) × InMembers ts ms × (of_members ms before ≡ Some all)
+
+-- the tokens begin with members of an object that have trees, to its end
+abbrev pub HasMembers : List Token → Type 0
+HasMembers ts = (before : Members) × (all : Members) × HoldsMembers ts before all
+
+-- texts by their names, as members
+abbrev pub text_members : List (Bor Text × Bor Text) → Members
+text_members [] = no_members
+text_members (entry ∷ entries) = member entry.0.now (string entry.1.now) (text_members entries)
 
 -- these are the tokens of a text that is one value
 abbrev pub IsTapeOf : List ℕ → List Token → Type 0

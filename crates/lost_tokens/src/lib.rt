@@ -2,6 +2,7 @@
 //! This reader answers only where it is certain, and leaves every other line to the tree.
 #![tactic(auto)]
 
+mod addresses;
 mod line;
 mod locations;
 mod numbers;

@@ -5,6 +5,7 @@ ghost use Rattle.lost_reading.specs.Members.{the_member, required, pairs_in};
 ghost use Rattle.lost_reading.specs.Requests.{point_body, address_body, body_in, is_known_system, srs_known_in, location_of_members, location_in, locations_in};
 ghost use Rattle.lost_tokens.specs.Tapes.{data_of, members_of};
 
+use crate::addresses::read_address;
 use crate::part::{Part, owned, read_list, read_position, required_member, required_text};
 use crate::tree::Tree;
 use lost_query::{Body, Location};
@@ -55,7 +56,7 @@ fn read_location(alloc: Global, object: &Tree<'_, '_>) -> Option<Location>
     let id = required_text(object, "id")?;
     let profile = required_text(object, "profile")?;
     let srs_known = is_srs_known(profile, object)?;
-    let body = read_body(profile, object)?;
+    let body = read_body(alloc, profile, object)?;
     let id = owned(alloc, id)?;
     let profile = owned(alloc, profile)?;
     Some(Location {
@@ -95,13 +96,13 @@ fn names_known_system(tree: &Tree<'_, '_>) -> Option<bool>
 }
 
 /// The content of a location. That of another profile is not looked at.
-fn read_body(profile: &str, object: &Tree<'_, '_>) -> Option<Body>
+fn read_body(alloc: Global, profile: &str, object: &Tree<'_, '_>) -> Option<Body>
     ensures { IfSome result (λ body. body_in profile.now (members_of object.now) ≡ body_of body) }
 {
     if profile == GEODETIC {
         read_point(object)
     } else if profile == CIVIC {
-        None
+        read_address(alloc, object)
     } else {
         Some(Body::Unreadable)
     }

@@ -74,7 +74,7 @@ fn read_each<T: Part>(alloc: Global, items: Trees<'_, '_>) -> Option<Vec<T>>
 }
 
 /// Adds a part at the end of a list.
-fn add<T: Drop>(list: &mut Vec<T>, part: T) -> Option<()>
+pub(crate) fn add<T: Drop>(list: &mut Vec<T>, part: T) -> Option<()>
     ensures { OnSome result (list.new.items ≡ list.old.items ++ part ∷ []) }
 {
     match list.push(part) {

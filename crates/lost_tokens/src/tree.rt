@@ -1,13 +1,13 @@
 //! A value of a line, where its tokens stand in the line's list.
 ghost use Rattle.std.specs.Prelude.{◌≡◌, Some, None, Option, IfSome, OnSome, option_map, MatchOption, length, ◌<◌};
 ghost use Rattle.std.specs.Bool.{OnTrue};
-ghost use Rattle.serde_json.specs.Data.{Items as SpecItems, no_items, item};
+ghost use Rattle.serde_json.specs.Data.{Items as SpecItems, no_items, item, Members as SpecMembers, no_members, put};
 ghost use Rattle.serde_json.specs.Find.{as_bool, as_str, as_array, as_object};
 ghost use Rattle.lost_reading.specs.Members.{the_member, whole_in, only_member};
-ghost use Rattle.lost_tokens.specs.Tapes.{data_of, members_of, HoldsItems};
+ghost use Rattle.lost_tokens.specs.Tapes.{data_of, members_of, HoldsItems, HoldsMembers};
 
 use crate::numbers::whole_number;
-use json::{Element, Items};
+use json::{Element, Items, Members};
 use std::marker::Model;
 
 /// A value of a line. Contracts see the tokens from its first on.
@@ -91,6 +91,14 @@ impl<'t, 'a> Tree<'t, 'a> {
         let items = self.element.items()?;
         Some(Trees { items })
     }
+
+    /// The members, where this is an object.
+    pub(crate) fn named(&self) -> Option<Named<'t, 'a>>
+        ensures { IfSome result (λ rest. (all : SpecMembers) × (as_object (data_of self.now) ≡ Some all) × HoldsMembers rest no_members all) }
+    {
+        let members = self.element.members()?;
+        Some(Named { members })
+    }
 }
 
 /// The items of an array, from one on to its end. Contracts see their tokens.
@@ -122,5 +130,37 @@ impl<'t, 'a> Trees<'t, 'a> {
     {
         let element = self.items.next()?;
         Some(Tree { element })
+    }
+}
+
+/// The members of an object, from one on to its end. Contracts see their tokens.
+#[derive(Drop)]
+pub(crate) struct Named<'t, 'a> {
+    members: Members<'t, 'a>,
+}
+
+impl<'t, 'a> Model for Named<'t, 'a> {
+    ghost use Rattle.std.specs.Prelude.{List};
+    ghost use Rattle.json.specs.Token.{Token, tokens_code};
+    ghost use Rattle.lost_tokens.specs.Tapes.{HasMembers};
+
+    ghost Value = { List Token };
+
+    ghost coded = { tokens_code };
+
+    ghost view = { λ n. n.members };
+
+    ghost invariant = { λ n. HasMembers n.members };
+}
+
+impl<'t, 'a> Named<'t, 'a> {
+    /// The next member: its name and its value. It is put into those before it, so that the last of a name stays.
+    pub(crate) fn next(&mut self) -> Option<(&'a str, Tree<'t, 'a>)>
+        ensures value { (before all : SpecMembers) → HoldsMembers self.old before all → MatchOption result (before ≡ all)
+            (λ found. HoldsMembers self.new (put found.0.now (data_of found.1) before) all) }
+        ensures shorter { OnSome result (length self.new < length self.old) }
+    {
+        let (name, element) = self.members.next()?;
+        Some((name, Tree { element }))
     }
 }

@@ -1,9 +1,6 @@
-use Rattle.std.proofs.Common.{◌≡◌, Some, None, IfSome, option_and_then, sym, ap, ◌∙◌, subst}
+use Rattle.std.proofs.Common.{◌≡◌, Some, None, IfSome, subst}
 use Rattle.std.specs.Prelude.{OnSome}
-use Rattle.serde_json.specs.Read.{read}
 use Rattle.lost_query.specs.Request.{request_of}
-use Rattle.lost_reading.specs.Desk.{order_in, desk_line}
-use Rattle.lost_reading.specs.Requests.{request_in, line_request}
 use Rattle.lost_tokens.proofs.TreeLemmas.{line_request-read, desk_line-read}
 use Rattle.lost_tokens.proofs.line.read_common.Goals as goal
 

@@ -1,6 +1,5 @@
-use Rattle.std.proofs.Common.{◌≡◌, Option, Some, None, IfSome}
+use Rattle.std.proofs.Common.{Option, Some, None, IfSome}
 use Rattle.std.specs.Prelude.{OnSome}
-use Rattle.std.specs.Option.{is_some}
 use Rattle.lost_tokens.proofs.TreeLemmas.{is_tape_of}
 use Rattle.lost_tokens.proofs.line.read_text.Goals as goal
 

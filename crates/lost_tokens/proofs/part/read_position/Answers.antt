@@ -1,4 +1,4 @@
-use Rattle.std.proofs.Common.{◌≡◌, SFits, w64, to_z-of_z, rules}
+use Rattle.std.proofs.Common.{SFits, w64, to_z-of_z, rules}
 use Rattle.lost_tokens.specs.Tapes.{data_of}
 use Rattle.lost_tokens.proofs.PartLemmas.{position_held}
 use Rattle.lost_tokens.proofs.part.read_position.Goals as goal

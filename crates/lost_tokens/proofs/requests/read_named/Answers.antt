@@ -1,6 +1,5 @@
-use Rattle.std.proofs.Common.{◌≡◌, false, Option, None, Some}
+use Rattle.std.proofs.Common.{Option, None, Some}
 use Rattle.std.specs.Prelude.{OnSome}
-use Rattle.lost_reading.specs.Desk.{is_desk_name}
 use Rattle.lost_tokens.proofs.PartLemmas.{not_desk_find, not_desk_services_at}
 use Rattle.lost_tokens.proofs.requests.read_named.Goals as goal
 

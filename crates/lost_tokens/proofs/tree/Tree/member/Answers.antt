@@ -1,7 +1,5 @@
-use Rattle.std.proofs.Common.{◌≡◌, None, Some, Option, option_map, option_and_then, is_some, ap, sym, ◌∙◌, subst, arith}
-use Rattle.json.specs.Token.{Token}
-use Rattle.serde_json.specs.Data.{Data}
-use Rattle.serde_json.specs.Find.{get_member, as_null}
+use Rattle.std.proofs.Common.{◌≡◌, None, Some, option_map, option_and_then, ap, sym, ◌∙◌, subst, arith}
+use Rattle.serde_json.specs.Find.{get_member}
 use Rattle.lost_reading.specs.Members.{unless_null}
 use Rattle.lost_tokens.specs.Tapes.{data_of, members_of}
 use Rattle.lost_tokens.proofs.TreeLemmas.{data_of-from, IsTree-from}

@@ -1,4 +1,4 @@
-use Rattle.std.proofs.Common.{◌≡◌, Some, IfSome, option_and_then, ap, sym, ◌∙◌, subst}
+use Rattle.std.proofs.Common.{◌≡◌, Some, IfSome, option_and_then, sym, subst}
 use Rattle.serde_json.specs.Find.{as_number, as_i64}
 use Rattle.serde_json.specs.Read.{number_of}
 use Rattle.lost_tokens.specs.Tapes.{data_of}

@@ -1,5 +1,4 @@
 use Rattle.std.proofs.Common.{◌≡◌, None, Some, subst, sym, arith}
-use Rattle.json.specs.Find.{NextItem}
 use Rattle.lost_tokens.specs.Tapes.{HoldsItems}
 use Rattle.lost_tokens.proofs.PartLemmas.{next_held, NextTree}
 use Rattle.lost_tokens.proofs.tree.Trees.next.Goals as goal
