@@ -1,3 +1,5 @@
+pub mod NestLemmas
 pub mod TreeLemmas
 pub mod PartLemmas
 pub mod MemberLemmas
+pub mod PartsLemmas

@@ -1,6 +1,5 @@
 -- The tree of a value, where its tokens stand, and the tree of a whole text.
 use Rattle.std.proofs.Common.{◌≡◌, ℕ, ◌+◌, ◌*◌, ◌≤◌, List, [], ◌++◌, map, length, true, true≢false, Option, Some, None, is_some, option_map, option_and_then, refl, sym, ap, ◌∙◌, subst, arith, length-append, append-nil}
-use Rattle.std.proofs.lemmas.List.{length-map}
 use Rattle.std.specs.Prelude.{if◌then◌else◌, unwrap_or, IsSome}
 use Rattle.std.specs.Str.{IsUtf8}
 use Rattle.std.proofs.lemmas.Str.{is_utf8-from_IsUtf8}
@@ -22,7 +21,8 @@ use Rattle.serde_json.specs.Read.{number_of, of_json, of_items, of_members, read
 use Rattle.lost_reading.specs.Desk.{order_in, desk_line}
 use Rattle.lost_reading.specs.Members.{tree_of}
 use Rattle.lost_reading.specs.Requests.{request_in, line_request}
-use Rattle.lost_tokens.specs.Tapes.{tree_at, data_of, IsTree, is_sure, IsTapeOf}
+use Rattle.lost_tokens.specs.Tapes.{tree_at, data_of, IsTree, is_sure, nests_within, IsTapeOf}
+use Rattle.lost_tokens.proofs.NestLemmas.{depth_within}
 
 -- ---- depth
 
@@ -114,23 +114,22 @@ some_is : {A : Type 0} (o : Option A) → is_some o ≡ true → (a : A) × (o �
 some_is None h = absurd (true≢false (sym h))
 some_is (Some a) h = (a, refl)
 
--- a short text whose numbers are whole ones has a tree, the one at its first token
-pub read-from : (text : List ℕ) (j : Json) → document text ≡ Some j → BeginsWith (tokens text) j → length (tokens text) ≤ 254 → list_all is_sure (tokens text) ≡ true
+-- a text whose values nest at most 127 deep and whose numbers are whole ones has a tree, the one at its first token
+pub read-from : (text : List ℕ) (j : Json) → document text ≡ Some j → BeginsWith (tokens text) j → nests_within 0 (tokens text) ≡ true → list_all is_sure (tokens text) ≡ true
     → IsTree (tokens text) × (read text ≡ Some (data_of (tokens text)))
-read-from text j e begins short sure =
+read-from text j e begins nests sure =
     let spelled : tokens text ≡ json_tokens j = tokens-document text j e in
     let tree = some_is (of_json j) (sure_json j (ap (list_all is_sure) (sym spelled) ∙ sure)) in
     let at : tree_at (tokens text) ≡ Some tree.0 = tree_at-from (tokens text) j tree.0 begins tree.1 in
-    let within : depth j ≤ 127 = omega (arith, half_json j, ap length spelled) in
+    let within : depth j ≤ 127 = depth_within j (ap (nests_within 0) (sym spelled) ∙ nests) in
     let whole : value 127 (tokens text) ≡ Some (j, []) = ap (value 127) (spelled ∙ sym (append-nil (json_tokens j))) ∙ value-json_tokens j 127 [] within in
     let is : read text ≡ Some tree.0 = ap (λ o. option_and_then of_json (option_and_then (λ p. if_last p.0 p.1) o)) whole ∙ tree.1 in
     (IsTree-from _ tree.0 at, is ∙ ap Some (sym (data_of-from _ tree.0 at)))
 
-pub tape_read : (text : List ℕ) (ts : List Token) (nodes : List Node) → IsTapeOf text ts → map node_token nodes ≡ ts → length nodes ≤ 254 → list_all is_sure (map node_token nodes) ≡ true
+pub tape_read : (text : List ℕ) (ts : List Token) (nodes : List Node) → IsTapeOf text ts → map node_token nodes ≡ ts → nests_within 0 (map node_token nodes) ≡ true → list_all is_sure (map node_token nodes) ≡ true
     → IsTree ts × (read text ≡ Some (data_of ts))
-tape_read text ts nodes (same, j, e, begins) seen short sure =
-    let whole : length (tokens text) ≤ 254 = omega (arith, short, ap length seen, ap length same, length-map nodes node_token) in
-    let found = read-from text j e (subst (λ us. BeginsWith us j) same begins) whole (ap (list_all is_sure) (sym same ∙ sym seen) ∙ sure) in
+tape_read text ts nodes (same, j, e, begins) seen nests sure =
+    let found = read-from text j e (subst (λ us. BeginsWith us j) same begins) (ap (nests_within 0) (sym same ∙ sym seen) ∙ nests) (ap (list_all is_sure) (sym same ∙ sym seen) ∙ sure) in
     subst (λ us. IsTree us × (read text ≡ Some (data_of us))) (sym same) found
 
 tape_at : (text : List ℕ) (ts : List Token) (o : Option Json) → document text ≡ o → is_some o ≡ true → ts ≡ tokens text → ((j : Json) → document text ≡ Some j → BeginsWith ts j) → IsTapeOf text ts

@@ -1,5 +1,5 @@
 -- What the tokens of a line stand for. (Own.)
-use Rattle.std.specs.Prelude.{◌≡◌, ℕ, List, [], ◌∷◌, length, Bool, true, Option, Some, is_some, unwrap_or, option_and_then}
+use Rattle.std.specs.Prelude.{◌≡◌, ℕ, ◌+◌, ◌-◌, ◌&&◌, nat_le, List, [], ◌∷◌, length, Bool, true, Option, Some, is_some, unwrap_or, option_and_then}
 use Rattle.std.specs.Borrow.{Bor}
 use Rattle.json.specs.Token.{Token}
 use Rattle.json.specs.Json as json
@@ -40,6 +40,24 @@ is_sure (Token.number s) = is_some (number_of s)
 is_sure (Token.boolean b) = true
 is_sure Token.null = true
 is_sure Token.bad = true
+
+-- the level of nesting behind a token
+abbrev pub level_after : ℕ → Token → ℕ
+level_after level Token.begin_object = level + 1
+level_after level Token.end_object = level - 1
+level_after level Token.begin_array = level + 1
+level_after level Token.end_array = level - 1
+level_after level (Token.key s) = level
+level_after level (Token.string s) = level
+level_after level (Token.number s) = level
+level_after level (Token.boolean b) = level
+level_after level Token.null = level
+level_after level Token.bad = level
+
+-- from a level on, tokens lead to no level above 127
+abbrev pub nests_within : ℕ → List Token → Bool
+nests_within level [] = true
+nests_within level (t ∷ ts) = nat_le (level_after level t) 127 && nests_within (level_after level t) ts
 
 -- the tokens begin with items of an array that have trees, to its end
 abbrev pub HasItems : List Token → Type 0

@@ -31,7 +31,7 @@ fn read_address_at(alloc: Global, tree: &Tree<'_, '_>) -> Option<Body>
 }
 
 /// The names and texts of an object, in ascending byte order of the names.
-fn read_pairs(alloc: Global, tree: &Tree<'_, '_>) -> Option<Vec<(String, String)>>
+pub(crate) fn read_pairs(alloc: Global, tree: &Tree<'_, '_>) -> Option<Vec<(String, String)>>
     ensures { IfSome result (λ pairs. pairs_in (data_of tree.now) ≡ Some (seen_pairs pairs.items)) }
 {
     let members = tree.named()?;

@@ -1,13 +1,17 @@
-//! Request lines read by tokens (own format over RFC 5222): a line becomes one flat list of tokens in place of a tree.
-//! This reader answers only where it is certain, and leaves every other line to the tree.
+//! Lines read by tokens (own format over RFC 5222): a line becomes one flat list of tokens in place of a tree. This reader
+//! takes requests, and desk lines that publish or replace a mapping; it answers only where it is certain, and leaves every
+//! other line to the tree.
 #![tactic(auto)]
 
 mod addresses;
 mod line;
 mod locations;
+mod mappings;
+mod nesting;
 mod numbers;
 mod options;
 mod part;
+mod regions;
 mod requests;
 mod tree;
 mod whole;

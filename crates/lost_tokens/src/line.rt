@@ -1,32 +1,43 @@
 //! A line as one list of tokens. Rules without a section are this profile's own.
-ghost use Rattle.std.specs.Prelude.{◌≡◌, ℕ, List, true, Some, None, IfSome, OnSome, option_and_then, map};
+ghost use Rattle.std.specs.Prelude.{◌≡◌, ℕ, List, true, Some, None, Ok, IfSome, OnSome, option_and_then, map};
 ghost use Rattle.std.specs.Bool.{OnTrue};
 ghost use Rattle.std.specs.List.{list_all};
 ghost use Rattle.json.specs.Tape.{node_token};
 ghost use Rattle.serde_json.specs.Read.{read};
 ghost use Rattle.lost_query.specs.Request.{request_of};
 ghost use Rattle.lost_reading.specs.Desk.{order_in, desk_line};
+ghost use Rattle.lost_reading.specs.Lines.{GivesWhole};
 ghost use Rattle.lost_reading.specs.Requests.{request_in, line_request};
 ghost use Rattle.lost_tokens.specs.Tapes.{data_of, is_sure, IsTapeOf};
 
+use crate::nesting::nests_within;
 use crate::numbers::whole_number;
 use crate::requests::read_root;
 use crate::tree::Tree;
 use json::{Node, Scratch, Tape};
 use lost_query::Request;
+use lost_reading::Line;
 use std::alloc::Global;
 
 /// The longest line that is read by tokens, in bytes.
-const MAX_LINE: usize = 8_192;
-
-/// The most tokens of a line that is read by tokens, so that it nests at most 127 deep.
-const MAX_TOKENS: usize = 254;
+const MAX_LINE: usize = 131_072;
 
 /// Reads a request line of a common shape by its tokens (RFC 5222, sections 8 to 12; own format). `None` says nothing of
 /// the line, and comes for want of memory too: the tree decides then. What `scratch` holds is kept from line to line.
 pub fn read_common(alloc: Global, line: &[u8], scratch: &mut Scratch) -> Option<Request>
     ensures request { IfSome result (λ request. line_request line.now ≡ Some (request_of request)) }
     ensures no_desk_line { OnSome result (desk_line line.now ≡ None) }
+{
+    match read_common_line(alloc, line, scratch) {
+        Some(Line::Request(request)) => Some(request),
+        _ => None,
+    }
+}
+
+/// Reads a line of a common shape by its tokens: a request, or a desk line that publishes or replaces a mapping, none of it
+/// refused (own format). `None` says nothing of the line, as in [`read_common`].
+pub(crate) fn read_common_line(alloc: Global, line: &[u8], scratch: &mut Scratch) -> Option<Line>
+    ensures { IfSome result (λ found. GivesWhole (Ok found) (desk_line line.now) (line_request line.now)) }
 {
     if line.len() > MAX_LINE {
         return None;
@@ -37,10 +48,9 @@ pub fn read_common(alloc: Global, line: &[u8], scratch: &mut Scratch) -> Option<
     }
 }
 
-/// The request of a text.
-fn read_text(alloc: Global, text: &str, scratch: &mut Scratch) -> Option<Request>
-    ensures request { IfSome result (λ request. option_and_then request_in (read text.now) ≡ Some (request_of request)) }
-    ensures no_order { OnSome result (option_and_then order_in (read text.now) ≡ None) }
+/// What a text is.
+fn read_text(alloc: Global, text: &str, scratch: &mut Scratch) -> Option<Line>
+    ensures { IfSome result (λ found. GivesWhole (Ok found) (option_and_then order_in (read text.now)) (option_and_then request_in (read text.now))) }
 {
     match Tape::parse(text, scratch, Vec::new(alloc)) {
         Ok(tape) => read_tape(alloc, &tape),
@@ -48,23 +58,23 @@ fn read_text(alloc: Global, text: &str, scratch: &mut Scratch) -> Option<Request
     }
 }
 
-/// The request of a list of tokens, that of the value of a text.
-fn read_tape(alloc: Global, tape: &Tape<'_>) -> Option<Request>
+/// What a list of tokens is, that of the value of a text.
+fn read_tape(alloc: Global, tape: &Tape<'_>) -> Option<Line>
     requires { (text : List ℕ) × IsTapeOf text tape.now }
-    ensures { (text : List ℕ) → IsTapeOf text tape.now → IfSome result (λ request.
-        (option_and_then request_in (read text) ≡ Some (request_of request)) × (option_and_then order_in (read text) ≡ None)) }
+    ensures { (text : List ℕ) → IsTapeOf text tape.now → IfSome result (λ found.
+        GivesWhole (Ok found) (option_and_then order_in (read text)) (option_and_then request_in (read text))) }
 {
     let root = root_of(tape)?;
     read_root(alloc, &root)
 }
 
-/// The value of a list of tokens, where its numbers are whole and it is short enough to nest no deeper than a tree may.
+/// The value of a list of tokens, where its numbers are whole and it nests no deeper than a tree may.
 fn root_of<'t, 'a>(tape: &'t Tape<'a>) -> Option<Tree<'t, 'a>>
     requires { (text : List ℕ) × IsTapeOf text tape.now }
     ensures { (text : List ℕ) → IsTapeOf text tape.now → IfSome result (λ root. read text ≡ Some (data_of root)) }
 {
     let nodes = tape.nodes();
-    if nodes.len() > MAX_TOKENS || !are_sure(nodes) {
+    if !nests_within(nodes) || !are_sure(nodes) {
         return None;
     }
     Some(Tree {

@@ -1,8 +1,8 @@
 //! Parts of a line that are read by themselves, and lists of them.
-ghost use Rattle.std.specs.Prelude.{◌≡◌, ◌++◌, ◌∷◌, [], Some, IfSome, OnSome, map, string_bytes};
+ghost use Rattle.std.specs.Prelude.{◌≡◌, ◌++◌, ◌∷◌, [], Some, IfSome, OnSome, map, option_map, string_bytes};
 ghost use Rattle.serde_json.specs.Data.{Items as SpecItems};
 ghost use Rattle.serde_json.specs.Find.{as_str};
-ghost use Rattle.lost_reading.specs.Members.{the_member, required, each_of, list_in, position_in};
+ghost use Rattle.lost_reading.specs.Members.{the_member, required, optional, defaulting, each_of, list_in, position_in};
 ghost use Rattle.lost_tokens.specs.Tapes.{data_of, members_of, HoldsItems};
 
 use crate::tree::{Tree, Trees};
@@ -38,6 +38,36 @@ impl Part for String {
     fn read(alloc: Global, tree: &Tree<'_, '_>) -> Option<String> {
         let text = tree.text()?;
         owned(alloc, text)
+    }
+}
+
+impl Part for bool {
+    ghost use Rattle.std.specs.Prelude.{Bool};
+    ghost use Rattle.serde_json.specs.Find.{as_bool};
+
+    ghost Seen = { Bool };
+
+    ghost seen = { λ truth. truth };
+
+    ghost meant = { as_bool };
+
+    fn read(_alloc: Global, tree: &Tree<'_, '_>) -> Option<bool> {
+        tree.truth()
+    }
+}
+
+/// A list of parts of one kind.
+impl<T: Part> Part for Vec<T> {
+    ghost use Rattle.std.specs.Prelude.{List};
+
+    ghost Seen = { List T.Seen };
+
+    ghost seen = { λ list. map T.seen list.items };
+
+    ghost meant = { list_in T.meant };
+
+    fn read(alloc: Global, tree: &Tree<'_, '_>) -> Option<Vec<T>> {
+        read_list::<T>(alloc, tree)
     }
 }
 
@@ -110,5 +140,42 @@ pub(crate) fn read_position(tree: &Tree<'_, '_>) -> Option<(i64, i64)>
     match items.next() {
         Some(_) => None,
         None => Some((lat, lon)),
+    }
+}
+
+/// The part of this name, which must be there.
+pub(crate) fn required<T: Part>(alloc: Global, object: &Tree<'_, '_>, name: &str) -> Option<T>
+    ensures { IfSome result (λ part. required T.meant name.now (members_of object.now) ≡ Some (T.seen part)) }
+{
+    let tree = required_member(object, name)?;
+    T::read(alloc, &tree)
+}
+
+/// The part of this name, or nothing where none is there.
+pub(crate) fn optional<T: Part>(
+    alloc: Global,
+    object: &Tree<'_, '_>,
+    name: &str,
+) -> Option<Option<T>>
+    ensures { IfSome result (λ found. optional T.meant name.now (members_of object.now) ≡ Some (option_map T.seen found)) }
+{
+    match object.member(name) {
+        Some(tree) => Some(Some(T::read(alloc, &tree)?)),
+        None => Some(None),
+    }
+}
+
+/// The part of this name, with what stands for it where it is not there.
+pub(crate) fn defaulting<T: Part>(
+    alloc: Global,
+    object: &Tree<'_, '_>,
+    name: &str,
+    default: T,
+) -> Option<T>
+    ensures { IfSome result (λ part. defaulting T.meant (T.seen default) name.now (members_of object.now) ≡ Some (T.seen part)) }
+{
+    match object.member(name) {
+        Some(tree) => T::read(alloc, &tree),
+        None => Some(default),
     }
 }

@@ -1,28 +1,49 @@
-//! The four requests, by the members of their objects. Rules without a section are this profile's own.
-ghost use Rattle.std.specs.Prelude.{◌≡◌, false, Some, None, IfSome, OnSome, codes};
+//! The four requests, and the desk lines with a mapping, by the members of their objects. Rules without a section are this profile's own.
+ghost use Rattle.std.specs.Prelude.{◌≡◌, false, Some, None, Ok, IfSome, OnSome, codes, if◌then◌else◌};
 ghost use Rattle.lost_query.specs.Request.{request_of, locations_of};
 ghost use Rattle.lost_reading.specs.Members.{required};
-ghost use Rattle.lost_reading.specs.Desk.{is_desk_name, order_in};
+ghost use Rattle.lost_reading.specs.Desk.{is_desk_name, order_named, order_in};
+ghost use Rattle.lost_reading.specs.Lines.{GivesWhole};
 ghost use Rattle.lost_reading.specs.Requests.{locations_in, find_service_of, services_at_of, services_of, boundary_of, request_named, request_in};
 ghost use Rattle.lost_tokens.specs.Tapes.{data_of, members_of};
 
 use crate::locations::read_locations;
+use crate::mappings::read_mapping;
 use crate::options::{optional_service, read_by_value, read_path, read_validate, required_service};
 use crate::part::{owned, required_text};
 use crate::tree::Tree;
+use lost_book::Edit;
 use lost_query::Request;
+use lost_reading::{DeskLine, Line};
 use std::alloc::Global;
 
-/// The request of a line's value: an object with one member, whose value is an object.
-pub(crate) fn read_root(alloc: Global, root: &Tree<'_, '_>) -> Option<Request>
-    ensures request { IfSome result (λ request. request_in (data_of root.now) ≡ Some (request_of request)) }
-    ensures no_order { OnSome result (order_in (data_of root.now) ≡ None) }
+/// What a line's value is: an object with one member, whose value is an object.
+pub(crate) fn read_root(alloc: Global, root: &Tree<'_, '_>) -> Option<Line>
+    ensures { IfSome result (λ found. GivesWhole (Ok found) (order_in (data_of root.now)) (request_in (data_of root.now))) }
 {
     let (name, value) = root.only_member()?;
     if value.is_object() {
-        read_named(alloc, name, &value)
+        read_member(alloc, name, &value)
     } else {
         None
+    }
+}
+
+/// What the member of this name is.
+fn read_member(alloc: Global, name: &str, object: &Tree<'_, '_>) -> Option<Line>
+    ensures { IfSome result (λ found. GivesWhole (Ok found)
+        (if is_desk_name name.now then Some (order_named name.now (members_of object.now)) else None)
+        (request_named name.now (members_of object.now))) }
+{
+    if "publish" == name {
+        let mapping = read_mapping(alloc, object)?;
+        Some(Line::Desk(DeskLine::Edit(Edit::Publish(mapping))))
+    } else if "replace" == name {
+        let mapping = read_mapping(alloc, object)?;
+        Some(Line::Desk(DeskLine::Edit(Edit::Replace(mapping))))
+    } else {
+        let request = read_named(alloc, name, object)?;
+        Some(Line::Request(request))
     }
 }
 

@@ -1,23 +1,23 @@
-//! Lines that are read by tokens where they are requests of a common shape, and else by their tree.
+//! Lines that are read by tokens where they are of a common shape, and else by their tree.
 ghost use Rattle.lost_query.specs.Request.{request_of};
 ghost use Rattle.lost_reading.specs.Desk.{desk_line};
 ghost use Rattle.lost_reading.specs.Gives.{Gives};
 ghost use Rattle.lost_reading.specs.Lines.{GivesWhole};
 ghost use Rattle.lost_reading.specs.Requests.{line_request};
 
-use crate::line::read_common;
+use crate::line::{read_common, read_common_line};
 use json::Scratch;
 use lost_query::Request;
 use lost_reading::{DeskFault, Line, ReadError};
 use std::alloc::Global;
 
-/// Reads a line (own format) as [`lost_reading::read_line`] does, with its errors, and sooner where it is a request of a
-/// common shape. What `scratch` holds is kept from line to line.
+/// Reads a line (own format) as [`lost_reading::read_line`] does, with its errors, and sooner where it is of a common
+/// shape. What `scratch` holds is kept from line to line.
 pub fn read_line(alloc: Global, line: &[u8], scratch: &mut Scratch) -> Result<Line, DeskFault>
     ensures { GivesWhole result (desk_line line.now) (line_request line.now) }
 {
-    match read_common(alloc, line, scratch) {
-        Some(request) => Ok(Line::Request(request)),
+    match read_common_line(alloc, line, scratch) {
+        Some(found) => Ok(found),
         None => lost_reading::read_line(alloc, line),
     }
 }
