@@ -25,5 +25,5 @@ pub(crate) fn announce<A: Aim>(
         (front.new ≡ beginning front.old.opening (all_edits _copies.now _queue.now.items))
         (front.new ≡ front.old) }
 {
-    front.reach::<A>(head, edition)
+    front.reach::<A>(head, edition).is_ok()
 }

@@ -1,5 +1,6 @@
 //! The desk, which stages edits and publishes them.
-ghost use Rattle.std.specs.Prelude.{◌≡◌, ◌≢◌, [], None, Some, length, IfOk, IfErr, IsOk, OnOk, OnErr};
+ghost use Rattle.std.specs.Prelude.{◌≡◌, ◌≢◌, ◌<◌, [], None, Some, length, MatchBool, IfOk, IfErr, IsOk, OnOk, OnErr};
+ghost use Rattle.lost_spec.specs.Laws.{BeginsWith};
 ghost use Rattle.lost_spec.specs.Book.{refusal, empty_book};
 ghost use Rattle.lost_book.specs.Edit.{edit_of};
 ghost use Rattle.lost_history.specs.History.{beginning};
@@ -108,6 +109,17 @@ impl Desk {
         Told {
             front: self.copies.shown().front.again(),
         }
+    }
+
+    /// Whether all that was told is published, as all that this desk told is. What was told begins then what is published.
+    /// Both are of one opening.
+    pub fn has_published(&self, told: &Told) -> bool
+        requires { told.now.opening ≡ self.now.opening }
+        ensures begins { MatchBool result
+            (BeginsWith self.now.published told.now.list)
+            ((length self.now.published < length told.now.list) × BeginsWith told.now.list self.now.published) }
+    {
+        self.copies.shown().front.has(&told.front)
     }
 
     /// Ends the desk, and drops what is pending. Readers answer want of memory from then on. It waits for readers that

@@ -1,5 +1,5 @@
 -- The rule of the token that a history is, and what its step tells.
-use Rattle.std.specs.Prelude.{ℕ, ◌≡◌, true, List, [], ◌∷◌, length}
+use Rattle.std.specs.Prelude.{ℕ, ◌≡◌, ◌≢◌, true, List, [], ◌∷◌, length}
 use Rattle.logbook.specs.Pages.{Cell, Step, View, Named, Book as TokenBook}
 use Rattle.lost_spec.specs.Book.{Edit, Withdraw}
 use Rattle.lost_spec.specs.Moment.{stamp_of}
@@ -12,9 +12,9 @@ IsCounted cells log = cells ≡ (length log, true) ∷ (0, true) ∷ []
 abbrev pub word_of : TokenBook → Named
 word_of b = record { tracked = true; key = 0; book = b }
 
--- where the step found the length that it expected, the history is now the list
+-- where the step found the length that it expected, the history is now the list, and else it is as long as was found
 abbrev pub reached : List Edit → Step Edit → View Edit ℕ → ℕ → View Edit ℕ → Type 0
-reached list s v found w = found ≡ s.old → w.0 ≡ list
+reached list s v found w = (found ≡ s.old → w.0 ≡ list) × (found ≢ s.old → length w.0 ≡ found)
 
 -- an edit, where a step must name one and asks for none
 abbrev pub any_edit : Edit

@@ -1,5 +1,5 @@
 //! Beginnings of a history.
-ghost use Rattle.std.specs.Prelude.{◌≡◌, [], length, MatchBool};
+ghost use Rattle.std.specs.Prelude.{◌≡◌, ◌<◌, [], length, MatchBool, OnOk, OnErr, IfErr};
 ghost use Rattle.lost_spec.specs.Laws.{BeginsWith};
 ghost use Rattle.lost_history.specs.History.{beginning, longer};
 
@@ -66,6 +66,17 @@ impl Front {
         }
     }
 
+    /// Whether another front of one history is no longer than this one, and so begins it. Else this one begins the other.
+    pub fn has(&self, other: &Front) -> bool
+        requires { other.now.opening ≡ self.now.opening }
+        ensures { MatchBool result
+            (BeginsWith self.now.list other.now.list)
+            ((length self.now.list < length other.now.list) × BeginsWith other.now.list self.now.list) }
+    {
+        self.meet(other);
+        other.count <= self.count
+    }
+
     /// Shows to the proof that the longer of two fronts of one history begins with both.
     fn meet(&self, other: &Front)
         requires { other.now.opening ≡ self.now.opening }
@@ -76,13 +87,20 @@ impl Front {
         both.learn(&other.seen);
     }
 
-    /// Makes the history the list of an aim, which the front begins, and says whether it did. It did not where the
-    /// history was longer than the front, as no owner of its only head sees it.
-    pub fn reach<A: Aim>(&mut self, head: &Head, to: u64) -> bool
+    /// Makes the history the list of an aim, which the front begins.
+    ///
+    /// # Errors
+    ///
+    /// A front that is longer than this one, where the history was longer, as no owner of its only head sees it. This
+    /// front is then unchanged.
+    pub fn reach<A: Aim>(&mut self, head: &Head, to: u64) -> Result<(), Front>
         requires opening { head.now ≡ self.old.opening }
         requires begins { BeginsWith A.list self.old.list }
         requires length { to ≡ length A.list }
-        ensures { MatchBool result (self.new ≡ beginning self.old.opening A.list) (self.new ≡ self.old) }
+        ensures reached { OnOk result (self.new ≡ beginning self.old.opening A.list) }
+        ensures unchanged { OnErr result (self.new ≡ self.old) }
+        ensures longer { IfErr result (λ longer. (longer.opening ≡ self.old.opening)
+            × BeginsWith longer.list self.old.list × (length self.old.list < length longer.list)) }
     {
         let mut seen = self.seen.again();
         let mut offer: Offer<Change, u64, Rises, Nothing> = seen.plain::<Nothing, (), Reaches<A>>(
@@ -95,9 +113,9 @@ impl Front {
                 self.count, to, &mut seen, &mut offer, &mut pen,
             );
         if found != self.count {
-            return false;
+            return Err(Front { count: found, seen });
         }
         *self = Front { count: to, seen };
-        true
+        Ok(())
     }
 }
