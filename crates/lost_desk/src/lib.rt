@@ -3,6 +3,7 @@
 #![tactic(auto)]
 
 mod announce;
+mod answering;
 mod copies;
 mod desk;
 mod faults;

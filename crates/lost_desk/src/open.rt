@@ -15,6 +15,7 @@ use crate::rule::{Meeting, Naming, Telling};
 use crate::version::Version;
 use lost_book::Limits;
 use lost_history::{Front, open_history};
+use lost_tokens::Scratch;
 use std::alloc::{AllocError, Global};
 use std::collections::VecDeque;
 use std::snapshot::Snapshot;
@@ -118,23 +119,24 @@ fn make_readers(alloc: Global, writer: &mut CopyWriter, workers: u32) -> Result<
     ensures readers { IfOk result (λ r. (r.each ≡ reader_of writer.old.desk.shown.value) × (r.left ≡ workers)) }
 {
     let mut readers = Vec::with_capacity(alloc, workers as usize)?;
-    let first = make_reader(writer)?;
+    let first = make_reader(alloc, writer)?;
     let each = Snapshot::of(&first);
     readers.push(first)?;
     while readers.len() < workers as usize {
-        readers.push(make_reader(writer)?)?;
+        readers.push(make_reader(alloc, writer)?)?;
     }
     Ok(Readers::of(readers, each))
 }
 
 #[tactic(auto, using(crate::proofs::StepLemmas::admits, crate::proofs::StepLemmas::forks, crate::proofs::StepLemmas::merges))]
 /// One more reader, which has seen nothing. It learns what the copies are from the writer's seat.
-fn make_reader(writer: &mut CopyWriter) -> Result<Reader, AllocError>
+fn make_reader(alloc: Global, writer: &mut CopyWriter) -> Result<Reader, AllocError>
     requires { IsNewWriter (writer.old.desk.shown.value) (view writer.old.desk.place) }
     ensures kept { (writer.new.desk.shown ≡ writer.old.desk.shown) × (writer.new.log ≡ writer.old.log) × (writer.new.behind ≡ writer.old.behind) × (view writer.new.desk.place ≡ view writer.old.desk.place) }
     ensures reader { IfOk result (λ r. r ≡ reader_of writer.old.desk.shown.value) }
 {
+    let scratch = Box::new(alloc, Scratch::new(alloc))?;
     let mut seat = writer.factory().reader()?;
     seat.learn::<Meeting>(writer.tell::<Telling>());
-    Ok(Reader::of(seat, writer.published().front.again()))
+    Ok(Reader::of(seat, writer.published().front.again(), scratch))
 }

@@ -8,12 +8,14 @@ ghost use Rattle.left_right.specs.Sides.{view};
 ghost use Rattle.lost_desk.specs.Seen.{seen_book, with_seen};
 ghost use Rattle.lost_desk.specs.Held.{IsSeated, reader_seen};
 
+use crate::answering::reply_over;
 use crate::rule::{Entering, OneList};
 use crate::told::Told;
 use crate::version::Version;
 use crate::view::View;
 use lost_history::Front;
 use lost_mapping::{Moment, Source};
+use lost_tokens::Scratch;
 use std::alloc::{AllocError, Global};
 use std::marker::Model;
 
@@ -26,6 +28,8 @@ pub(crate) type Seat = left_right::reader::Reader<Version, View, OneList>;
 pub struct Reader {
     seat: Option<Seat>,
     latest: Front,
+    /// What the reader of lines works in. It holds nothing of them.
+    scratch: Box<Scratch>,
 }
 
 impl Model for Reader {
@@ -42,13 +46,14 @@ impl Model for Reader {
 
 impl Reader {
     /// The reader with this seat, which knows the copies and has seen nothing.
-    pub(crate) fn of(seat: Seat, latest: Front) -> Reader
+    pub(crate) fn of(seat: Seat, latest: Front, scratch: Box<Scratch>) -> Reader
         requires { IsSeated (view seat.place) latest }
         ensures { result ≡ reader_seen (λ w. w) (Some (view seat.place)) latest }
     {
         Reader {
             seat: Some(seat),
             latest,
+            scratch,
         }
     }
 
@@ -78,7 +83,15 @@ impl Reader {
         };
         match seat.enter_as::<Entering>() {
             Ok(reading) => {
-                let reply = reply_from(alloc, reading.get(), &mut self.latest, name, moment, line);
+                let reply = reply_from(
+                    alloc,
+                    reading.get(),
+                    &mut self.latest,
+                    name,
+                    moment,
+                    line,
+                    &mut self.scratch,
+                );
                 self.seat = Some(reading.leave());
                 reply
             }
@@ -116,6 +129,7 @@ fn reply_from(
     name: &Source,
     moment: &Moment,
     line: &[u8],
+    scratch: &mut Scratch,
 ) -> Result<Vec<u8>, AllocError>
     requires { version.now.front.opening ≡ latest.old.opening }
     ensures reply { IfOk result (λ reply. reply.items ≡ line_reply version.now.book name.now moment.now line.now) }
@@ -127,5 +141,5 @@ fn reply_from(
     if version.front.len() < latest.len() {
         return Err(AllocError);
     }
-    lost_json::reply_line(alloc, &version.book, name, moment, line)
+    reply_over(alloc, &version.book, name, moment, line, scratch)
 }
