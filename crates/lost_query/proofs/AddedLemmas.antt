@@ -8,9 +8,8 @@ use Rattle.lost_spec.specs.Text.{Text, same_text, ascending_by}
 use Rattle.lost_spec.specs.Service.{Service, service_text, is_service, same_service, is_at_or_below, is_above, child}
 use Rattle.lost_spec.specs.Moment.{Instant}
 use Rattle.lost_spec.specs.Mapping.{Mapping, is_live}
-use Rattle.lost_spec.specs.Book.{Book}
 use Rattle.lost_spec.specs.Find.{serves}
-use Rattle.lost_spec.specs.Services.{living, all_services}
+use Rattle.lost_spec.specs.Services.{children_in}
 use Rattle.lost_spec.proofs.ChildLemmas.{by_child}
 use Rattle.lost_spec.proofs.ListLemmas.{AllByRecursion-weaker}
 use Rattle.lost_spec.proofs.OrderLemmas.{AllByRecursion-ascending_by}
@@ -76,7 +75,7 @@ children_to-same q xs ys h k same =
 
 -- ---- one list within another
 
-same_service-itself : (s : Service) → same_service s s ≡ true
+pub same_service-itself : (s : Service) → same_service s s ≡ true
 same_service-itself s = (slice_eq-Decides bytes_eq-Decides s s (same_service s s) refl).1 refl
 
 any_one : (p : Service → Bool) (x : Service) (ys : List Service) → p x ≡ true → list_any (same_service x) ys ≡ true → list_any p ys ≡ true
@@ -139,17 +138,16 @@ children_in-services : (q : Option Service) (ms : List Mapping) → filter_map (
 children_in-services q [] = refl
 children_in-services q (m ∷ ms) = ap (cons_option (child q m.service)) (children_in-services q ms)
 
--- who added the service of each live mapping, and no other, has the services anywhere
-pub all_services-added :
-    (b : Book) (t : Instant) (q : Option Service) (added : List Service)
+-- who added the service of each live mapping, and no other, has the services below that of the live mappings
+pub living-added :
+    (ms : List Mapping) (t : Instant) (q : Option Service) (added : List Service)
     → AreServices added
-    → AllByRecursion (λ s. IsTrue (list_any (λ m. serves m t s) b.mappings)) added
-    → AllByRecursion (λ m. IsTrue (is_live m t) → IsTrue (is_among_services added m.service)) b.mappings
-    → children_to q added ≡ all_services b t q
-unfolding all_services
-all_services-added b t q added all served each =
-    let lives = services_of t added b.mappings in
-    let within : AllByRecursion (λ s. IsTrue (is_among_services added s)) lives = live_within t added b.mappings each in
-    let around : AllByRecursion (λ s. IsTrue (is_among_services lives s)) added = AllByRecursion-weaker (λ s. IsTrue (list_any (λ m. serves m t s) b.mappings)) (λ s. IsTrue (is_among_services lives s)) (λ s. served_within t added s b.mappings) added served in
+    → AllByRecursion (λ s. IsTrue (list_any (λ m. serves m t s) ms)) added
+    → AllByRecursion (λ m. IsTrue (is_live m t) → IsTrue (is_among_services added m.service)) ms
+    → children_to q added ≡ children_in q (filter (λ m. is_live m t) ms)
+living-added ms t q added all served each =
+    let lives = services_of t added ms in
+    let within : AllByRecursion (λ s. IsTrue (is_among_services added s)) lives = live_within t added ms each in
+    let around : AllByRecursion (λ s. IsTrue (is_among_services lives s)) added = AllByRecursion-weaker (λ s. IsTrue (list_any (λ m. serves m t s) ms)) (λ s. IsTrue (is_among_services lives s)) (λ s. served_within t added s ms) added served in
     children_to-same q added lives all (AreServices-within lives added all within) (any_same added lives around within)
-    ∙ ap (ascending_by service_text) (children_in-services q (living b t))
+    ∙ ap (ascending_by service_text) (children_in-services q (filter (λ m. is_live m t) ms))

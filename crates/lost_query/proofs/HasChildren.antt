@@ -20,7 +20,7 @@ pub record HasChildren (q : Option Service) (ms : List Mapping) (children : Chil
   pub found : children.found ≡ children_in q ms
 
 -- a service that is found comes first
-with_some-ascending_by : (found : Option Service) (services : List Service) → with_some found (ascending_by service_text services) ≡ ascending_by service_text (cons_option found services)
+pub with_some-ascending_by : (found : Option Service) (services : List Service) → with_some found (ascending_by service_text services) ≡ ascending_by service_text (cons_option found services)
 with_some-ascending_by None services = refl
 with_some-ascending_by (Some s) services = refl
 

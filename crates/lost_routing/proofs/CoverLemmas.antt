@@ -110,7 +110,7 @@ module _ (ns : List ℕ) (ms : List Mapping) (tables : Tables) (regions : Region
   abbrev Among : List ℕ → ℕ → Type 0
   Among candidates number = list_any (nat_eq number) candidates ≡ true
 
-  noted_at : (place number : ℕ) (m : Mapping) → slice_get ms place ≡ Some m → slice_get ns place ≡ Some number → IsNoted tables m number
+  pub noted_at : (place number : ℕ) (m : Mapping) → slice_get ms place ≡ Some m → slice_get ns place ≡ Some number → IsNoted tables m number
   noted_at place number m at_m at_n = row_at (λ e. IsNoted tables e.1 e.0) ns ms kept.noted place number m at_m at_n
 
   pub covers_identity : (id : Identity) (candidates : List ℕ) → candidates ≡ numbers_of tables (ByIdentity id)

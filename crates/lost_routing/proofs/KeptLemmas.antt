@@ -24,6 +24,7 @@ note_kept t t' n k m others apart noted = record {
   by_key = key_kept t t' n k m.key others apart noted.by_key;
   by_service = others (ByService m.service) k apart noted.by_service;
   by_default = λ is_default. others (ByDefault m.service) k apart (noted.by_default is_default);
+  well_formed = noted.well_formed;
 }
 
 notes_kept : (t t' : Tables) (n : ℕ) (rows : Rows) → KeepsOthers n t t' → HasNo n rows → AreNoted t rows → AreNoted t' rows

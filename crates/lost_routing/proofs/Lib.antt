@@ -4,3 +4,4 @@ pub mod KeptLemmas
 pub mod ApplyLemmas
 pub mod QuestionLemmas
 pub mod NamedLemmas
+pub mod ServiceLemmas

@@ -10,6 +10,7 @@ mod held;
 mod holdings;
 mod questions;
 mod routing;
+mod services;
 mod validating;
 mod walk;
 

@@ -1,10 +1,6 @@
-//! The mappings that a validation looks at, and the services that are held.
-ghost use Rattle.std.specs.Prelude.{◌≡◌, IfOk, filter, filter_map};
-ghost use Rattle.std.specs.List.{list_any};
-ghost use Rattle.std.specs.Option.{option_copied};
+//! The mappings that a validation looks at.
+ghost use Rattle.std.specs.Prelude.{◌≡◌, IfOk, filter_map};
 ghost use Rattle.lost_spec.specs.Positions.{positions};
-ghost use Rattle.lost_spec.specs.Mapping.{is_live};
-ghost use Rattle.lost_spec.specs.Services.{children_in};
 ghost use Rattle.lost_civicdex.specs.Keys.{key_of};
 ghost use Rattle.lost_query.specs.Judged.{is_referring};
 
@@ -13,7 +9,7 @@ use lost_book::serves;
 use lost_civic::{CivicAddress, Element};
 use lost_civicdex::RequiredElements;
 use lost_mapping::Moment;
-use lost_query::{Children, refers};
+use lost_query::refers;
 use lost_tables::picks;
 use lost_urn::ServiceUrn;
 use std::alloc::AllocError;
@@ -87,25 +83,5 @@ impl Held {
             candidates,
             |mapping| serves(mapping, moment, service) && refers(mapping, address, elements),
         )
-    }
-
-    /// The services just below one, or the topmost, of the live mappings, or want of memory.
-    pub(crate) fn services_below(
-        &self,
-        moment: &Moment,
-        above: Option<&ServiceUrn>,
-    ) -> Result<Vec<ServiceUrn>, AllocError>
-        ensures { IfOk result (λ found.
-            found.items ≡ children_in (option_copied above.entry) (filter (λ m. is_live m moment.now) self.now.mappings)) }
-    {
-        let mut children = Children::new(self.alloc, above);
-        for position in (0..self.mappings.len()).rev() {
-            let mapping = &self.mappings[position];
-            if !mapping.is_live(moment) {
-                continue;
-            }
-            children.add(mapping.service())?;
-        }
-        children.into_list(self.alloc)
     }
 }

@@ -129,6 +129,14 @@ pub to_filter_map : (h : ℕ → Option ℕ) (n m : ℕ) (cs : List ℕ) → h m
 to_filter_map h n m [] is stands = absurd (false≢true stands)
 to_filter_map h n m (c ∷ cs) is stands = to_next h n m c cs (nat_eq m c) refl is stands (to_filter_map h n m cs is)
 
+first_stands : (n : ℕ) (xs : List ℕ) → Some n ≡ slice_get xs 0 → Stands n xs
+first_stands n [] is = absurd (none_some n (sym is))
+first_stands n (x ∷ xs) is = or_left (nat_eq n x) (list_any (nat_eq n) xs) (same_itself n x (some_same x n (sym is)))
+
+none_stands : (n : ℕ) (xs : List ℕ) → None ≡ slice_get xs 0 → Stands n xs → ⊥
+none_stands n [] none stands = false≢true stands
+none_stands n (x ∷ xs) none stands = none_some x none
+
 -- what it gives up to the next one of a list
 pub given_next : (h : ℕ → Option ℕ) (cs : List ℕ) (i d : ℕ) → i < length cs
     → filter_map h (take (i + 1) cs) ≡ filter_map h (take i cs) ++ cons_option (h (get_or cs i d)) []
@@ -155,6 +163,36 @@ none_of (Some n) h = absurd (false≢true (sym h))
 pub still_none : (h : ℕ → Option ℕ) (cs : List ℕ) (i : ℕ) (o : Option ℕ) → i < length cs → o ≡ h (get_or cs i 0) → is_some o ≡ false
     → filter_map h (take i cs) ≡ [] → filter_map h (take (i + 1) cs) ≡ []
 still_none h cs i o within is none so_far = sym (none_more h cs i [] within (none_of o none ∙ is) (sym so_far))
+
+some_of : (o : Option ℕ) → is_some o ≡ true → (n : ℕ) × (o ≡ Some n)
+some_of None h = absurd (false≢true h)
+some_of (Some n) h = (n, refl)
+
+some_first : (n : ℕ) (o : Option ℕ) (rest : List ℕ) → o ≡ Some n → slice_get (cons_option o rest) 0 ≡ Some n
+some_first n None rest is = absurd (none_some n is)
+some_first n (Some k) rest is = is
+
+none_first : (o : Option ℕ) (rest : List ℕ) → cons_option o rest ≡ [] → (o ≡ None) × (rest ≡ [])
+none_first None rest none = (refl, none)
+none_first (Some k) rest none = absurd (cc)
+
+-- the first that is given, where none is before
+first_given : (h : ℕ → Option ℕ) (cs : List ℕ) (i n : ℕ) → i < length cs → h (get_or cs i 0) ≡ Some n → filter_map h (take i cs) ≡ []
+    → slice_get (filter_map h cs) 0 ≡ Some n
+first_given h [] i n within is none = absurd (omega (arith, within))
+first_given h (c ∷ cs) zero n within is none = some_first n (h c) (filter_map h cs) is
+first_given h (c ∷ cs) (suc i) n within is none =
+    let apart = none_first (h c) (filter_map h (take i cs)) none in
+    ap (λ o. slice_get (cons_option o (filter_map h cs)) 0) apart.0 ∙ first_given h cs i n (omega (arith, within)) is apart.1
+
+pub given_here : (h : ℕ → Option ℕ) (cs : List ℕ) (i : ℕ) (o : Option ℕ) → i < length cs → o ≡ h (get_or cs i 0) → is_some o ≡ true
+    → filter_map h (take i cs) ≡ [] → o ≡ slice_get (filter_map h cs) 0
+given_here h cs i o within is there none =
+    let some = some_of o there in
+    some.1 ∙ sym (first_given h cs i some.0 within (sym is ∙ some.1) none)
+
+pub given_nowhere : (h : ℕ → Option ℕ) (cs : List ℕ) (i : ℕ) → length cs ≤ i → filter_map h (take i cs) ≡ [] → None ≡ slice_get (filter_map h cs) 0
+given_nowhere h cs i past none = sym (ap (λ l. slice_get l 0) (sym (all_given h cs i past) ∙ none))
 
 -- ---- the least of a list
 
@@ -442,6 +480,21 @@ module _ {Thing : Type 0} (test : Thing → Bool) where
       least_is_first candidates covers (Some l) h =
           sym (first_place things l (sound candidates l h.0)
           (λ k below. fails candidates covers k (λ stands. let above = h.1 k stands in absurd (omega (arith, above, below)))))
+
+      -- the first that is given passes
+      pub first_passes : (candidates : List ℕ) (n : ℕ) → Some n ≡ slice_get (filter_map (passing test numbers things) candidates) 0
+          → passes_at things n ≡ true
+      first_passes candidates n is = sound candidates n (first_stands n (filter_map (passing test numbers things) candidates) is)
+
+      -- where none is given, nothing passes that has its number among the candidates
+      pub none_given : (candidates : List ℕ) → None ≡ slice_get (filter_map (passing test numbers things) candidates) 0
+          → (n m : ℕ) → slice_get numbers n ≡ Some m → list_any (nat_eq m) candidates ≡ true → passes_at things n ≡ false
+      none_given candidates none n m numbered among =
+          fails_unless (passes_at things n)
+          (λ passes. none_stands n (filter_map (passing test numbers things) candidates) none
+          (to_filter_map (passing test numbers things) n m candidates
+          (ap (option_and_then (if_passes test things)) (position_at numbers n m rising numbered) ∙ ap (λ b. if b then Some n else None) passes)
+          among))
 
       -- what is given, sorted and each once, are the places of what passes
       pub given_are : (candidates : List ℕ) → Covers test numbers things candidates → (found sorted result : List ℕ)

@@ -52,6 +52,7 @@ module _ (old new : Tables) where
         (λ text. KeepsUnder text (under_text old.defaults) (under_text new.defaults))
         (subst (λ o. IfSome o (λ text. KeepsUnder text (under_text old.defaults) (under_text new.defaults))) is_standing defaults)
         is_default number (noted.by_default is_default);
+    well_formed = noted.well_formed;
   }
 
   -- and where all stays
@@ -61,4 +62,5 @@ module _ (old new : Tables) where
     by_key = kept_all m.key (under_text old.keys) (under_text new.keys) number (λ key. keeps (ByKey key) number) noted.by_key;
     by_service = keeps (ByService m.service) number noted.by_service;
     by_default = λ is_default. keeps (ByDefault m.service) number (noted.by_default is_default);
+    well_formed = noted.well_formed;
   }

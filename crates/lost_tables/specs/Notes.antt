@@ -1,9 +1,8 @@
 -- By what a mapping is known, and which numbers are listed under it.
-use Rattle.std.specs.Prelude.{◌≡◌, ℕ, true, if◌then◌else◌, Option, None, Some, List, IfSome, nat_eq}
-use Rattle.std.specs.HashMap.{values}
+use Rattle.std.specs.Prelude.{◌≡◌, ℕ, Bool, true, ◌&&◌, if◌then◌else◌, Option, None, Some, List, IfSome, IsTrue, nat_eq, map, string_bytes}
 use Rattle.std.specs.List.{list_any}
-use Rattle.lost_spec.specs.Text.{Text}
-use Rattle.lost_spec.specs.Service.{Service, service_text}
+use Rattle.lost_spec.specs.Text.{Text, same_text}
+use Rattle.lost_spec.specs.Service.{Service, service_text, is_service}
 use Rattle.lost_spec.specs.Mapping.{Mapping}
 use Rattle.lost_spec.specs.Book.{Identity, identity_of}
 use Rattle.lost_tables.specs.Lists.{Stands, KeepsLists, KeepsOtherNumbers, under_text, under_identity}
@@ -23,9 +22,9 @@ numbers_of tables (ByKey key) = under_text tables.keys key
 numbers_of tables (ByService service) = under_text tables.services (service_text service)
 numbers_of tables (ByDefault service) = under_text tables.defaults (service_text service)
 
--- the lists of all services, one after another
-abbrev pub service_lists : Tables → List (List ℕ)
-service_lists tables = values tables.services
+-- the texts of the services that have a list, each beside its list, one after another
+abbrev pub service_rows : Tables → List (Text × List ℕ)
+service_rows tables = map (λ row. (string_bytes row.0, row.1)) tables.services.entries
 
 -- the number is listed under the note
 abbrev pub IsListed : Tables → Note → ℕ → Type 0
@@ -39,18 +38,23 @@ Keeps old new = KeepsLists (numbers_of old) (numbers_of new)
 abbrev pub KeepsOthers : ℕ → Tables → Tables → Type 0
 KeepsOthers gone old new = KeepsOtherNumbers gone (numbers_of old) (numbers_of new)
 
--- the number is listed under each note of the mapping
+-- the number is listed under each note of the mapping, whose service is one (RFC 5031, section 3)
 pub record IsNoted (tables : Tables) (mapping : Mapping) (number : ℕ) : Type 0 where
   pub by_identity : IsListed tables (ByIdentity (identity_of mapping)) number
   pub by_key : IfSome mapping.key (λ key. IsListed tables (ByKey key) number)
   pub by_service : IsListed tables (ByService mapping.service) number
   pub by_default : mapping.is_default ≡ true → IsListed tables (ByDefault mapping.service) number
+  pub well_formed : IsTrue (is_service mapping.service)
 
 -- the text of a mapping's service, where the mapping is a default
 abbrev pub default_text : Mapping → Option Text
 default_text mapping = if mapping.is_default then Some (service_text mapping.service) else None
 
--- each number that is listed under a service stands in one of the lists of services
+-- a row is that of a service, and the number is in its list
+abbrev pub is_row_with : Service → ℕ → Text × List ℕ → Bool
+is_row_with service number row = same_text (service_text service) row.0 && list_any (nat_eq number) row.1
+
+-- each number that is listed under a service is in the list of a row of that service
 abbrev pub ServicesAreWalked : Type 0
 ServicesAreWalked = (tables : Tables) (service : Service) (number : ℕ) → IsListed tables (ByService service) number
-    → list_any (λ numbers. list_any (nat_eq number) numbers) (service_lists tables) ≡ true
+    → list_any (is_row_with service number) (service_rows tables) ≡ true

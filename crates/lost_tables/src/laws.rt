@@ -1,7 +1,7 @@
 //! Laws that callers may rest on. Each function's contract is the law, and its body is empty.
 ghost use Rattle.lost_tables.specs.Notes.{ServicesAreWalked};
 
-/// Each number that is listed under a service stands in one of the lists of services (own rule).
+/// Each number that is listed under a service is in the list of a row of that service (own rule).
 pub fn services_are_walked()
     ensures walked { ServicesAreWalked }
 {}

@@ -1,5 +1,5 @@
 //! Picking the mappings that pass a test: only those that have their number among candidates are tested.
-ghost use Rattle.std.specs.Prelude.{◌≡◌, Bool, position, nat_eq, length, IfOk};
+ghost use Rattle.std.specs.Prelude.{◌≡◌, Bool, position, nat_eq, length, IfOk, filter_map, slice_get};
 ghost use Rattle.std.specs.Fn.{FnReturnsAt};
 ghost use Rattle.std.specs.List.{list_any};
 ghost use Rattle.std.specs.List.Sorted.{IsStrictlySortedBy};
@@ -66,6 +66,29 @@ pub fn first<F: Fn(&Mapping) -> bool>(
         least = lesser(least, passing_place(numbers, things, *candidate, &passes));
     }
     least
+}
+
+/// The place of a thing that passes a test and has its number among candidates: that of the first candidate whose thing
+/// passes. The numbers of the things rise. It takes no memory.
+pub fn one<F: Fn(&Mapping) -> bool>(
+    numbers: &[u64],
+    things: &[Mapping],
+    candidates: &[u64],
+    passes: F,
+) -> Option<usize>
+    requires callable { F.IsAlwaysCallable passes }
+    requires rising { IsStrictlySortedBy nat_cmp numbers.now }
+    requires paired { length numbers.now ≡ length things.now }
+    ensures { (test : spec.Mapping → Bool) → ((m : spec.Mapping) (r : Bool) → FnReturnsAt F.Fn passes m r → r ≡ test m)
+        → result ≡ slice_get (filter_map (passing test numbers.now things.now) candidates.now) 0 }
+{
+    for candidate in candidates {
+        let place = passing_place(numbers, things, *candidate, &passes);
+        if place.is_some() {
+            return place;
+        }
+    }
+    None
 }
 
 /// Whether some thing passes a test. The numbers of the things rise, and the candidates are the numbers of all that

@@ -21,7 +21,7 @@ pub struct Tables {
 impl Tables {
     ghost use Rattle.std.specs.Prelude.{◌≡◌, ◌<◌, Some, [], length, slice_get, OnOk};
     ghost use Rattle.lost_spec.specs.Service.{Service, service_text};
-    ghost use Rattle.lost_tables.specs.Notes.{Note, ByIdentity, ByKey, ByService, ByDefault, numbers_of, service_lists, Keeps, KeepsOthers, IsNoted};
+    ghost use Rattle.lost_tables.specs.Notes.{Note, ByIdentity, ByKey, ByService, ByDefault, numbers_of, service_rows, Keeps, KeepsOthers, IsNoted};
 
     /// Tables with no number. It takes no memory.
     pub fn new(alloc: Global) -> Tables
@@ -66,20 +66,20 @@ impl Tables {
         texts::numbers_under(&self.defaults, text)
     }
 
-    /// How many lists of services there are.
+    /// How many services there are with a list.
     pub fn service_count(&self) -> usize
-        ensures { result ≡ length (service_lists self.now) }
+        ensures { result ≡ length (service_rows self.now) }
     {
         self.services.len()
     }
 
-    /// The numbers of one of the lists of services. It takes no memory.
-    pub fn service_numbers(&self, position: usize) -> &[u64]
-        requires { position < length (service_lists self.now) }
-        ensures { slice_get (service_lists self.now) position ≡ Some result.now }
+    /// The text of one of the services with a list, and the numbers in its list. It takes no memory.
+    pub fn service_at(&self, position: usize) -> (&str, &[u64])
+        requires { position < length (service_rows self.now) }
+        ensures { slice_get (service_rows self.now) position ≡ Some (result.0.now, result.1.now) }
     {
         match self.services.get_index(position) {
-            Some((_, cell)) => cell.numbers(),
+            Some((text, cell)) => (text.as_str(), cell.numbers()),
             None => unreachable!(),
         }
     }

@@ -1,19 +1,55 @@
--- The child on the way to the service of one live mapping more.
-use Rattle.std.proofs.Common.{◌≡◌, ◌-◌, ◌<◌, Some, length, slice_get, sym, ap, subst, rules, ◌∙◌}
+-- A row more was walked, whether a live mapping of its service was found or not.
+use Rattle.std.proofs.Common.{◌≡◌, ◌∙◌, ◌<◌, ◌≤◌, Some, None, Option, List, ℕ, length, filter, ap, subst, rules, arith}
 use Rattle.std.specs.Option.{option_copied}
+use Rattle.lost_spec.specs.Text.{Text}
 use Rattle.lost_spec.specs.Mapping.{Mapping, is_live}
-use Rattle.lost_query.proofs.HasChildren.{HasChildren-passes}
+use Rattle.lost_spec.specs.Services.{children_in}
+use Rattle.lost_tables.specs.Notes.{service_rows}
+use Rattle.lost_routing.specs.Walk.{live_place}
 use Rattle.lost_routing.proofs.QuestionLemmas.{seen_at}
+use Rattle.lost_routing.proofs.ServiceLemmas.{chosen_seen, chosen_within, no_more, one_more, all_walked}
 use Rattle.lost_routing.proofs.held.Held.services_below.Goals as goal
+use Rattle.lost_routing.proofs.held.Held.services_below.Goals.{in-Some+in_ok-add, in_default}
 
-pub loop-position-preserved : goal.loop-position-preserved
-loop-position-preserved c =
-    let i = c.loop-position.position in
-    let x = c.index-mapping.result.now in
-    let within : i - 1 < length c.self.inside.mappings.items = search rules in
-    let at : slice_get c.args.self.now.mappings (i - 1) ≡ Some x =
-    subst (λ l. slice_get l (i - 1) ≡ Some x) (ap (λ k. k.mappings) c.self.view_is)
-    (seen_at c.self.inside.mappings.items (i - 1) x within c.index-mapping.ensures) in
-    HasChildren-passes (λ (m : Mapping). is_live m c.args.moment.now) (option_copied c.args.above) c.args.self.now.mappings i x (search rules) at
-    c.loop-position.children c.loop-position.invariant (sym c.is_live.ensures ∙ c.if-not-is_live.false) c.service.result.now c.add.new.self
-    c.service.ensures c.in_ok-add.ensures.child
+pub index-requires : goal.index-requires
+index-requires c =
+    let row : Text × List ℕ = (c.service_at.result.0.now, c.service_at.result.1.now) in
+    let held = c.self.inside in
+    let within : c.in-Some.place < length held.mappings.items =
+    chosen_within held.numbers.items held.mappings.items held.tables held.regions c.self.invariant (option_copied c.args.above) c.args.moment.now
+    row c.in-Some.place
+    (chosen_seen held.numbers.items c.deref.result.now held.mappings.items c.deref-in-loop-row.result.now c.args.moment.now row
+    (Some c.in-Some.place) c.deref.ensures.value c.deref-in-loop-row.ensures.value c.in-Some.ensures) in
+    search rules
+
+pub loop-row-preserved : goal.loop-row-preserved
+loop-row-preserved c =
+    let row : Text × List ℕ = (c.service_at.result.0.now, c.service_at.result.1.now) in
+    let held = c.self.inside in
+    let chosen = λ (place : Option ℕ) (is : place ≡ live_place c.deref.result.now c.deref-in-loop-row.result.now c.args.moment.now row.0 row.1).
+    chosen_seen held.numbers.items c.deref.result.now held.mappings.items c.deref-in-loop-row.result.now c.args.moment.now row
+    place c.deref.ensures.value c.deref-in-loop-row.ensures.value is in
+    elim c.match-place.branch [
+      | in-Some+in_ok-add w ↦ rw w.children-is
+          (one_more held.numbers.items held.mappings.items held.tables held.regions c.self.invariant (option_copied c.args.above) c.args.moment.now
+          row c.loop-row.row c.service_at.ensures c.loop-row.children c.loop-row.invariant w.in-Some.place w.index.result.now
+          (chosen (Some w.in-Some.place) w.in-Some.ensures)
+          (seen_at held.mappings.items w.in-Some.place w.index.result.now
+          (chosen_within held.numbers.items held.mappings.items held.tables held.regions c.self.invariant (option_copied c.args.above) c.args.moment.now
+          row w.in-Some.place (chosen (Some w.in-Some.place) w.in-Some.ensures))
+          w.index.ensures)
+          w.service.result.now w.service.ensures w.in_ok-add.ensures.well_formed w.add.new.self w.in_ok-add.ensures.child)
+      | in_default w ↦ rw w.children-is
+          (no_more held.numbers.items held.mappings.items held.tables held.regions c.self.invariant (option_copied c.args.above) c.args.moment.now
+          row c.loop-row.row c.service_at.ensures c.loop-row.children c.loop-row.invariant (chosen None w.in_default.ensures))
+    ]
+
+pub returns : goal.returns
+returns c =
+    let held = c.self.inside in
+    let past : length (service_rows held.tables) ≤ c.loop-row.row = search (arith, rules) in
+    let all : c.loop-row.children.found ≡ children_in (option_copied c.args.above) (filter (λ (m : Mapping). is_live m c.args.moment.now) c.args.self.now.mappings) =
+    all_walked held.numbers.items held.mappings.items held.tables held.regions c.self.invariant (option_copied c.args.above) c.args.moment.now
+    c.services_are_walked.ensures.walked c.loop-row.row c.loop-row.children past c.loop-row.invariant
+    ∙ ap (λ l. children_in (option_copied c.args.above) (filter (λ (m : Mapping). is_live m c.args.moment.now) l)) (ap (λ k. k.mappings) c.self.view_is) in
+    search rules

@@ -1,10 +1,9 @@
--- The children of the last live mappings were found.
-use Rattle.std.proofs.Common.{drop, filter}
+-- The services of the first rows were added.
 use Rattle.std.specs.Option.{option_copied}
-use Rattle.lost_spec.specs.Mapping.{is_live}
-use Rattle.lost_query.proofs.HasChildren.{HasChildren}
+use Rattle.lost_tables.specs.Notes.{service_rows}
+use Rattle.lost_routing.proofs.ServiceLemmas.{IsWalked}
 use Rattle.lost_routing.proofs.held.Held.services_below.Given as goal
 
-abbrev pub invariant-loop-position : goal.invariant-loop-position
-invariant-loop-position l =
-    HasChildren (option_copied l.above) (filter (λ m. is_live m l.moment) (drop l.position l.self.mappings)) l.children
+abbrev pub invariant-loop-row : goal.invariant-loop-row
+invariant-loop-row l =
+    IsWalked (option_copied l.above) l.moment l.self-inside.numbers.items l.self-inside.mappings.items (service_rows l.self-inside.tables) l.row l.children
