@@ -1,0 +1,106 @@
+//! The runs of the table, and what they came to.
+use crate::books::{Books, Outcome};
+use crate::draws::Draws;
+use crate::edits::edit;
+use crate::rounds::{QUESTIONS, difference};
+use crate::rows::{Row, rows};
+use lost_book::EditError;
+use std::alloc::Global;
+use std::io;
+use std::rt::Files;
+
+/// How many rounds of questions follow each edit.
+const ROUNDS: u64 = 20;
+
+/// What an edit is refused for, by code from 13 to 19.
+const REFUSALS: [EditError; 7] = [
+    EditError::IdentityHeld,
+    EditError::IdentityUnknown,
+    EditError::NotNewer,
+    EditError::KeyHeld,
+    EditError::KeyUnchanged,
+    EditError::Full,
+    EditError::EditsSpent,
+];
+
+/// What a run came to.
+#[derive(Drop)]
+struct Tally {
+    accepted: u64,
+    refusals: Vec<EditError>,
+    questions: u64,
+    /// The edit after which something differed, and what did.
+    difference: Option<(u64, &'static str)>,
+}
+
+/// Runs each row, and prints what it came to and how often each refusal came. Says whether nothing differs; what does is
+/// printed, and ends the runs.
+pub(crate) fn print_runs<R: Files + Print + AllocGlobal>(rt: &R) -> io::Result<bool> {
+    let mut refusals = Vec::new(rt.alloc());
+    for row in &rows(rt)? {
+        let mut tally = run(rt.alloc(), row)?;
+        if let Some((edit, question)) = tally.difference {
+            println!(rt;
+                "seed {}, edit {edit}: the two differ in {question}",
+                row.seed
+            )?;
+            return Ok(false);
+        }
+        println!(rt;
+            "seed {}: {} edits accepted, {} refused, {} questions, 0 differences",
+            row.seed,
+            tally.accepted,
+            tally.refusals.len(),
+            tally.questions
+        )?;
+        refusals.append(&mut tally.refusals)?;
+    }
+    for refusal in REFUSALS {
+        let count = refusals.iter().filter(|other| **other == refusal).count();
+        println!(rt; "refused {}: {count}", refusal.code())?;
+    }
+    Ok(true)
+}
+
+/// Runs a row, up to its end or to a difference.
+fn run(alloc: Global, row: &Row) -> io::Result<Tally> {
+    let mut draws = Draws::new(row.seed);
+    let mut books = Books::new(alloc, row.limits)?;
+    let mut tally = Tally {
+        accepted: 0,
+        refusals: Vec::new(alloc),
+        questions: 0,
+        difference: None,
+    };
+    for number in 0..row.edits {
+        let edit = edit(alloc, &mut draws, books.book(), number)?;
+        match books.apply(edit)? {
+            Outcome::Accepted => tally.accepted = tally.accepted.saturating_add(1),
+            Outcome::Refused(refusal) => tally.refusals.push(refusal)?,
+            Outcome::Differs => tally.difference = Some((number, "an edit")),
+        }
+        if tally.difference.is_none() {
+            tally.difference = asked(alloc, &mut draws, &books, number)?;
+        }
+        if tally.difference.is_some() {
+            return Ok(tally);
+        }
+        tally.questions = tally.questions.saturating_add(ROUNDS * QUESTIONS);
+    }
+    Ok(tally)
+}
+
+/// Asks all rounds after the edit of this number: the first question to which the answers differ.
+fn asked(
+    alloc: Global,
+    draws: &mut Draws,
+    books: &Books,
+    number: u64,
+) -> io::Result<Option<(u64, &'static str)>> {
+    for _round in 0..ROUNDS {
+        if let Some(question) = difference(alloc, draws, books, number)? {
+            return Ok(Some((number, question)));
+        }
+    }
+    Ok(None)
+}
