@@ -1,5 +1,5 @@
 -- Lemmas on what a cutter has of the line that is being read.
-use Rattle.std.proofs.Common.{◌≡◌, ℕ, ◌+◌, ◌<◌, ◌==◌, true, List, [], ◌∷◌, length, min, arith}
+use Rattle.std.proofs.Common.{◌≡◌, ◌+◌, ◌==◌, true, [], length, min, arith}
 use Rattle.std.proofs.lemmas.Bool.{eqb-true}
 use Rattle.std.proofs.lemmas.List.{nil_from_length}
 use Rattle.lost_spec.specs.Text.{Text}

@@ -1,9 +1,9 @@
 -- Lemmas on cutting bytes into lines.
-use Rattle.std.proofs.Common.{◌≡◌, ◌≢◌, ℕ, ◌+◌, ◌<◌, ◌≤◌, Bool, true, false, cond, ◌==◌, List, [], ◌∷◌, ◌++◌, length, take, drop, get_or, All, Option, None, Some, refl, sym, ap, ◌∙◌, append_assoc, arith, length-take-le, take-append-drop}
+use Rattle.std.proofs.Common.{◌≡◌, ◌≢◌, ℕ, ◌+◌, ◌<◌, Bool, true, false, cond, ◌==◌, List, [], ◌∷◌, ◌++◌, length, take, drop, All, refl, sym, ap, ◌∙◌, append_assoc, arith, length-take-le, take-append-drop}
 use Rattle.std.proofs.lemmas.Bool.{ne_eqb, eq-eqb, eqb-true, cond-false}
 use Rattle.std.proofs.lemmas.List.{drop_more, get_or-take, get_or_default}
 use Rattle.std.proofs.lemmas.List.Elements.{All-head, All-tail}
-use Rattle.memchr.specs.Find.{IsFirstByte, Nowhere, NoneBefore, Passes, is_byte}
+use Rattle.memchr.specs.Find.{Nowhere, NoneBefore, Passes, is_byte}
 use Rattle.lost_spec.specs.Text.{Text}
 use Rattle.lost_lines.specs.Cutting.{newline, with_byte, cut, ended_lines, last_piece, piece_lines, lines_of}
 

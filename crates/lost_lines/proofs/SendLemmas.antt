@@ -1,5 +1,5 @@
 -- Lemmas on bytes on their way to an output.
-use Rattle.std.proofs.Common.{◌≡◌, ◌≢◌, ℕ, ◌≤◌, List, [], ◌++◌, length, take, drop, sym, ap, ◌∙◌, refl, append_assoc, append-nil, take-append-drop, Option}
+use Rattle.std.proofs.Common.{◌≡◌, ℕ, [], ◌++◌, take, drop, sym, ap, ◌∙◌, refl, append_assoc, append-nil, take-append-drop, Option}
 use Rattle.std.specs.Io.KnownBytes.{Appends, Keeps}
 use Rattle.std.proofs.KnownBytes.{Appends-trans, Appends-nil, Appends-kept}
 use Rattle.lost_spec.specs.Text.{Text}
@@ -47,3 +47,16 @@ AppendsFront-more a b gathered text w = (w.0, w.1 ++ text, ap (λ l. l ++ text) 
 pub AppendsFront-after : (a b c : Option Text) (gathered text : Text) → Appends a b gathered → AppendsFront b c text → AppendsFront a c (gathered ++ text)
 AppendsFront-after a b c gathered text first w =
     (gathered ++ w.0, w.1, ap (λ l. gathered ++ l) w.2 ∙ sym (append_assoc gathered w.0 w.1), Appends-trans a b c gathered w.0 first w.3)
+
+-- what is gathered behind a text was written too
+pub Sends-settled : (a b c : Option Text) (gathered left last text : Text) → Sends a gathered b left text → Appends b c left → last ≡ [] → Sends a gathered c last text
+Sends-settled a b c gathered left last text first second none = record {
+  sent = first.sent ++ left;
+  appended = Appends-trans a b c first.sent left first.appended second;
+  whole = first.whole ∙ sym (ap (λ l. (first.sent ++ left) ++ l) none ∙ append-nil (first.sent ++ left));
+}
+
+-- or a front of it
+pub AppendsFront-settled : (a b c : Option Text) (gathered left text : Text) → Sends a gathered b left text → AppendsFront b c left → AppendsFront a c (gathered ++ text)
+AppendsFront-settled a b c gathered left text first w =
+    (first.sent ++ w.0, w.1, first.whole ∙ ap (λ l. first.sent ++ l) w.2 ∙ sym (append_assoc first.sent w.0 w.1), Appends-trans a b c first.sent w.0 first.appended w.3)

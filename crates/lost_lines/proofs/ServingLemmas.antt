@@ -1,17 +1,17 @@
 -- Lemmas on what becomes of a stream that is being served.
-use Rattle.std.proofs.Common.{◌≡◌, ℕ, ◌+◌, ◌<◌, ◌≤◌, Bool, cond, List, [], ◌∷◌, ◌++◌, length, take, drop, Option, refl, sym, ap, ◌∙◌, append_assoc, append-nil, length-append, zero-add, add-zero, arith}
+use Rattle.std.proofs.Common.{◌≡◌, ◌+◌, Bool, cond, List, [], ◌∷◌, ◌++◌, length, Option, refl, sym, ap, ◌∙◌, append_assoc, append-nil, length-append, zero-add, add-zero, arith}
 use Rattle.std.specs.Io.KnownBytes.{Appends}
 use Rattle.std.proofs.KnownBytes.{Appends-trans, Appends-nil}
 use Rattle.std.proofs.lemmas.List.{nil_from_length}
 use Rattle.lost_spec.specs.Text.{Text}
 use Rattle.lost_lines.specs.declared.counts.Counts.{Counts}
-use Rattle.lost_lines.specs.Cutting.{newline, cut, ended_lines, piece_lines, is_long as is_line_long}
-use Rattle.lost_lines.specs.Run.{Cut, Reply, Run, Answers, text_of, long_count, memory_count}
+use Rattle.lost_lines.specs.Cutting.{newline, cut, ended_lines, is_long as is_line_long}
+use Rattle.lost_lines.specs.Run.{Cut, Reply, Answers, text_of}
 use Rattle.lost_lines.specs.Tally.{Counted}
 use Rattle.lost_lines.specs.Cutter.{IsHolding}
 use Rattle.lost_lines.specs.Sending.{Sends}
 use Rattle.lost_lines.specs.Stream.{AppendsFront}
-use Rattle.lost_lines.specs.Serving.{Point, Adds, Serves, Breaks, Moves, Advances, Stops, Fails, TakesFront, TakesUpTo, point_of, cutter_of, gathered_of, server_counts, server_most}
+use Rattle.lost_lines.specs.Serving.{Point, Adds, Serves, Breaks, Moves, Advances, Stops, Fails, TakesFront, cutter_of, gathered_of, server_counts}
 use Rattle.lost_lines.proofs.CuttingLemmas.{cut-join, cut-piece, cut-line, ended_lines-append}
 use Rattle.lost_lines.proofs.RunLemmas.{Run-append, Run-one, text_of-append, long_count-append, memory_count-append}
 

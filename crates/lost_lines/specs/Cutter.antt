@@ -1,5 +1,5 @@
 -- What a `Cutter` has of the line that is being read.
-use Rattle.std.specs.Prelude.{◌≡◌, ◌≢◌, ◌≤◌, ◌+◌, ℕ, Bool, false, List, length, min, All}
+use Rattle.std.specs.Prelude.{◌≡◌, ◌≢◌, ◌≤◌, ◌+◌, ℕ, Bool, false, length, min, All}
 use Rattle.lost_spec.specs.Text.{Text}
 use Rattle.lost_lines.specs.Cutting.{line_limit, newline}
 use Rattle.lost_lines.specs.declared.cutter.Cutter.{Cutter}

@@ -2,6 +2,7 @@ pub mod Answer
 pub mod Cutter
 pub mod Cutting
 pub mod Fault
+pub mod Gate
 pub mod Run
 pub mod Sending
 pub mod Serving

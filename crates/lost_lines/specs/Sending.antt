@@ -1,5 +1,5 @@
 -- What becomes of texts on their way to an output.
-use Rattle.std.specs.Prelude.{◌≡◌, Bool, ◌||◌, ◌++◌, Option, Result, is_err, IfErr}
+use Rattle.std.specs.Prelude.{◌≡◌, ◌||◌, ◌++◌, Option, Result, is_err, IfErr}
 use Rattle.std.specs.Io.KnownBytes.{Appends}
 use Rattle.lost_spec.specs.Text.{Text}
 use Rattle.lost_lines.specs.declared.watched.Watched.{Watched}

@@ -1,5 +1,5 @@
 -- What has become of a stream that is being served, from one point of it to a later one.
-use Rattle.std.specs.Prelude.{◌≡◌, ◌<◌, ℕ, ◌+◌, List, ◌++◌, length, Option}
+use Rattle.std.specs.Prelude.{◌≡◌, ◌⊎◌, ◌<◌, ℕ, ◌+◌, Bool, List, ◌++◌, length, Option}
 use Rattle.lost_spec.specs.Text.{Text}
 use Rattle.lost_lines.specs.declared.counts.Counts.{Counts}
 use Rattle.lost_lines.specs.declared.cutter.Cutter.{Cutter}
@@ -10,6 +10,7 @@ use Rattle.lost_lines.specs.Cutter.{IsHolding, count_of}
 use Rattle.lost_lines.specs.Tally.{counts_of, most_of}
 use Rattle.lost_lines.specs.Sending.{Sends}
 use Rattle.lost_lines.specs.Stream.{AppendsFront}
+use Rattle.lost_lines.specs.Gate.{IsHeldAt}
 
 -- a point of a stream: what answers its lines, what is known of the output, and the server
 pub record Point (State : Type 0) : Type 0 where
@@ -73,9 +74,9 @@ pub record Stops {State : Type 0} (step : State → Cut → Reply → State → 
 abbrev pub Fails : {State : Type 0} → (State → Cut → Reply → State → Type 0) → Point State → Point State → Text → Type 0
 Fails step old new bytes = (piece : Text) → IsHolding (cutter_of old.server) piece → Stops step old new piece bytes
 
--- a point of a stream by its parts
-abbrev pub point_of : {State : Type 0} → State → Option Text → LineServer → Point State
-point_of answerer contents server = record { answerer = answerer; contents = contents; server = server }
+-- a point of a stream by its parts; how many lines were answered stands beside what answers
+abbrev pub point_of : {State : Type 0} → State → Option Text → LineServer → Point (ℕ × State)
+point_of answerer contents server = record { answerer = ((server_counts server).lines, answerer); contents = contents; server = server }
 
 -- where a line is begun, one more may be answered
 abbrev pub MayEnd : LineServer → Type 0
@@ -87,7 +88,7 @@ pub record TakesFront {State : Type 0} (step : State → Cut → Reply → State
   pub splits : bytes ≡ front ++ rest
   pub advances : Advances step old new front
 
--- a front of the bytes was taken, all of them unless no further line may be answered
-pub record TakesUpTo {State : Type 0} (step : State → Cut → Reply → State → Type 0) (old new : Point State) (bytes rest : Text) : Type 0 where
+-- a front of the bytes was taken, all of them unless no further line may be answered or the gate refused the next
+pub record TakesUpTo {State : Type 0} (says : ℕ → Bool → Type 0) (step : State → Cut → Reply → State → Type 0) (old new : Point State) (bytes rest : Text) : Type 0 where
   pub taken : TakesFront step old new bytes rest
-  pub spent : 0 < length rest → (server_counts new.server).lines ≡ server_most new.server
+  pub stopped : 0 < length rest → ((server_counts new.server).lines ≡ server_most new.server) ⊎ IsHeldAt says (server_counts new.server).lines (server_most new.server) rest

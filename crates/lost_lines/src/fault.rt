@@ -13,7 +13,8 @@ pub enum ServeError {
     /// A write or a flush of the output failed, or a write took no byte.
     #[error("the output could not be written")]
     Write,
-    /// As many lines were answered, or as many reads were made, as the turns allow, and the input had not ended.
+    /// As many lines were answered, or as many reads were made, as the turns allow, and the input had not ended; or the
+    /// gate refused a line.
     #[error("the input has more than the turns allow")]
     TurnsSpent,
     /// Memory ran out before anything was read.

@@ -12,8 +12,29 @@ use std::io::Write;
 /// The most bytes that are gathered before they are sent.
 const MAX_GATHERED: usize = 65_536;
 
+/// Gathers a text, and where replies are not to be gathered sends it at once.
+pub(crate) fn pass_on<W: Write>(
+    gathered: &mut Vec<u8>,
+    output: &mut Watched<W>,
+    text: &[u8],
+    is_gathering: bool,
+) -> Result<(), ServeError>
+    ensures ok { OnOk result (Sends (W.contents (inner_of output.old)) gathered.old.items
+        (W.contents (inner_of output.new)) gathered.new.items text.now) }
+    ensures at_once { is_gathering ≡ false → OnOk result ((gathered.new.items ≡ []) × (is_unflushed output.new ≡ false)) }
+    ensures err { OnErr result (AppendsFront (W.contents (inner_of output.old)) (W.contents (inner_of output.new))
+        (gathered.old.items ++ text.now)) }
+    ensures flag { SetsFlag output.old output.new result }
+{
+    gather(gathered, output, text)?;
+    if is_gathering {
+        return Ok(());
+    }
+    settle(gathered, output)
+}
+
 /// Adds a text to what is gathered; where there is no room for it, what is gathered and then the text are sent.
-pub(crate) fn gather<W: Write>(
+fn gather<W: Write>(
     gathered: &mut Vec<u8>,
     output: &mut Watched<W>,
     text: &[u8],

@@ -1,5 +1,5 @@
 //! The counts of a stream that is being served.
-ghost use Rattle.std.specs.Prelude.{◌≡◌, ◌<◌, ◌≤◌, nat_le};
+ghost use Rattle.std.specs.Prelude.{◌≡◌, ◌<◌, ◌≤◌, ◌+◌, nat_le};
 
 use crate::counts::Counts;
 
@@ -38,6 +38,14 @@ impl Tally {
         ensures { result ≡ nat_le (most_of self.now) (counts_of self.now).lines }
     {
         self.counts.lines >= self.most
+    }
+
+    /// The number of the next line that is answered.
+    pub(crate) fn next(&self) -> u64
+        requires { (counts_of self.now).lines < most_of self.now }
+        ensures { result ≡ (counts_of self.now).lines + 1 }
+    {
+        self.counts.lines + 1
     }
 
     /// Counts a line that was answered.

@@ -2,6 +2,7 @@
 //! passed on, and what a fault leaves.
 
 mod faults;
+mod gates;
 mod lengths;
 mod streams;
 mod turns;

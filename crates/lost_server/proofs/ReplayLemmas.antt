@@ -1,5 +1,5 @@
 -- What serving a stream of lines gives where two books answer them, counted afresh.
-use Rattle.std.proofs.Common.{◌≡◌, ◌⊎◌, inl, inr, ℕ, Bool, false, List, [], ◌∷◌, ◌++◌, map, length, take, Option, Some, None, IfSome, refl, sym, ap, ◌∙◌, arith}
+use Rattle.std.proofs.Common.{◌≡◌, ◌⊎◌, inl, inr, ℕ, ◌+◌, Bool, false, List, [], ◌∷◌, ◌++◌, map, length, take, Option, Some, None, IfSome, refl, sym, ap, ◌∙◌, arith}
 use Rattle.std.proofs.lemmas.List.{length-map}
 use Rattle.std.specs.Io.KnownBytes.{Appends, Consumes}
 use Rattle.lost_spec.specs.Text.{Text}
@@ -9,7 +9,7 @@ use Rattle.lost_lines.specs.declared.counts.Counts.{Counts}
 use Rattle.lost_lines.specs.Cutting.{lines_of, ended_lines}
 use Rattle.lost_lines.specs.Run.{Cut, Reply, Run, text_of, long_count, memory_count}
 use Rattle.lost_lines.specs.declared.turns.Turns.{Turns}
-use Rattle.lost_lines.specs.Stream.{AreCounts, AppendsFront, IsServed, IsCutOff, IsWholeSoFar, StandsPast, IsSpent}
+use Rattle.lost_lines.specs.Stream.{AreCounts, AppendsFront, IsServed, IsCutOff, IsWholeSoFar, StandsPast, IsSpent, IsHeldBack}
 use Rattle.lost_server.specs.declared.replayer.Replayer.{Replayer}
 use Rattle.lost_server.specs.Stream.{Line, widest, AreMarks, stream_text}
 use Rattle.lost_server.specs.Step.{Books, Step}
@@ -43,7 +43,7 @@ module _ (name : Text) (t : Instant) where
     run_of_books lines replies next new (step.name_stays ∙ named) (step.moment_stays ∙ timed) rest,
   )
 
-  module _ (old new : Replayer) (named : old.name.now ≡ name) (timed : old.moment ≡ t) (fresh : old.books ≡ no_books) where
+  module _ (says : ℕ → Bool → Type 0) (old new : Replayer) (named : old.name.now ≡ name) (timed : old.moment ≡ t) (fresh : old.books ≡ no_books) where
     -- a run from the start is counted
     counted : (lines : List Text) (replies : List Reply) → Run Replays old lines replies new → IsCountedRun name t [] lines replies new.books
     counted lines replies run = counted_run name t [] lines replies old.books new.books fresh (run_of_books lines replies old new named timed run)
@@ -57,7 +57,7 @@ module _ (name : Text) (t : Instant) where
           faults = counts_are.faults;
         }
 
-    pub replayed : (unread before after : Option Text) (counts : Counts) → IsServed Replays old new unread before after counts → IsReplayed name t unread before after counts
+    pub replayed : (unread before after : Option Text) (counts : Counts) → IsServed says Replays old new unread before after counts → IsReplayed name t unread before after counts
     replayed None before after counts served =
         let run = counted served.lines served.replies served.run in
         record {
@@ -82,7 +82,7 @@ module _ (name : Text) (t : Instant) where
     front_read None lines marked same read = tt
     front_read (Some bytes) lines marked same (rest, are) = (rest, are ∙ ap (λ texts. texts ++ rest) (sym same))
 
-    pub replayed_in_part : (unread before after : Option Text) → IsCutOff Replays old new unread before after → IsReplayedInPart name t unread before after
+    pub replayed_in_part : (unread before after : Option Text) → IsCutOff says Replays old new unread before after → IsReplayedInPart name t unread before after
     replayed_in_part unread before after part =
         let run = counted part.lines part.replies part.run in
         let (front, rest, is, appended) = part.written in
@@ -93,7 +93,7 @@ module _ (name : Text) (t : Instant) where
           written = (front, rest, sym run.text_is ∙ is, appended);
         }
 
-    pub replayed_so_far : (most : ℕ) (unread left before after : Option Text) → IsWholeSoFar Replays old new most unread left before after → IsReplayedSoFar name t most unread left before after
+    pub replayed_so_far : (most : ℕ) (unread left before after : Option Text) → IsWholeSoFar says Replays old new most unread left before after → IsReplayedSoFar name t most unread left before after
     replayed_so_far most unread left before after whole =
         let run = counted whole.lines whole.replies whole.run in
         record {
@@ -114,7 +114,13 @@ module _ (name : Text) (t : Instant) where
     spent_marked turns lines same consumed reads has_ended is (inl past) = inl (past_marked turns.lines lines same consumed is past)
     spent_marked turns lines same consumed reads has_ended is (inr made) = inr made
 
-    pub replay_spent : (turns : Turns) (unread left before after : Option Text) (reads : ℕ) (has_ended : Bool) → IsSpent Replays old new turns unread left before after reads has_ended → IsReplaySpent name t turns unread left before after reads has_ended
+    -- where the gate refuses no line, the turns are spent
+    pub never_held : ((line : ℕ) → says line false → ⊥) → (turns : Turns) (unread left before after : Option Text) (reads : ℕ) (has_ended : Bool)
+        → IsSpent says Replays old new turns unread left before after reads has_ended ⊎ IsHeldBack says Replays old new turns.lines unread left before after has_ended → IsSpent says Replays old new turns unread left before after reads has_ended
+    never_held lets turns unread left before after reads has_ended (inl spent) = spent
+    never_held lets turns unread left before after reads has_ended (inr held) = absurd (lets (length held.lines + 1) held.refused)
+
+    pub replay_spent : (turns : Turns) (unread left before after : Option Text) (reads : ℕ) (has_ended : Bool) → IsSpent says Replays old new turns unread left before after reads has_ended → IsReplaySpent name t turns unread left before after reads has_ended
     unfolding replayed_so_far counted
     replay_spent turns unread left before after reads has_ended spent =
         let run = counted spent.whole.lines spent.whole.replies spent.whole.run in

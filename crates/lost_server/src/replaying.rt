@@ -6,7 +6,7 @@ ghost use Rattle.lost_server.specs.Replay.{IsReplayed, IsReplayedInPart, IsRepla
 
 use crate::books::Books;
 use crate::replayer::Replayer;
-use lost_lines::{Counts, ServeError, Turns, Watched, run_lines};
+use lost_lines::{Counts, NoGate, ServeError, Turns, Watched, run_lines};
 use lost_mapping::{Moment, Source};
 use lost_tokens::Scratch;
 use std::alloc::Global;
@@ -76,5 +76,5 @@ pub fn replay<R: Read, W: Write>(
         books,
         scratch: Scratch::new(alloc),
     };
-    run_lines(alloc, input, output, &mut replayer, turns)
+    run_lines(alloc, input, output, &mut replayer, &NoGate, turns)
 }

@@ -2,7 +2,7 @@
 
 ghost use Rattle.lost_lines.specs.Run.{Cut, Reply};
 
-use crate::{Answer, Answerer, Counts, ServeError, Text, Turns, Watched, run_lines};
+use crate::{Answer, Answerer, Counts, Gate, NoGate, ServeError, Text, Turns, Watched, run_lines};
 use lost_fakes::Sink;
 use lost_text::DeskText;
 use std::alloc::{AllocError, Global};
@@ -76,9 +76,20 @@ pub(super) struct Outcome {
 
 /// Runs a stream of lines that are answered by their lengths.
 pub(super) fn run<R: Read + Drop>(alloc: Global, source: R, sink: Sink, turns: Turns) -> Outcome {
+    run_through(alloc, source, sink, &NoGate, turns)
+}
+
+/// Runs a stream of lines that are answered by their lengths, through a gate.
+pub(super) fn run_through<R: Read + Drop, G: Gate>(
+    alloc: Global,
+    source: R,
+    sink: Sink,
+    gate: &G,
+    turns: Turns,
+) -> Outcome {
     let mut input = Watched::new(source);
     let mut output = Watched::new(sink);
-    let result = run_lines(alloc, &mut input, &mut output, &mut Lengths, turns);
+    let result = run_lines(alloc, &mut input, &mut output, &mut Lengths, gate, turns);
     let is_output_failed = output.failed();
     Outcome {
         result,

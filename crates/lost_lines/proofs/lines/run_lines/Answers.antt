@@ -1,16 +1,26 @@
-use Rattle.std.proofs.Common.{◌≡◌, ◌<◌, length, refl, ◌∙◌, rules, tests, arith}
+use Rattle.std.proofs.Common.{◌≡◌, ◌<◌, length, refl, ap, inl, inr, ◌∙◌, rules, tests, arith}
 use Rattle.std.proofs.lemmas.Result.{err_from_is_err_and}
+use Rattle.lost_lines.specs.declared.counts.Counts.{Counts}
+use Rattle.lost_lines.specs.Gate.{Through}
+use Rattle.lost_lines.specs.Serving.{point_of}
+use Rattle.lost_lines.specs.Watched.{inner_of}
 use Rattle.lost_lines.proofs.ServingLemmas.{Advances-whole}
-use Rattle.lost_lines.proofs.StreamLemmas.{IsStart, Reads-none, Reads-kept, Reads-more, Reads-end, IsServed-from_end, IsCutOff-from_reads, IsCutOff-from_end, IsCutOff-from_stops, IsCutOff-from_rest, IsWholeSoFar-from_reads, IsSpent-from_reads, IsSpent-from_rest}
+use Rattle.lost_lines.proofs.StreamLemmas.{IsStart, Reads-none, Reads-kept, Reads-more, Reads-end, IsServed-from_end, IsCutOff-from_reads, IsCutOff-from_end, IsCutOff-from_stops, IsCutOff-from_rest, IsWholeSoFar-from_reads, IsSpent-from_reads, spent-from_rest, IsHeldBack-from_end}
 use Rattle.lost_lines.proofs.lines.run_lines.Goals as goal
 
 pub loop-turn-init : goal.loop-turn-init
 loop-turn-init g c =
-    let start : IsStart c.new-server.result = record { held = c.new-server.ensures.cutter; settled = c.new-server.ensures.gathered; counts = c.new-server.ensures.counts } in
+    let says = g.G.Gate.says c.args.gate.now in
+    let start : IsStart (point_of c.args.answerer.now (g.W.Write.contents (inner_of c.args.output.now)) c.new-server.result) = record {
+      numbered = ap (λ (k : Counts). k.lines) c.new-server.ensures.counts;
+      held = c.new-server.ensures.cutter;
+      settled = c.new-server.ensures.gathered;
+      counts = c.new-server.ensures.counts;
+    } in
     record {
       start = start;
       chunk = refl;
-      reads = Reads-none g.A.Answerer.step _ _ start;
+      reads = Reads-none (Through says g.A.Answerer.step) _ _ start.held start.settled;
       may_end = λ begun. absurd (omega (arith, c.new-server.ensures.cutter.counted, begun));
       most = c.new-server.ensures.most;
       input_sound = c.requires.input_sound;
@@ -23,13 +33,13 @@ loop-turn-init g c =
 pub returns-in_default-clause-cut_off : goal.returns-in_default-clause-cut_off
 returns-in_default-clause-cut_off g c =
     let now = c.loop-turn.invariant in
-    IsCutOff-from_reads g.A.Answerer.step _ _ _ _ now.start now.reads
+    IsCutOff-from_reads (g.G.Gate.says c.args.gate.now) g.A.Answerer.step _ _ _ _ now.start now.reads
 
 pub returns-in_default-clause-whole : goal.returns-in_default-clause-whole
 returns-in_default-clause-whole g c is =
     let now = c.loop-turn.invariant in
     let step = g.A.Answerer.step in
-    IsWholeSoFar-from_reads step _ _ _ _ _ now.start (Reads-kept step _ _ _ _ _ now.reads c.in_default.ensures.bytes) (omega (arith, c.loop-turn.server.tally.within, now.most))
+    IsWholeSoFar-from_reads (g.G.Gate.says c.args.gate.now) step _ _ _ _ _ now.start (Reads-kept (Through (g.G.Gate.says c.args.gate.now) step) _ _ _ _ _ now.reads c.in_default.ensures.bytes) (omega (arith, c.loop-turn.server.tally.within, now.most))
 
 pub returns-in_err-finish-clause-cut_off : goal.returns-in_err-finish-clause-cut_off
 returns-in_err-finish-clause-cut_off g c =
@@ -38,8 +48,8 @@ returns-in_err-finish-clause-cut_off g c =
     let step = g.A.Answerer.step in
     let some : 0 < length c.read.new.buf = omega (arith, c.read.auto.buf, now.chunk) in
     let end = c.in-Ok.ensures.bytes.1 c.if-count-eq0.true some in
-    let r = Reads-end step _ _ _ _ _ now.reads (rw c.if-count-eq0.true at c.in-Ok.ensures.bytes.0) in
-    rw p.1 (IsCutOff-from_end step _ _ _ _ _ now.start r end (c.in_err-finish.ensures.err r.moves.rest r.moves.held))
+    let r = Reads-end (Through (g.G.Gate.says c.args.gate.now) step) _ _ _ _ _ now.reads (rw c.if-count-eq0.true at c.in-Ok.ensures.bytes.0) in
+    rw p.1 (IsCutOff-from_end (g.G.Gate.says c.args.gate.now) step _ _ _ _ _ now.start r end (c.in_err-finish.ensures.err r.moves.rest r.moves.held))
 
 pub returns-then-count-eq0-clause-served : goal.returns-then-count-eq0-clause-served
 returns-then-count-eq0-clause-served g c =
@@ -47,25 +57,25 @@ returns-then-count-eq0-clause-served g c =
     let step = g.A.Answerer.step in
     let some : 0 < length c.read.new.buf = omega (arith, c.read.auto.buf, now.chunk) in
     let end = c.in-Ok.ensures.bytes.1 c.if-count-eq0.true some in
-    let r = Reads-end step _ _ _ _ _ now.reads (rw c.if-count-eq0.true at c.in-Ok.ensures.bytes.0) in
-    rw c.counts.ensures.counts (IsServed-from_end step _ _ _ _ _ now.start r end (c.in_ok-finish.ensures.ok r.moves.rest r.moves.held) c.in_ok-finish.ensures.settled)
+    let r = Reads-end (Through (g.G.Gate.says c.args.gate.now) step) _ _ _ _ _ now.reads (rw c.if-count-eq0.true at c.in-Ok.ensures.bytes.0) in
+    rw c.counts.ensures.counts (IsServed-from_end (g.G.Gate.says c.args.gate.now) step _ _ _ _ _ now.start r end (c.in_ok-finish.ensures.ok r.moves.rest r.moves.held) c.in_ok-finish.ensures.settled)
 
 pub returns-in_err-rest-clause-cut_off : goal.returns-in_err-rest-clause-cut_off
 returns-in_err-rest-clause-cut_off g c =
     let p = err_from_is_err_and c.from_residual-in_err-rest.result c.from_residual-in_err-rest.ensures.1 in
     let now = c.loop-turn.invariant in
-    rw p.1 (IsCutOff-from_stops g.A.Answerer.step _ _ _ _ _ _ _ now.start now.reads c.in-Ok.ensures.bytes.0 c.in_err-rest.ensures.err)
+    rw p.1 (IsCutOff-from_stops (g.G.Gate.says c.args.gate.now) g.A.Answerer.step _ _ _ _ _ _ _ now.start now.reads c.in-Ok.ensures.bytes.0 c.in_err-rest.ensures.err)
 
 pub returns-then-not-is_empty-clause-cut_off : goal.returns-then-not-is_empty-clause-cut_off
 returns-then-not-is_empty-clause-cut_off g c =
     let now = c.loop-turn.invariant in
-    IsCutOff-from_rest g.A.Answerer.step _ _ _ _ _ _ _ _ now.start now.reads c.in-Ok.ensures.bytes.0 c.in_ok-rest.ensures.ok c.in_ok-rest.ensures.settled
+    IsCutOff-from_rest (g.G.Gate.says c.args.gate.now) g.A.Answerer.step _ _ _ _ _ _ _ _ now.start now.reads c.in-Ok.ensures.bytes.0 c.in_ok-rest.ensures.ok c.in_ok-rest.ensures.settled
 
 pub returns-then-not-is_empty-clause-turns : goal.returns-then-not-is_empty-clause-turns
 returns-then-not-is_empty-clause-turns g c is =
     let now = c.loop-turn.invariant in
     let some : 0 < length c.in_ok-rest.rest.now = search rules in
-    IsSpent-from_rest g.A.Answerer.step _ _ _ _ _ _ _ _ _ _ _ now.start now.reads c.in-Ok.ensures.bytes.0 c.in_ok-rest.ensures.ok some c.in_ok-rest.ensures.settled (c.take_chunk.ensures.most ∙ now.most)
+    spent-from_rest (g.G.Gate.says c.args.gate.now) g.A.Answerer.step _ _ _ _ _ _ _ _ _ _ _ now.start now.reads c.in-Ok.ensures.bytes.0 c.in_ok-rest.ensures.ok some c.in_ok-rest.ensures.settled (c.take_chunk.ensures.most ∙ now.most) (c.in_ok-rest.ensures.ok.stopped some)
 
 pub loop-turn-preserved : goal.loop-turn-preserved
 loop-turn-preserved g c =
@@ -74,7 +84,7 @@ loop-turn-preserved g c =
     record {
       start = now.start;
       chunk = c.read.auto.buf ∙ now.chunk;
-      reads = Reads-more g.A.Answerer.step _ _ _ _ _ _ _ now.reads c.in-Ok.ensures.bytes.0 (Advances-whole g.A.Answerer.step _ _ _ _ c.in_ok-rest.ensures.ok.taken none) c.in_ok-rest.ensures.settled;
+      reads = Reads-more (Through (g.G.Gate.says c.args.gate.now) g.A.Answerer.step) _ _ _ _ _ _ _ now.reads c.in-Ok.ensures.bytes.0 (Advances-whole (Through (g.G.Gate.says c.args.gate.now) g.A.Answerer.step) _ _ _ _ c.in_ok-rest.ensures.ok.taken none) c.in_ok-rest.ensures.settled;
       may_end = c.in_ok-rest.ensures.may_end;
       most = c.take_chunk.ensures.most ∙ now.most;
       input_sound = search rules;
@@ -87,9 +97,24 @@ loop-turn-preserved g c =
 pub returns-clause-cut_off : goal.returns-clause-cut_off
 returns-clause-cut_off g c =
     let now = c.loop-turn.invariant in
-    IsCutOff-from_reads g.A.Answerer.step _ _ _ _ now.start now.reads
+    IsCutOff-from_reads (g.G.Gate.says c.args.gate.now) g.A.Answerer.step _ _ _ _ now.start now.reads
 
 pub returns-clause-turns : goal.returns-clause-turns
 returns-clause-turns g c is =
     let now = c.loop-turn.invariant in
-    IsSpent-from_reads g.A.Answerer.step _ _ _ _ _ _ _ now.start now.reads (omega (arith, c.loop-turn.server.tally.within, now.most)) (omega (arith, now.made)) now.not_ended
+    inl (IsSpent-from_reads (g.G.Gate.says c.args.gate.now) g.A.Answerer.step _ _ _ _ _ _ _ now.start now.reads (omega (arith, c.loop-turn.server.tally.within, now.most)) (omega (arith, now.made)) now.not_ended)
+
+pub returns-then-not-may_finish-clause-cut_off : goal.returns-then-not-may_finish-clause-cut_off
+returns-then-not-may_finish-clause-cut_off g c =
+    let now = c.loop-turn.invariant in
+    let step = g.A.Answerer.step in
+    let r = Reads-end (Through (g.G.Gate.says c.args.gate.now) step) _ _ _ _ _ now.reads (rw c.if-count-eq0.true at c.in-Ok.ensures.bytes.0) in
+    IsCutOff-from_reads (g.G.Gate.says c.args.gate.now) step _ _ _ _ now.start r
+
+pub returns-then-not-may_finish-clause-turns : goal.returns-then-not-may_finish-clause-turns
+returns-then-not-may_finish-clause-turns g c is =
+    let now = c.loop-turn.invariant in
+    let step = g.A.Answerer.step in
+    let r = Reads-end (Through (g.G.Gate.says c.args.gate.now) step) _ _ _ _ _ now.reads (rw c.if-count-eq0.true at c.in-Ok.ensures.bytes.0) in
+    let begun = c.may_finish.ensures.begun c.if-not-may_finish.true in
+    inr (IsHeldBack-from_end (g.G.Gate.says c.args.gate.now) step _ _ _ _ _ _ now.start r begun (rw (← now.most) (now.may_end begun)) (c.may_finish.ensures.refused c.if-not-may_finish.true) (search (rules, tests)))
