@@ -1,0 +1,3 @@
+pub mod Stream
+pub mod Step
+pub mod Outcome
