@@ -1,0 +1,32 @@
+//! What a desk and its readers cost, as ratios: `bench_desk measure` prints them. Without an argument a small map is asked
+//! and edited, and how much was found is printed, so that the gate runs the same code.
+#![tactic(auto)]
+
+mod answering;
+mod changes;
+mod crowd;
+mod districts;
+mod edits;
+mod map;
+mod measures;
+mod numbers;
+mod questions;
+
+use std::rt::{Clock, Env};
+use std::{env, io};
+
+fn main(rt: HostRuntime) -> io::Result<()> {
+    if is_measuring(&rt)? {
+        measures::print_costs(&rt)
+    } else {
+        measures::print_counts(&rt)
+    }
+}
+
+/// Whether the first argument is `measure`.
+fn is_measuring<R: Env + AllocGlobal>(rt: &R) -> io::Result<bool> {
+    for word in env::args(rt)?.skip(1) {
+        return Ok(word.as_str() == "measure");
+    }
+    Ok(false)
+}

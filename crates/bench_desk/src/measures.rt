@@ -1,0 +1,208 @@
+//! What is measured, and how it is printed.
+
+use crate::answering::{Answering, ByTokens, ByTree, found};
+use crate::changes::{Costs, changed, each, nanoseconds};
+use crate::crowd::{Answers, Crowd};
+use crate::map::{Map, book_of};
+use crate::questions::Questions;
+use lost_desk::{Reader, Readers};
+use std::io;
+use std::rt::Clock;
+use std::sync::{Arc, Wait};
+use std::thread::Threads;
+use std::time::Instant;
+
+/// The rows and the columns of the small map and of the large one: 1,024 and 60,025 districts.
+const SMALL: u32 = 32;
+
+const LARGE: u32 = 245;
+
+/// How many points are asked for, in turn.
+const POINTS: u32 = 20_000;
+
+/// How many questions each reader asks in a round.
+const ASKED: u32 = 400_000;
+
+/// How many edits of each kind there are in a round.
+const CHANGES: u32 = 200;
+
+/// How many rounds there are. What else the machine does makes a round longer, never shorter.
+const ROUNDS: u32 = 5;
+
+/// Asks and edits a small map, and prints how many questions were answered by a mapping.
+pub(crate) fn print_counts<R: Print + Clock + Threads + Wait + Sync + AllocGlobal>(
+    rt: &R,
+) -> io::Result<()> {
+    let (mut map, mut readers) = Map::open(rt, 4, 6)?;
+    let result = count(rt, &mut map, &mut readers);
+    map.close(rt);
+    result
+}
+
+/// Asks and edits a map of 16 districts.
+fn count<R: Print + Clock + Threads + Wait + Sync + AllocGlobal>(
+    rt: &R,
+    map: &mut Map,
+    readers: &mut Readers,
+) -> io::Result<()> {
+    let alloc = rt.alloc();
+    let book = book_of(alloc, map.rows)?;
+    let questions = Arc::new(alloc, Questions::middles(alloc, map.rows)?)?;
+    let mut reader = taken(readers)?;
+    println!(rt;
+        "16 districts: {} found by a reader, {} by tokens, {} by trees",
+        found(alloc, &mut reader, &questions, 0, 16)?,
+        found(alloc, &mut ByTokens::new(alloc, &book), &questions, 0, 16)?,
+        found(alloc, &mut ByTree { book: &book }, &questions, 0, 16)?
+    )?;
+    let one = Crowd::new(alloc, readers, &questions, 1)?.ask(rt, 16, map, 0)?;
+    let mut crowd = Crowd::new(alloc, readers, &questions, 4)?;
+    let four = crowd.ask(rt, 16, map, 0)?;
+    println!(rt; "{} found in one thread, {} in four", one.found, four.found)?;
+    let beside = crowd.ask(rt, 16, map, 3)?;
+    println!(rt;
+        "{} found in four beside 3 commits: edition {}",
+        beside.found,
+        map.edition()
+    )?;
+    changed(rt, map, 2)?;
+    println!(rt;
+        "2 publishes, replacements and withdrawals: edition {}",
+        map.edition()
+    )
+}
+
+/// A reader.
+fn taken(readers: &mut Readers) -> io::Result<Reader> {
+    match readers.take() {
+        Some(reader) => Ok(reader),
+        None => Err(io::Error::from(io::ErrorKind::Other)),
+    }
+}
+
+/// Measures, and prints the costs.
+pub(crate) fn print_costs<R: Print + Clock + Threads + Wait + Sync + AllocGlobal>(
+    rt: &R,
+) -> io::Result<()> {
+    let (mut small, mut readers) = Map::open(rt, SMALL, 6)?;
+    let mut result = print_small(rt, &mut small, &mut readers);
+    if result.is_ok() {
+        result = match Map::open(rt, LARGE, 1) {
+            Ok((mut large, _readers)) => {
+                let result = print_changes(rt, &mut small, &mut large);
+                large.close(rt);
+                result
+            }
+            Err(error) => Err(error),
+        };
+    }
+    small.close(rt);
+    result
+}
+
+/// Measures readers over the small map.
+fn print_small<R: Print + Clock + Threads + Wait + Sync + AllocGlobal>(
+    rt: &R,
+    map: &mut Map,
+    readers: &mut Readers,
+) -> io::Result<()> {
+    let alloc = rt.alloc();
+    let questions = Arc::new(alloc, Questions::all_over(alloc, map.rows, POINTS)?)?;
+    print_alone(rt, &mut taken(readers)?, &questions)?;
+    let mut one = Crowd::new(alloc, readers, &questions, 1)?;
+    let mut four = Crowd::new(alloc, readers, &questions, 4)?;
+    print_crowds(rt, map, &mut one, &mut four)
+}
+
+/// Measures a reader beside the book alone, by one thread.
+fn print_alone<R: Print + Clock + AllocGlobal>(
+    rt: &R,
+    reader: &mut Reader,
+    questions: &Questions,
+) -> io::Result<()> {
+    let alloc = rt.alloc();
+    let book = book_of(alloc, SMALL)?;
+    let mut by_reader = u64::MAX;
+    let mut by_tokens = u64::MAX;
+    let mut by_trees = u64::MAX;
+    for _ in 0..ROUNDS {
+        by_reader = by_reader.min(asked(rt, reader, questions)?);
+        by_tokens = by_tokens.min(asked(rt, &mut ByTokens::new(alloc, &book), questions)?);
+        by_trees = by_trees.min(asked(rt, &mut ByTree { book: &book }, questions)?);
+    }
+    println!(rt;
+        "one thread: {by_reader} nanoseconds a reply by a reader, {by_tokens} by tokens over the book alone, {} of a hundred; {by_trees} by trees, {} of a hundred; the least of {ROUNDS} rounds",
+        share(by_reader, by_tokens),
+        share(by_reader, by_trees)
+    )
+}
+
+/// Nanoseconds a reply.
+fn asked<A: Answering, R: Clock + AllocGlobal>(
+    rt: &R,
+    answering: &mut A,
+    questions: &Questions,
+) -> io::Result<u64> {
+    let start = Instant::now(rt)?;
+    found(rt.alloc(), answering, questions, 0, ASKED)?;
+    Ok(each(nanoseconds(start.elapsed(rt)?), ASKED))
+}
+
+/// Measures four readers beside one, while nothing is committed and while the desk commits 100 times a second.
+fn print_crowds<R: Print + Clock + Threads + Wait + Sync + AllocGlobal>(
+    rt: &R,
+    map: &mut Map,
+    one: &mut Crowd,
+    four: &mut Crowd,
+) -> io::Result<()> {
+    let mut alone = u64::MAX;
+    let mut together = u64::MAX;
+    let mut beside = u64::MAX;
+    for _ in 0..ROUNDS {
+        alone = alone.min(spent_by(one.ask(rt, ASKED, map, 0)?));
+        let spent = spent_by(four.ask(rt, ASKED, map, 0)?);
+        together = together.min(spent);
+        let commits = u32::try_from(spent / 10_000_000).unwrap_or(u32::MAX);
+        beside = beside.min(spent_by(four.ask(rt, ASKED, map, commits)?));
+    }
+    println!(rt;
+        "four readers: {} of a hundred of the replies of one; while the desk commits 100 times a second, {} of a hundred; the least of {ROUNDS} rounds",
+        share(alone.saturating_mul(4), together),
+        share(alone.saturating_mul(4), beside)
+    )
+}
+
+/// How many nanoseconds a crowd took.
+fn spent_by(answers: Answers) -> u64 {
+    nanoseconds(answers.spent)
+}
+
+/// Measures what it takes to stage an edit and commit it, in rounds of both maps in turn.
+fn print_changes<R: Print + Clock + Wait + AllocGlobal>(
+    rt: &R,
+    small: &mut Map,
+    large: &mut Map,
+) -> io::Result<()> {
+    let mut few = changed(rt, small, CHANGES)?;
+    let mut many = changed(rt, large, CHANGES)?;
+    for _ in 1..ROUNDS {
+        few = few.least(changed(rt, small, CHANGES)?);
+        many = many.least(changed(rt, large, CHANGES)?);
+    }
+    print_kind(rt, "publish", few.publish, many.publish)?;
+    print_kind(rt, "replacement", few.replace, many.replace)?;
+    print_kind(rt, "withdrawal", few.withdraw, many.withdraw)
+}
+
+/// Prints what an edit of a kind takes.
+fn print_kind<R: Print + AllocGlobal>(rt: &R, kind: &str, few: u64, many: u64) -> io::Result<()> {
+    println!(rt;
+        "a {kind} and its commit: {few} and {many} nanoseconds at 1,024 and 60,025 mappings, {} of a hundred, the least of {ROUNDS} rounds",
+        share(many, few)
+    )
+}
+
+/// So many of a hundred.
+fn share(part: u64, whole: u64) -> u64 {
+    part.saturating_mul(100).checked_div(whole).unwrap_or(0)
+}
