@@ -1,0 +1,117 @@
+//! A map of districts that adjoin, each with a ring of 20 to 400 positions: two neighbours share each position of the side
+//! between them.
+
+use crate::numbers::below;
+use std::alloc::{AllocError, Global};
+
+/// How far two corners of a district are apart, in 1e-7 degrees.
+pub(crate) const SIDE: u32 = 500_000;
+
+/// How far a side strays from the straight line, upwards or to the right.
+pub(crate) const STRAY: u32 = 60_000;
+
+/// The least number of positions within a side, and by how many it may have more.
+const LEAST: u32 = 4;
+
+const MORE: u32 = 94;
+
+/// A side of a district, between two corners.
+#[derive(Clone, Copy)]
+struct Side {
+    /// The row and the column of the corner that it begins at.
+    row: u32,
+    column: u32,
+    /// Whether it leads to the corner above, and not to the one to the right.
+    is_upwards: bool,
+}
+
+impl Side {
+    /// The side that begins at a corner and leads to the right.
+    fn across(row: u32, column: u32) -> Side {
+        Side {
+            row,
+            column,
+            is_upwards: false,
+        }
+    }
+
+    /// The side that begins at a corner and leads upwards.
+    fn upwards(row: u32, column: u32) -> Side {
+        Side {
+            row,
+            column,
+            is_upwards: true,
+        }
+    }
+
+    /// How many positions it has within.
+    fn len(self) -> u32 {
+        LEAST.saturating_add(below(MORE, self.seed(), 0))
+    }
+
+    /// The latitude and the longitude of a position of it, by its place: 0 is the corner that it begins at.
+    fn at(self, place: u32) -> (u32, u32) {
+        let way = place
+            .saturating_mul(SIDE)
+            .checked_div(self.len().saturating_add(1))
+            .unwrap_or(0);
+        let stray = if place == 0 {
+            0
+        } else {
+            below(STRAY, self.seed(), place)
+        };
+        let lat = self.row.saturating_mul(SIDE);
+        let lon = self.column.saturating_mul(SIDE);
+        if self.is_upwards {
+            (lat.saturating_add(way), lon.saturating_add(stray))
+        } else {
+            (lat.saturating_add(stray), lon.saturating_add(way))
+        }
+    }
+
+    /// A number for it alone.
+    fn seed(self) -> u32 {
+        self.row
+            .saturating_mul(2_000)
+            .saturating_add(self.column.saturating_mul(2))
+            .saturating_add(u32::from(self.is_upwards))
+    }
+}
+
+/// The latitudes and longitudes of the ring of the district at a row and a column.
+pub(crate) fn ring(alloc: Global, row: u32, column: u32) -> Result<Vec<(u32, u32)>, AllocError> {
+    let above = row.saturating_add(1);
+    let right = column.saturating_add(1);
+    let mut ring = Vec::new(alloc);
+    push_forth(&mut ring, Side::across(row, column))?;
+    push_forth(&mut ring, Side::upwards(row, right))?;
+    push_back(
+        &mut ring,
+        Side::across(above, column),
+        Side::across(above, right),
+    )?;
+    push_back(
+        &mut ring,
+        Side::upwards(row, column),
+        Side::upwards(above, column),
+    )?;
+    ring.push(Side::across(row, column).at(0))?;
+    Ok(ring)
+}
+
+/// Adds the corner that a side begins at, and the positions within.
+fn push_forth(ring: &mut Vec<(u32, u32)>, side: Side) -> Result<(), AllocError> {
+    for place in 0..side.len().saturating_add(1) {
+        ring.push(side.at(place))?;
+    }
+    Ok(())
+}
+
+/// Adds the corner that a side leads to, at which `next` begins, and the positions within, from the last to the first.
+fn push_back(ring: &mut Vec<(u32, u32)>, side: Side, next: Side) -> Result<(), AllocError> {
+    ring.push(next.at(0))?;
+    for place in 0..side.len() {
+        ring.push(side.at(side.len().saturating_sub(place)))?;
+    }
+    Ok(())
+}
