@@ -1,0 +1,3 @@
+pub mod ServingLemmas
+pub mod StageLemmas
+pub mod DeskingLemmas

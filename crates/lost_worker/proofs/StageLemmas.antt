@@ -1,0 +1,97 @@
+-- The steps of a desk by an edit and by a commit, by what became of them.
+use Rattle.std.proofs.Common.{◌≡◌, ◌≢◌, ℕ, ◌+◌, ◌-◌, false, List, [], ◌∷◌, ◌++◌, length, Option, None, Some, Result, Ok, Err, refl, ap, sym, ◌∙◌, append_assoc, append-nil, length-append, arith}
+use Rattle.lost_spec.specs.declared.faults.EditError.{EditError}
+use Rattle.lost_spec.specs.declared.faults.EditError.TheVariants.{IdentityHeld, IdentityUnknown, NotNewer, KeyHeld, KeyUnchanged, Full, EditsSpent, Memory}
+use Rattle.lost_spec.specs.Text.{Text}
+use Rattle.lost_spec.specs.Codes.{edit_code}
+use Rattle.lost_spec.specs.Book.{Edit, refusal}
+use Rattle.lost_writing.specs.declared.desk_reply.DeskReply.TheVariants.{Staged, Committed}
+use Rattle.lost_reading.specs.Desk.{Stage, Commit}
+use Rattle.lost_writing.specs.DeskReplies.{desk_text}
+use Rattle.lost_desk.specs.Seen.{DeskSeen, staged_book, with_staged, with_committed}
+use Rattle.lost_lines.specs.Run.{Reply}
+use Rattle.lost_stream.specs.Stream.{Lists, Unmarked, RefusedMemory, refused_text}
+use Rattle.lost_stream.specs.Step.{IsAnswered}
+use Rattle.lost_worker.specs.Desking.{IsSameDesk, desk_terms, lists_of}
+
+pub IsSameDesk-from_staged : (old new : DeskSeen) (edit : Edit) → new ≡ with_staged old edit → IsSameDesk old new
+IsSameDesk-from_staged old new edit changed = record { opening = ap (λ (d : DeskSeen). d.opening) changed; limits = ap (λ (d : DeskSeen). d.limits) changed }
+
+pub IsSameDesk-from_committed : (old new : DeskSeen) → new ≡ with_committed old → IsSameDesk old new
+IsSameDesk-from_committed old new changed = record { opening = ap (λ (d : DeskSeen). d.opening) changed; limits = ap (λ (d : DeskSeen). d.limits) changed }
+
+pub IsSameDesk-none : (old new : DeskSeen) → new ≡ old → IsSameDesk old new
+IsSameDesk-none old new same = record { opening = ap (λ (d : DeskSeen). d.opening) same; limits = ap (λ (d : DeskSeen). d.limits) same }
+
+-- how many edits are pending, from those that are accepted and those that are published
+pending_number : (p q : List Edit) (e : Edit) → length (q ++ e ∷ []) ≡ length ((p ++ q) ++ e ∷ []) - length p
+pending_number p q e = omega (arith, length-append (p ++ q) (e ∷ []), length-append p q, length-append q (e ∷ []))
+
+module _ (line : Text) (old new : DeskSeen) (edit : Edit) (reply : Reply) where
+  abbrev pub StepTo : Type 0
+  StepTo = IsAnswered (desk_terms old.limits) (lists_of old) line (Some (Ok (Stage edit))) reply (lists_of new)
+
+  abbrev pub Says : Text → Type 0
+  Says text = reply ≡ record { text = text; is_internal_error = false }
+
+  -- the edit is staged
+  pub staged_step : refusal (staged_book old) edit ≡ None → new ≡ with_staged old edit → (pending : ℕ) → pending ≡ length new.pending → Says (desk_text (Staged pending)) → StepTo
+  staged_step accepted changed pending counted said = record {
+    mark = Unmarked;
+    may_have = tt;
+    text_is = ap (λ (r : Reply). r.text) said ∙ ap (λ n. desk_text (Staged n)) (counted ∙ ap (λ (d : DeskSeen). length d.pending) changed ∙ pending_number old.published old.pending edit) ∙ rw accepted refl;
+    memory_is = ap (λ (r : Reply). r.is_internal_error) said;
+    lists_are = ap lists_of changed ∙ ap (λ es. record { accepted = es; published = old.published }) (sym (append_assoc old.published old.pending (edit ∷ []))) ∙ rw accepted refl;
+  }
+
+  -- the edit is refused, and the desk stays
+  refused_edit : (e : EditError) → refusal (staged_book old) edit ≡ Some e → new ≡ old → Says (refused_text (edit_code e)) → StepTo
+  refused_edit e refused unchanged said = record {
+    mark = Unmarked;
+    may_have = tt;
+    text_is = ap (λ (r : Reply). r.text) said ∙ rw refused refl;
+    memory_is = ap (λ (r : Reply). r.is_internal_error) said;
+    lists_are = ap lists_of unchanged ∙ rw refused refl;
+  }
+
+  -- the edit is not refused, and there is no memory for it
+  short : refusal (staged_book old) edit ≡ None → new ≡ old → Says (refused_text 20) → StepTo
+  short accepted unchanged said = record {
+    mark = RefusedMemory;
+    may_have = accepted;
+    text_is = ap (λ (r : Reply). r.text) said;
+    memory_is = ap (λ (r : Reply). r.is_internal_error) said;
+    lists_are = ap lists_of unchanged;
+  }
+
+  pub refused_step : (e : EditError) → (e ≢ Memory → refusal (staged_book old) edit ≡ Some e) → (e ≡ Memory → refusal (staged_book old) edit ≡ None) → new ≡ old → Says (refused_text (edit_code e)) → StepTo
+  refused_step IdentityHeld refused memory unchanged said = refused_edit IdentityHeld (refused (λ same. absurd (cc))) unchanged said
+  refused_step IdentityUnknown refused memory unchanged said = refused_edit IdentityUnknown (refused (λ same. absurd (cc))) unchanged said
+  refused_step NotNewer refused memory unchanged said = refused_edit NotNewer (refused (λ same. absurd (cc))) unchanged said
+  refused_step KeyHeld refused memory unchanged said = refused_edit KeyHeld (refused (λ same. absurd (cc))) unchanged said
+  refused_step KeyUnchanged refused memory unchanged said = refused_edit KeyUnchanged (refused (λ same. absurd (cc))) unchanged said
+  refused_step Full refused memory unchanged said = refused_edit Full (refused (λ same. absurd (cc))) unchanged said
+  refused_step EditsSpent refused memory unchanged said = refused_edit EditsSpent (refused (λ same. absurd (cc))) unchanged said
+  refused_step Memory refused memory unchanged said = short (memory refl) unchanged said
+
+module _ (line : Text) (old new : DeskSeen) (reply : Reply) where
+  -- all that is pending is published
+  pub committed_step : new ≡ with_committed old → (edition : ℕ) → edition ≡ length new.published → reply ≡ record { text = desk_text (Committed edition); is_internal_error = false }
+      → IsAnswered (desk_terms old.limits) (lists_of old) line (Some (Ok Commit)) reply (lists_of new)
+  committed_step changed edition counted said = record {
+    mark = Unmarked;
+    may_have = tt;
+    text_is = ap (λ (r : Reply). r.text) said ∙ ap (λ n. desk_text (Committed n)) (counted ∙ ap (λ (d : DeskSeen). length d.published) changed);
+    memory_is = ap (λ (r : Reply). r.is_internal_error) said;
+    lists_are = ap lists_of changed ∙ ap (λ es. record { accepted = es; published = old.published ++ old.pending }) (append-nil (old.published ++ old.pending));
+  }
+
+  -- there is no memory for it
+  pub uncommitted_step : new ≡ old → reply ≡ record { text = refused_text 20; is_internal_error = false } → IsAnswered (desk_terms old.limits) (lists_of old) line (Some (Ok Commit)) reply (lists_of new)
+  uncommitted_step unchanged said = record {
+    mark = RefusedMemory;
+    may_have = tt;
+    text_is = ap (λ (r : Reply). r.text) said;
+    memory_is = ap (λ (r : Reply). r.is_internal_error) said;
+    lists_are = ap lists_of unchanged;
+  }

@@ -1,0 +1,4 @@
+pub mod Moments
+pub mod Lines
+pub mod Serving
+pub mod Desking

@@ -1,0 +1,20 @@
+//! Connections (own rules): what answers the request lines of a stream, which moments it takes, and a loop that serves
+//! connections one after another.
+#![tactic(auto)]
+
+mod connection;
+mod desk_stream;
+mod desking;
+mod moments;
+mod replier;
+mod serving;
+mod streams;
+mod worker;
+
+pub use connection::Connection;
+pub use desk_stream::serve_desk;
+pub use lost_lines::{Counts, Gate, NoGate, ServeError, Turns, Watched};
+pub use moments::Moments;
+pub use replier::Replier;
+pub use streams::serve_lines;
+pub use worker::worker_loop;

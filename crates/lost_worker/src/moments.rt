@@ -1,0 +1,17 @@
+//! The moments at which lines are answered. Rules without a section are this profile's own.
+ghost use Rattle.std.specs.Prelude.{List};
+ghost use Rattle.lost_spec.specs.Moment.{Instant};
+ghost use Rattle.lost_worker.specs.Moments.{Gives};
+
+use lost_mapping::Moment;
+
+/// What gives the moment of each line that is answered. It is seen as the moments that it will give, as far as it tells
+/// them; a clock tells none.
+pub trait Moments {
+    /// The moments that it will give, as far as it tells them.
+    ghost coming: { Self → List Instant };
+
+    /// The next moment.
+    fn now(&mut self) -> Moment
+        ensures { Gives (coming self.old) result (coming self.new) };
+}

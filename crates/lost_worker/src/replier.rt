@@ -1,0 +1,51 @@
+//! What answers a request line. Rules without a section are this profile's own.
+ghost use Rattle.std.specs.Prelude.{◌≡◌, ◌+◌, IsTrue, IfOk, OnOk};
+ghost use Rattle.lost_spec.specs.Book.{is_accepted};
+ghost use Rattle.lost_spec.specs.Laws.{BeginsWith};
+ghost use Rattle.lost_desk.specs.Seen.{ReaderSeen, seen_book};
+ghost use Rattle.lost_json.specs.Line.{line_reply};
+
+use lost_desk::Reader;
+use lost_mapping::{Moment, Source};
+use std::alloc::{AllocError, Global};
+
+/// What answers request lines, one after another, from lists of edits of which each begins with the one before.
+pub trait Replier {
+    /// What contracts see of it: what they see of a reader.
+    ghost reader: { Self → ReaderSeen };
+
+    /// Answers a line: reads the request, answers it by the server of this name at an instant from the list that it has
+    /// then seen, and writes the reply's line.
+    ///
+    /// # Errors
+    ///
+    /// Want of memory. It may then have entered once and seen a longer list.
+    fn reply_line(
+        &mut self,
+        alloc: Global,
+        name: &Source,
+        moment: &Moment,
+        line: &[u8],
+    ) -> Result<Vec<u8>, AllocError>
+        ensures reply { IfOk result (λ reply.
+            reply.items ≡ line_reply (seen_book (reader self.new)) name.now moment.now line.now) }
+        ensures begins { BeginsWith (reader self.new).seen (reader self.old).seen }
+        ensures entered { OnOk result ((reader self.new).entries ≡ (reader self.old).entries + 1) }
+        ensures one_list { OnOk result (IsTrue (is_accepted (reader self.new).limits (reader self.new).seen)) }
+        ensures same { ((reader self.new).opening ≡ (reader self.old).opening)
+            × ((reader self.new).limits ≡ (reader self.old).limits) };
+}
+
+impl Replier for Reader {
+    ghost reader = { λ r. r };
+
+    fn reply_line(
+        &mut self,
+        alloc: Global,
+        name: &Source,
+        moment: &Moment,
+        line: &[u8],
+    ) -> Result<Vec<u8>, AllocError> {
+        Reader::reply_line(self, alloc, name, moment, line)
+    }
+}

@@ -1,0 +1,74 @@
+//! A worker: it serves connections one after another.
+ghost use Rattle.std.specs.Prelude.{◌≡◌, ◌≤◌, true, false};
+ghost use Rattle.lost_worker.specs.Lines.{Answers, CountsConnection, HasSeenMore};
+
+use crate::connection::Connection;
+use crate::moments::Moments;
+use crate::replier::Replier;
+use crate::streams::serve_lines;
+use crossbeam_channel::Receiver;
+use lost_lines::{Counts, Gate, Turns, Watched};
+use lost_mapping::Source;
+use std::alloc::Global;
+use std::io::{Read, Write};
+use std::sync::Wait;
+
+/// Serves each connection that `receiver` gives by [`serve_lines`], until the channel is closed, and gives the sum of the
+/// counts. A connection that ends in a fault adds one to `faults` and nothing else. A sum stays at its greatest value.
+pub fn worker_loop<I: Read + Drop, O: Write + Drop, P: Replier, M: Moments, G: Gate, R: Wait>(
+    rt: &R,
+    alloc: Global,
+    receiver: &Receiver<Connection<I, O>>,
+    replier: &mut P,
+    name: &Source,
+    moments: &mut M,
+    gate: &G,
+    turns: Turns,
+) -> Counts
+    ensures seen { HasSeenMore (P.reader replier.old) (P.reader replier.new) }
+{
+    let mut sum = Counts::default();
+    for _round in rt.forever() {
+        let Ok(connection) = receiver.recv(rt) else {
+            return sum;
+        };
+        let counts = serve_connection(alloc, connection, replier, name, moments, gate, turns);
+        sum = sum.plus(counts);
+    }
+    sum
+}
+
+/// Serves a connection, closes it, and gives its counts: those of its lines, or one fault and nothing else.
+fn serve_connection<I: Read + Drop, O: Write + Drop, P: Replier, M: Moments, G: Gate>(
+    alloc: Global,
+    connection: Connection<I, O>,
+    replier: &mut P,
+    name: &Source,
+    moments: &mut M,
+    gate: &G,
+    turns: Turns,
+) -> Counts
+    ensures seen { HasSeenMore (P.reader replier.old) (P.reader replier.new) }
+    ensures counted { CountsConnection (G.says gate.now) (Answers name.now)
+        (record { reader = P.reader replier.old; moments = M.coming moments.old })
+        (record { reader = P.reader replier.new; moments = M.coming moments.new })
+        (I.remaining connection.input) (O.contents connection.output) result }
+{
+    let Connection { input, output } = connection;
+    let mut input = Watched::new(input);
+    let mut output = Watched::new(output);
+    let served = serve_lines(
+        alloc,
+        &mut input,
+        &mut output,
+        replier,
+        name,
+        moments,
+        gate,
+        turns,
+    );
+    match served {
+        Ok(counts) => counts,
+        Err(_) => Counts::of_fault(),
+    }
+}
