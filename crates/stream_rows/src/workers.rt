@@ -1,0 +1,118 @@
+//! Two workers, each in a thread of its own.
+ghost use Rattle.std.specs.Thread.{IsSync};
+
+use crate::meeting::Meeting;
+use crate::script::{Always, Setting};
+use crate::stream::{Stream, tell_counts};
+use crossbeam_channel::{Receiver, unbounded};
+use lost_desk::Reader;
+use lost_worker::{Connection, Counts, worker_loop};
+use std::alloc::{AllocError, Global};
+use std::collections::VecDeque;
+use std::io;
+use std::io::Write;
+use std::sync::Wait;
+use std::sync::atomic::AtomicU64;
+use std::thread::{Threads, join_mut};
+use std::time::Clock;
+
+/// What goes over the channel: a stream in memory, and where its replies go.
+type InMemory = Connection<VecDeque<u8>, Vec<u8>>;
+
+/// What the thread of a worker has.
+#[derive(Drop)]
+struct Working<'a, R: Clock> {
+    alloc: Global,
+    reader: &'a mut Reader,
+    setting: &'a Setting,
+    connections: Receiver<InMemory>,
+    gate: &'a Meeting<'a, R>,
+    stream: &'a Stream,
+}
+
+/// Serves a stream twice, by two workers that take connections from one channel: whichever line is asked for first waits
+/// until the other was answered. Prints the sum of their counts.
+pub(crate) fn serve_two<R: Threads + Wait + Clock + Sync + Print + AllocGlobal>(
+    rt: &R,
+    first: &mut Reader,
+    second: &mut Reader,
+    setting: &Setting,
+    stream: &Stream,
+) -> io::Result<()> {
+    let Ok((sender, connections)) = unbounded::<InMemory, Global>(rt.alloc()) else {
+        return Err(AllocError.into());
+    };
+    for _ in 0..2u8 {
+        if sender.send(rt, connection(rt.alloc(), stream)?).is_err() {
+            return Err(AllocError.into());
+        }
+    }
+    drop(sender);
+    let gate = Meeting {
+        rt,
+        asked: AtomicU64::new(0),
+        answered: AtomicU64::new(0),
+    };
+    let mut one = Working {
+        alloc: rt.alloc(),
+        reader: first,
+        setting,
+        connections: connections.clone()?,
+        gate: &gate,
+        stream,
+    };
+    let mut other = Working {
+        alloc: rt.alloc(),
+        reader: second,
+        setting,
+        connections,
+        gate: &gate,
+        stream,
+    };
+    let (counts, more) = in_two_threads(rt, &mut one, &mut other);
+    tell_counts(rt, counts.plus(more))
+}
+
+/// A connection in memory that gives the bytes of a stream.
+fn connection(alloc: Global, stream: &Stream) -> io::Result<InMemory> {
+    let mut input = VecDeque::new(alloc);
+    input.write_all(stream.bytes.as_slice())?;
+    Ok(Connection {
+        input,
+        output: Vec::new(alloc),
+    })
+}
+
+/// Has both work, each in a thread of its own.
+fn in_two_threads<R: Threads + Wait + Clock + Sync>(
+    rt: &R,
+    one: &mut Working<R>,
+    other: &mut Working<R>,
+) -> (Counts, Counts) {
+    join_mut(
+        rt,
+        &mut || -> Counts
+            requires { IsSync R.row }
+        { work(rt, one) },
+        &mut || -> Counts
+            requires { IsSync R.row }
+        { work(rt, other) },
+    )
+}
+
+/// Serves connections until there are no more.
+fn work<R: Wait + Clock>(rt: &R, working: &mut Working<R>) -> Counts {
+    let mut moments = Always {
+        moment: working.setting.moment,
+    };
+    worker_loop(
+        rt,
+        working.alloc,
+        &working.connections,
+        working.reader,
+        &working.setting.name,
+        &mut moments,
+        working.gate,
+        working.stream.turns,
+    )
+}
