@@ -3,3 +3,4 @@ pub mod Step
 pub mod Pair
 pub mod Replay
 pub mod Replayer
+pub mod RunFault

@@ -4,7 +4,7 @@ use Rattle.lost_spec.specs.Text.{Text, first_fault}
 use Rattle.lost_spec.specs.Mapping.{is_source}
 use Rattle.lost_spec.specs.Moment.{is_stamp}
 use Rattle.lostd.specs.declared.trouble.Trouble.{Trouble}
-use Rattle.lostd.specs.declared.trouble.Trouble.TheVariants.{Words, CommandLine, Name, Now, Run}
+use Rattle.lostd.specs.declared.trouble.Trouble.TheVariants.{Words, CommandLine, Name, Now, Address, Run, Serve}
 
 -- 1 for a fault of the run, 2 for a mistake on the command line (own)
 abbrev pub trouble_status : Trouble → ℕ
@@ -12,7 +12,9 @@ trouble_status Words = 2
 trouble_status CommandLine = 2
 trouble_status Name = 2
 trouble_status Now = 2
+trouble_status Address = 1
 trouble_status (Run _) = 1
+trouble_status (Serve _) = 1
 
 -- 0 where all went well (own)
 abbrev pub status_of : Result (Unit {0}) Trouble → ℕ

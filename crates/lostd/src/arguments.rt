@@ -1,13 +1,14 @@
 //! The command line.
-use clap::{Arg, ArgAction, Command, Error};
+use clap::{Arg, ArgAction, Command, Error, value_parser};
 use std::alloc::Global;
 
 /// The version that `lostd --version` prints.
 const VERSION: &str = "0.1.0";
 
 const HELP: &str =
-    "Example:\n  lostd replay --name lost.example --now 2026-01-01T00:00:00Z < examples/one-mapping.jsonl\n\n\
-`lostd replay --help` explains its arguments and the exit status.";
+    "Examples:\n  lostd replay --name lost.example --now 2026-01-01T00:00:00Z < examples/one-mapping.jsonl\n  \
+lostd serve --name lost.example --queries 127.0.0.1:5222 --desk 127.0.0.1:5223 --workers 4 --connections 1000\n\n\
+`lostd replay --help` and `lostd serve --help` explain the arguments and the exit status.";
 
 const REPLAY_HELP: &str =
     "Each line of standard input is one JSON object. Desk lines (`publish`, `replace`, `withdraw`, \
@@ -16,6 +17,22 @@ const REPLAY_HELP: &str =
 Example:\n  lostd replay --name lost.example --now 2026-01-01T00:00:00Z < examples/one-mapping.jsonl\n\n\
 Exit status: 0 at the end of the input; 1 where standard input or output failed, the input was too long (more than \
 1,000,000 lines) or memory ran out at the start; 2 for a mistake on the command line.";
+
+const SERVE_HELP: &str =
+    "It prints `ready` once both addresses are listened on. One connection to the desk's address gives desk lines \
+(`publish`, `replace`, `withdraw`, `commit`); each connection to the address of queries gives requests (`findService`, \
+`listServicesByLocation`, `listServices`, `getServiceBoundary`). Each line is one JSON object and gets one line of reply. \
+It begins with no mappings, and keeps nothing once it has ended: have the desk send its map after each start.\n\n\
+A worker answers one connection at a time, from its first line to its end; further ones wait. A connection ends where \
+its input ends, where it fails, or after 1,000,000 lines. When the desk's connection and all query connections have \
+ended, it prints `done lines=L faults=F`: the lines that were answered and the query connections that ended in a \
+fault.\n\n\
+Example, with a query from another shell:\n  \
+lostd serve --name lost.example --queries 127.0.0.1:5222 --desk 127.0.0.1:5223 --workers 4 --connections 1000\n  \
+echo '{\"listServices\":{}}' | nc -N 127.0.0.1 5222\n\n\
+Exit status: 0 when all connections have ended; 1 where an address cannot be used, no connection can be accepted, \
+standard output failed or memory ran out outside the connections; 2 for a mistake on the command line. SIGINT and \
+SIGTERM end it at once.";
 
 /// The whole command line.
 pub(crate) fn command<'a>(alloc: Global) -> Result<Command<'a>, Error> {
@@ -26,7 +43,8 @@ pub(crate) fn command<'a>(alloc: Global) -> Result<Command<'a>, Error> {
         .version(VERSION)
         .after_help(HELP)
         .subcommand_required(true)
-        .subcommand(replay_command(alloc)?)?;
+        .subcommand(replay_command(alloc)?)?
+        .subcommand(serve_command(alloc)?)?;
     Ok(command)
 }
 
@@ -40,6 +58,76 @@ fn replay_command<'a>(alloc: Global) -> Result<Command<'a>, Error> {
         .arg(name_argument(alloc))?
         .arg(now_argument(alloc))?;
     Ok(command)
+}
+
+/// `lostd serve`.
+fn serve_command<'a>(alloc: Global) -> Result<Command<'a>, Error> {
+    let command = Command::new(alloc, "serve")
+        .about("Answers requests over TCP, while a map desk edits the boundaries")
+        .after_help(SERVE_HELP)
+        .arg(name_argument(alloc))?
+        .arg(address_argument(
+            alloc,
+            "queries",
+            "Where requests are taken: an address of this machine and a port, as 127.0.0.1:5222",
+        ))?
+        .arg(address_argument(
+            alloc,
+            "desk",
+            "Where the desk's lines are taken, on one connection: an address of this machine and a port, as 127.0.0.1:5223",
+        ))?
+        .arg(
+            number_argument(
+                alloc,
+                "workers",
+                "How many threads answer requests, each one connection at a time: 1 to 64",
+            )
+            .value_parser(value_parser!(u32).range(1..=64))
+            .required(true),
+        )?
+        .arg(
+            number_argument(
+                alloc,
+                "connections",
+                "How many query connections are served before it ends: 1 to 1000000",
+            )
+            .value_parser(value_parser!(u32).range(1..=1_000_000))
+            .required(true),
+        )?
+        .arg(
+            number_argument(
+                alloc,
+                "idle",
+                "After how many seconds without a byte a query connection is ended: 0 to 86400, 0 for never",
+            )
+            .value_name("SECONDS")
+            .value_parser(value_parser!(u32).range(0..=86_400))
+            .default_value("300"),
+        )?
+        .arg(
+            Arg::new(alloc, "quiet")
+                .long("quiet")
+                .action(ArgAction::SetTrue)
+                .help("Says nothing of connections that end in a fault"),
+        )?;
+    Ok(command)
+}
+
+fn address_argument<'a>(alloc: Global, name: &'static str, help: &'static str) -> Arg<'a> {
+    Arg::new(alloc, name)
+        .long(name)
+        .value_name("HOST:PORT")
+        .required(true)
+        .action(ArgAction::Set)
+        .help(help)
+}
+
+fn number_argument<'a>(alloc: Global, name: &'static str, help: &'static str) -> Arg<'a> {
+    Arg::new(alloc, name)
+        .long(name)
+        .value_name("NUMBER")
+        .action(ArgAction::Set)
+        .help(help)
 }
 
 fn name_argument<'a>(alloc: Global) -> Arg<'a> {

@@ -1,4 +1,5 @@
-//! `lostd`: a LoST server (RFC 5222) of JSON lines. `lostd replay` answers standard input on standard output.
+//! `lostd`: a LoST server (RFC 5222) of JSON lines. `lostd replay` answers standard input on standard output, and `lostd
+//! serve` answers connections.
 #![tactic(auto)]
 
 ghost use Rattle.std.specs.Prelude.{◌≡◌};
@@ -7,11 +8,17 @@ ghost use Rattle.lostd.specs.Trouble.{status_of};
 
 mod arguments;
 mod replaying;
+mod serving;
 mod trouble;
 
+use serving::ServeOrder;
 use std::env;
+use std::net::{Net, TcpListener, TcpStream};
 use std::process::ExitCode;
 use std::rt::Env;
+use std::sync::Wait;
+use std::thread::Threads;
+use std::time::Clock;
 use trouble::Trouble;
 
 fn main(rt: HostRuntime) -> ExitCode {
@@ -29,28 +36,52 @@ fn end<R: Eprint>(rt: &R, outcome: Result<(), Trouble>) -> ExitCode
 }
 
 /// Reads the words of the command line, and does what they say.
-fn run<R: Env + Print + Eprint + Input + AllocGlobal>(rt: &R) -> Result<(), Trouble> {
+fn run<
+    R: Env
+        + Print
+        + Eprint
+        + Input
+        + AllocGlobal
+        + Net<Listener = TcpListener, Stream = TcpStream>
+        + Threads
+        + Wait
+        + Clock
+        + Clone
+        + Send
+        + Sync,
+>(rt: &R) -> Result<(), Trouble> {
     let mut words = Vec::new(rt.alloc());
     for word in env::args(rt).map_err(|error| Trouble::of_words(&error))? {
         words.push(word).map_err(|_| Trouble::MEMORY)?;
     }
-    obey(rt, words.as_slice())
+    match obey(rt, words.as_slice())? {
+        Some(order) => serving::serve_addresses(rt, &order),
+        None => Ok(()),
+    }
 }
 
-/// Does what the words of the command line say.
+/// Does what the words of the command line say, but for serving connections: what is ordered of that, it gives.
 fn obey<'a, R: Print + Eprint + Input + AllocGlobal>(
     rt: &R,
     words: &'a [String],
-) -> Result<(), Trouble> {
+) -> Result<Option<ServeOrder<'a>>, Trouble> {
     let Ok(command) = arguments::command(rt.alloc()) else {
         return Err(Trouble::MEMORY);
     };
     match command.try_get_matches_from(words) {
         Ok(matches) => match matches.subcommand() {
-            Some(("replay", given)) => replaying::replay_standard_streams(rt, given),
+            Some(("replay", given)) => {
+                replaying::replay_standard_streams(rt, given)?;
+                Ok(None)
+            }
+            Some(("serve", given)) => Ok(Some(serving::order_of(rt, given)?)),
             _ => Err(Trouble::Words),
         },
-        Err(error) => trouble::show(rt, rt.alloc(), &error),
+        Err(error) => {
+            let first = words.get(1).map(|word| word.as_str());
+            trouble::show(rt, rt.alloc(), first, &error)?;
+            Ok(None)
+        }
     }
 }
 

@@ -21,7 +21,7 @@ pub(crate) fn replay_standard_streams<R: Print + Eprint + Input + AllocGlobal>(
     let now = given.get_str("now").unwrap_or("");
     let (name, moment) = match begin(rt.alloc(), name, now) {
         Ok(begun) => begun,
-        Err(trouble) => return Err(said(rt, trouble, name, now)),
+        Err(trouble) => return Err(said_of(rt, trouble, name, now)),
     };
     let mut input = Watched::new(rt.reader());
     let mut output = Watched::new(io::writer(rt));
@@ -37,7 +37,7 @@ pub(crate) fn replay_standard_streams<R: Print + Eprint + Input + AllocGlobal>(
 
 /// Says of a bad name or a bad moment which word it is, and gives the trouble of a mistake that was said already; any
 /// other trouble is given as it is.
-fn said<R: Eprint>(rt: &R, trouble: Trouble, name: &str, now: &str) -> Trouble {
+pub(crate) fn said_of<R: Eprint>(rt: &R, trouble: Trouble, name: &str, now: &str) -> Trouble {
     let text = trouble.text();
     // Where standard error fails, the status still tells.
     let _said = match trouble {
@@ -64,7 +64,7 @@ pub(crate) fn begin(alloc: Global, name: &str, now: &str) -> Result<(Source, Mom
 }
 
 /// The server's name.
-fn name_of(alloc: Global, text: &str) -> Result<Source, Trouble>
+pub(crate) fn name_of(alloc: Global, text: &str) -> Result<Source, Trouble>
     ensures value { IfOk result (λ name. name ≡ lowered text.now) }
     ensures bad { (result ≡ Err Trouble.Name) ↔ (is_source text.now ≡ false) }
     ensures refused { IfErr result (λ trouble. trouble ≢ Trouble.Name → trouble ≡ Trouble.Run ServeError.Memory) }

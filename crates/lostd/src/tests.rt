@@ -35,7 +35,7 @@ fn words(alloc: Global, line: &str) -> Result<Vec<String>, AllocError> {
 /// Does what a command line says, and gives the exit status as it is shown.
 fn ended(console: &Console, alloc: Global, line: &str) -> Result<String, Fail> {
     let words = words(alloc, line)?;
-    let code: ExitCode = end(console, obey(console, words.as_slice()));
+    let code: ExitCode = end(console, obey(console, words.as_slice()).map(|_| ()));
     Ok(format!(in alloc; "{code:?}")?)
 }
 
@@ -114,7 +114,7 @@ fn each_run_ends_with_its_status(rt: HostRuntime) -> Result<(), Fail> {
             false,
             2,
             "",
-            "lostd: 'lostd' requires a subcommand but one was not provided [subcommands: replay, help]; see `lostd --help`\n",
+            "lostd: 'lostd' requires a subcommand but one was not provided [subcommands: replay, serve, help]; see `lostd --help`\n",
         ),
         (
             "lostd answer",

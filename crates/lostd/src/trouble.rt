@@ -6,7 +6,7 @@ ghost use Rattle.lostd.specs.Trouble.{trouble_status};
 
 use clap::Error;
 use clap::error::ErrorKind as ClapKind;
-use lost_server::ServeError;
+use lost_server::{RunFault, ServeError};
 use std::alloc::{AllocError, Global};
 use std::io;
 use std::io::ErrorKind;
@@ -29,8 +29,12 @@ pub(crate) enum Trouble {
     Name,
     /// `--now` is no time.
     Now,
-    /// The run ended in a fault.
+    /// An address cannot be listened on, which was said already.
+    Address,
+    /// The replay ended in a fault.
     Run(ServeError),
+    /// The server ended in a fault.
+    Serve(RunFault),
 }
 
 impl Trouble {
@@ -52,7 +56,7 @@ impl Trouble {
     pub(crate) fn text(self) -> &'static str {
         match self {
             Trouble::Words => "the command line could not be read: is it UTF-8?",
-            Trouble::CommandLine => "",
+            Trouble::CommandLine | Trouble::Address => "",
             Trouble::Name => {
                 "is not a server name: it must have 1 to 253 characters, in labels of letters, digits and hyphens joined by single dots, as lost.example"
             }
@@ -64,7 +68,9 @@ impl Trouble {
             Trouble::Run(ServeError::TurnsSpent) => {
                 "the input is too long: at most 1,000,000 lines are answered"
             }
-            Trouble::Run(ServeError::Memory) => "memory ran out",
+            Trouble::Run(ServeError::Memory) | Trouble::Serve(RunFault::Memory) => "memory ran out",
+            Trouble::Serve(RunFault::Workers) => "there must be 1 to 64 workers",
+            Trouble::Serve(RunFault::Accept) => "no more connections could be accepted",
         }
     }
 
@@ -73,7 +79,7 @@ impl Trouble {
         ensures { result ≡ trouble_status self }
     {
         match self {
-            Trouble::Run(_) => RUN_FAULT,
+            Trouble::Address | Trouble::Run(_) | Trouble::Serve(_) => RUN_FAULT,
             _ => COMMAND_LINE,
         }
     }
@@ -91,9 +97,14 @@ impl Trouble {
     }
 }
 
-/// Prints what the reader of the command line says: help and the version on standard output, which is no trouble, and a
-/// mistake as one line on standard error.
-pub(crate) fn show<R: Print + Eprint>(rt: &R, alloc: Global, error: &Error) -> Result<(), Trouble> {
+/// Prints what the reader of the command line says, whose first word is `command`: help and the version on standard
+/// output, which is no trouble, and a mistake as one line on standard error.
+pub(crate) fn show<R: Print + Eprint>(
+    rt: &R,
+    alloc: Global,
+    command: Option<&str>,
+    error: &Error,
+) -> Result<(), Trouble> {
     match error.kind() {
         ClapKind::OutOfMemory => Err(Trouble::MEMORY),
         ClapKind::DisplayHelp | ClapKind::DisplayVersion => {
@@ -103,7 +114,7 @@ pub(crate) fn show<R: Print + Eprint>(rt: &R, alloc: Global, error: &Error) -> R
             let Ok(line) = mistake_line(alloc, error) else {
                 return Err(Trouble::MEMORY);
             };
-            let hint = hint_of(error.kind(), line.as_str());
+            let hint = hint_of(command, error.kind(), line.as_str());
             // Where standard error fails too, the status still tells.
             let _said = eprintln!(rt; "lostd: {line}; {hint}");
             Err(Trouble::CommandLine)
@@ -111,11 +122,12 @@ pub(crate) fn show<R: Print + Eprint>(rt: &R, alloc: Global, error: &Error) -> R
     }
 }
 
-/// What to do about a mistake on the command line.
-fn hint_of(kind: ClapKind, line: &str) -> &'static str {
-    match kind {
-        ClapKind::MissingSubcommand | ClapKind::InvalidSubcommand => "see `lostd --help`",
-        ClapKind::UnknownArgument if !line.starts_with("unexpected argument '-") => {
+/// What to do about a mistake on the command line, whose first word is `command`.
+fn hint_of(command: Option<&str>, kind: ClapKind, line: &str) -> &'static str {
+    match (kind, command) {
+        (ClapKind::MissingSubcommand | ClapKind::InvalidSubcommand, _) => "see `lostd --help`",
+        (_, Some("serve")) => "see `lostd serve --help`",
+        (ClapKind::UnknownArgument, _) if !line.starts_with("unexpected argument '-") => {
             "standard input is read: use `< FILE`"
         }
         _ => "see `lostd replay --help`",

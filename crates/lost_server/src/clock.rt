@@ -1,0 +1,56 @@
+//! The moments of the machine's clock. Rules without a section are this profile's own.
+ghost use Rattle.std.specs.Prelude.{◌≡◌, ◌+◌, ◌*◌, IfSome};
+ghost use Rattle.std.specs.Duration.{as_nanos};
+
+use lost_mapping::Moment;
+use lost_worker::Moments;
+use std::time::{Clock, Duration};
+
+/// The seconds of a day.
+const SECONDS_OF_A_DAY: u64 = 86_400;
+
+/// The nanoseconds of a second.
+const NANOSECONDS_OF_A_SECOND: u64 = 1_000_000_000;
+
+/// Gives the moments of the machine's clock, in UTC. Where the clock cannot be read, or tells a day that is past all
+/// stamps, the last moment is given again; at first that is 1970-01-01T00:00:00Z.
+#[derive(Drop)]
+pub(crate) struct MachineClock<'r, R: Clock> {
+    rt: &'r R,
+    last: Moment,
+}
+
+impl<'r, R: Clock> MachineClock<'r, R> {
+    /// The clock of this machine.
+    pub(crate) fn new(rt: &'r R) -> MachineClock<'r, R> {
+        match Moment::new(0, 0) {
+            Some(last) => MachineClock { rt, last },
+            None => unreachable!(),
+        }
+    }
+}
+
+impl<R: Clock> Moments for MachineClock<'_, R> {
+    ghost use Rattle.std.specs.Prelude.{[]};
+
+    ghost coming = { λ _. [] };
+
+    fn now(&mut self) -> Moment {
+        if let Ok(since) = self.rt.since_1970()
+            && let Some(moment) = moment_since_1970(since)
+        {
+            self.last = moment;
+        }
+        self.last
+    }
+}
+
+/// The moment so long after 1970-01-01T00:00:00Z, or `None` where its day has no number.
+fn moment_since_1970(since: Duration) -> Option<Moment> {
+    let day = i32::try_from(since.as_secs() / SECONDS_OF_A_DAY).ok()?;
+    let second = since.as_secs() % SECONDS_OF_A_DAY;
+    Moment::new(
+        day,
+        second * NANOSECONDS_OF_A_SECOND + u64::from(since.subsec_nanos()),
+    )
+}

@@ -1,0 +1,101 @@
+//! What is said of connections on standard error. Rules without a section are this profile's own.
+use std::alloc::{AllocError, Global};
+use std::io::Eprint;
+use std::net::SocketAddr;
+use std::sync::atomic::{AtomicU64, Ordering};
+use std::time::Clock;
+
+/// The most lines that are said in a second.
+const MAX_A_SECOND: u64 = 10;
+
+/// Says on standard error, in one line each, how connections end in a fault: at most ten lines a second, the next of
+/// which says how many were left out.
+#[derive(Drop)]
+pub(crate) struct Notices<R: Clock + Eprint + Drop> {
+    rt: R,
+    alloc: Global,
+    is_quiet: bool,
+    second: AtomicU64,
+    said: AtomicU64,
+    left_out: AtomicU64,
+}
+
+impl<R: Clock + Eprint + Drop> Notices<R> {
+    /// Notices on the standard error of `rt`; none where it is quiet.
+    pub(crate) fn new(rt: R, alloc: Global, is_quiet: bool) -> Notices<R> {
+        Notices {
+            rt,
+            alloc,
+            is_quiet,
+            second: AtomicU64::new(0),
+            said: AtomicU64::new(0),
+            left_out: AtomicU64::new(0),
+        }
+    }
+
+    /// Says how a query connection, counted from 1, ended in a fault.
+    pub(crate) fn say_of_query(&self, number: u64, address: &SocketAddr, cause: &str) {
+        if self.is_due() {
+            let left_out = self.left_out.swap(0, Ordering::SeqCst);
+            self.say(query_line(self.alloc, number, address, cause, left_out));
+        }
+    }
+
+    /// Says how the desk's connection ended in a fault.
+    pub(crate) fn say_of_desk(&self, address: &SocketAddr, cause: &str) {
+        if !self.is_quiet {
+            self.say(desk_line(self.alloc, address, cause));
+        }
+    }
+
+    /// Says a line in one piece. One for which there is no memory is not said; where standard error fails, nothing is.
+    fn say(&self, line: Result<String, AllocError>) {
+        if let Ok(line) = line {
+            let _said = self.rt.eprint(line.as_str());
+        }
+    }
+
+    /// Whether one more line may be said in this second. Where not, it is counted as left out.
+    fn is_due(&self) -> bool {
+        if self.is_quiet {
+            return false;
+        }
+        let second = match self.rt.since_1970() {
+            Ok(since) => since.as_secs(),
+            Err(_) => 0,
+        };
+        if self.second.swap(second, Ordering::SeqCst) != second {
+            self.said.store(0, Ordering::SeqCst);
+        }
+        let is_due = self.said.fetch_add(1, Ordering::SeqCst) < MAX_A_SECOND;
+        if !is_due {
+            self.left_out.fetch_add(1, Ordering::SeqCst);
+        }
+        is_due
+    }
+}
+
+/// The line about a query connection that ended in a fault, and about so many that were left out before.
+fn query_line(
+    alloc: Global,
+    number: u64,
+    address: &SocketAddr,
+    cause: &str,
+    left_out: u64,
+) -> Result<String, AllocError> {
+    let mut line = format!(in alloc; "lostd: query connection {number} of {address}: {cause}")?;
+    if left_out > 0 {
+        let more = format!(in alloc;
+            " ({left_out} more connections ended in faults that were not said)"
+        )?;
+        line.push_str(more.as_str())?;
+    }
+    line.push('\n')?;
+    Ok(line)
+}
+
+/// The line about the desk's connection that ended in a fault.
+fn desk_line(alloc: Global, address: &SocketAddr, cause: &str) -> Result<String, AllocError> {
+    let line = format!(in alloc; "lostd: desk connection of {address}: {cause}\n")?;
+    Ok(line)
+}

@@ -1,0 +1,55 @@
+//! Why a server stopped before all its connections had ended. Rules without a section are this profile's own.
+ghost use Rattle.std.specs.Prelude.{◌≡◌};
+ghost use Rattle.lost_server.specs.RunFault.{run_code, fault_of};
+
+use lost_desk::OpenError;
+use std::alloc::AllocError;
+use thiserror::Error;
+
+/// Why a server stopped before all its connections had ended.
+#[derive(Clone, Copy, PartialEq, Eq, Debug, Error)]
+pub enum RunFault {
+    /// There are fewer than 1 or more than 64 workers.
+    #[error("the number of workers is not from 1 to 64")]
+    Workers,
+    /// A listener failed again and again.
+    #[error("no connection could be accepted")]
+    Accept,
+    /// A growth, a reader's place or a thread was refused.
+    #[error("memory ran out")]
+    Memory,
+}
+
+impl RunFault {
+    /// The number of the fault, from 1 to 3 in the order of the variants.
+    pub fn code(self) -> u8
+        ensures { result ≡ run_code self }
+    {
+        match self {
+            RunFault::Workers => 1,
+            RunFault::Accept => 2,
+            RunFault::Memory => 3,
+        }
+    }
+}
+
+impl From<AllocError> for RunFault {
+    ghost use Rattle.std.specs.Prelude.{◌≡◌};
+    ghost use Rattle.lost_server.specs.declared.run_fault.RunFault.TheVariants.{Memory};
+
+    ghost from_gives = { λ _ fault. fault ≡ Memory };
+
+    fn from(_: AllocError) -> RunFault {
+        RunFault::Memory
+    }
+}
+
+/// Why no desk could be opened, as a fault of the run.
+pub(crate) fn fault_of_opening(error: OpenError) -> RunFault
+    ensures { result ≡ fault_of error }
+{
+    match error {
+        OpenError::Workers => RunFault::Workers,
+        OpenError::Memory => RunFault::Memory,
+    }
+}
