@@ -1,0 +1,223 @@
+"""What the desk's connection refuses: a second way to read the tables of docs/PROTOCOL.md, "The desk's lines"."""
+from __future__ import annotations
+
+from typing import Any, Dict, List, NamedTuple, Optional, Tuple
+
+from maptools.texts import is_expires, is_id, is_number, is_source, lowered, moment_of, scheme_of, service_of, size
+
+GREATEST_LATITUDE, GREATEST_LONGITUDE = 900_000_000, 1_800_000_000
+MOST_POSITIONS, MOST_POLYGONS, MOST_PATTERNS, MOST_NAMES, MOST_MAPPINGS = 4096, 64, 256, 16, 65_536
+GEODETIC, CIVIC = "geodetic-2d", "civic"
+ELEMENTS = frozenset(
+    "country A1 A2 A3 A4 A5 A6 PRM PRD RD STS POD POM RDSEC RDBR RDSUBBR HNO HNS LMK LOC FLR NAM PC BLD UNIT ROOM SEAT "
+    "PLC PCN POBOX ADDCODE".split()
+)
+REQUIRED = ("source", "sourceId", "lastUpdated", "expires", "service")
+EDITS = ("publish", "replace", "withdraw")
+
+Identity = Tuple[str, str]
+
+
+class Fault(NamedTuple):
+    """The code of a refusal, and what it is about."""
+
+    code: int
+    what: str
+
+
+class Book(NamedTuple):
+    """The mappings that are held, by identity and in the order of the list, and whose each key is."""
+
+    held: Dict[Identity, Dict[str, Any]]
+    keys: Dict[str, Identity]
+
+
+def empty_book() -> Book:
+    """No mappings."""
+    return Book({}, {})
+
+
+def is_text_list(value: Any) -> bool:
+    """A list of texts."""
+    return isinstance(value, list) and all(isinstance(item, str) for item in value)
+
+
+def is_name_list(value: Any) -> bool:
+    """A list of objects with the texts lang and text."""
+    return isinstance(value, list) and all(
+        isinstance(item, dict) and isinstance(item.get("lang"), str) and isinstance(item.get("text"), str) for item in value
+    )
+
+
+def kind_fault(value: Any) -> Optional[Fault]:
+    """Code 1: a member that is missing or of another kind; null counts as no value."""
+    if not isinstance(value, dict):
+        return Fault(1, "the value is no object")
+    for name in REQUIRED:
+        if not isinstance(value.get(name), str):
+            return Fault(1, f"{name} is no text")
+    if not is_text_list(value.get("uri")):
+        return Fault(1, "uri is no list of texts")
+    kinds = {"serviceNumber": str, "serviceBoundary": list, "default": bool, "key": str}
+    for name, kind in kinds.items():
+        if value.get(name) is not None and not isinstance(value[name], kind):
+            return Fault(1, f"{name} is of another kind")
+    if value.get("displayName") is not None and not is_name_list(value["displayName"]):
+        return Fault(1, "displayName is no list of objects with lang and text")
+    return None
+
+
+def text_fault(value: Dict[str, Any]) -> Optional[Fault]:
+    """Codes 2 to 6: the texts that each mapping has."""
+    if not is_source(value["source"]):
+        return Fault(2, f"{value['source']!r} is no source")
+    if not is_id(value["sourceId"]):
+        return Fault(3, f"{value['sourceId']!r} is no sourceId")
+    if moment_of(value["lastUpdated"]) is None:
+        return Fault(4, f"{value['lastUpdated']!r} is no stamp")
+    if not is_expires(value["expires"]):
+        return Fault(5, f"{value['expires']!r} is no stamp, NO-CACHE or NO-EXPIRATION")
+    if service_of(value["service"]) is None:
+        return Fault(6, f"{value['service']!r} is no service URN")
+    return None
+
+
+def uri_fault(uris: List[str]) -> Optional[Fault]:
+    """Code 7: 1 to 16 URIs, no scheme twice."""
+    for uri in uris:
+        if scheme_of(uri) is None:
+            return Fault(7, f"{uri!r} is no URI")
+    if not 1 <= len(uris) <= 16:
+        return Fault(7, f"there are {len(uris)} URIs")
+    schemes = [scheme_of(uri) for uri in uris]
+    twice = [scheme for scheme in schemes if schemes.count(scheme) > 1]
+    return Fault(7, f"two URIs have the scheme {twice[0]}") if twice else None
+
+
+def is_position(value: Any) -> bool:
+    """Two whole numbers in range, latitude first."""
+    return (
+        isinstance(value, list)
+        and len(value) == 2
+        and all(type(number) is int for number in value)
+        and abs(value[0]) <= GREATEST_LATITUDE
+        and abs(value[1]) <= GREATEST_LONGITUDE
+    )
+
+
+def is_ring(value: Any) -> bool:
+    """4 to 4,096 positions, the last equal to the first."""
+    is_long = isinstance(value, list) and 4 <= len(value) <= MOST_POSITIONS
+    return is_long and all(map(is_position, value)) and value[0] == value[-1]
+
+
+def is_pattern(value: Any) -> bool:
+    """1 to 128 elements with texts of at most 512 bytes."""
+    return (
+        isinstance(value, dict)
+        and 1 <= len(value) <= 128
+        and all(name in ELEMENTS and isinstance(text, str) and size(text) <= 512 for name, text in value.items())
+    )
+
+
+def is_region(value: Any) -> bool:
+    """A polygon or a pattern, by its profile."""
+    if not isinstance(value, dict):
+        return False
+    if value.get("profile") == GEODETIC:
+        return is_ring(value.get("polygon"))
+    return value.get("profile") == CIVIC and is_pattern(value.get("pattern"))
+
+
+def regions_of(value: Dict[str, Any]) -> List[Dict[str, Any]]:
+    """The regions of a mapping; none where the boundary is left out."""
+    return value.get("serviceBoundary") or []
+
+
+def contents_of(value: Dict[str, Any], profile: str) -> List[Any]:
+    """The polygons or the patterns of a mapping."""
+    member = "polygon" if profile == GEODETIC else "pattern"
+    return [region[member] for region in regions_of(value) if region["profile"] == profile]
+
+
+def boundary_fault(value: Dict[str, Any]) -> Optional[Fault]:
+    """Codes 8 to 12."""
+    number, regions, is_default = value.get("serviceNumber"), regions_of(value), value.get("default") is True
+    names, key = value.get("displayName") or [], value.get("key")
+    if number is not None and not is_number(number):
+        return Fault(8, f"{number!r} is no service number")
+    for place, region in enumerate(regions, 1):
+        if not is_region(region):
+            return Fault(9, f"region {place} is no region")
+    if is_default == bool(regions):
+        return Fault(10, "a default has a region" if is_default else "there is no region")
+    if len(contents_of(value, GEODETIC)) > MOST_POLYGONS or len(contents_of(value, CIVIC)) > MOST_PATTERNS:
+        return Fault(11, "there are too many regions")
+    if len(names) > MOST_NAMES or any(size(name[part]) > 1024 for name in names for part in ("lang", "text")):
+        return Fault(11, "there are too many display names, or one is too long")
+    if (key is not None) == is_default:
+        return Fault(12, "a default has a key" if is_default else "there is no key")
+    return Fault(12, f"{key!r} is no key") if key is not None and not is_id(key) else None
+
+
+def mapping_fault(value: Any) -> Optional[Fault]:
+    """Codes 1 to 12 for a mapping: the first that applies."""
+    return kind_fault(value) or text_fault(value) or uri_fault(value["uri"]) or boundary_fault(value)
+
+
+def withdrawal_fault(value: Any) -> Optional[Fault]:
+    """Codes 1 to 4 for a withdrawal."""
+    if not isinstance(value, dict) or not all(isinstance(value.get(name), str) for name in REQUIRED[:3]):
+        return Fault(1, "a member is missing or no text")
+    return text_fault({"expires": "NO-CACHE", "service": "urn:service:sos", **{name: value[name] for name in REQUIRED[:3]}})
+
+
+def identity_of(value: Dict[str, Any]) -> Identity:
+    """Source in lower case, and sourceId."""
+    return lowered(value["source"]), value["sourceId"]
+
+
+def same_regions(one: Dict[str, Any], other: Dict[str, Any]) -> bool:
+    """The same polygons and the same patterns, each kind in the same order."""
+    return all(contents_of(one, profile) == contents_of(other, profile) for profile in (GEODETIC, CIVIC))
+
+
+def book_fault(book: Book, kind: str, value: Dict[str, Any]) -> Optional[Fault]:
+    """Codes 13 to 18, in the order of docs/PROTOCOL.md, for an edit that codes 1 to 12 let through."""
+    identity, key = identity_of(value), value.get("key")
+    old = book.held.get(identity)
+    if kind == "publish" and old is not None:
+        return Fault(13, f"{identity[0]} {identity[1]} is held")
+    if kind != "publish" and old is None:
+        return Fault(14, f"{identity[0]} {identity[1]} is not held")
+    if old is not None and moment_of(value["lastUpdated"]) <= moment_of(old["lastUpdated"]):
+        return Fault(15, f"{value['lastUpdated']} is not after {old['lastUpdated']}")
+    if kind == "publish" and len(book.held) >= MOST_MAPPINGS:
+        return Fault(18, "65,536 mappings are held")
+    if kind == "withdraw" or key is None:
+        return None
+    if book.keys.get(key, identity) != identity:
+        return Fault(16, f"the key {key} is that of {' '.join(book.keys[key])}")
+    if old is not None and key == old.get("key") and not same_regions(value, old):
+        return Fault(17, "the regions changed, and the key did not")
+    return None
+
+
+def edit_fault(book: Book, kind: str, value: Any) -> Optional[Fault]:
+    """The refusal that an edit gets, codes 1 to 18; None where it is accepted."""
+    alone = withdrawal_fault(value) if kind == "withdraw" else mapping_fault(value)
+    return alone or book_fault(book, kind, value)
+
+
+def apply_edit(book: Book, kind: str, value: Dict[str, Any]) -> None:
+    """Changes the book by an edit that is accepted."""
+    identity = identity_of(value)
+    old = book.held.get(identity)
+    if old is not None and old.get("key") is not None:
+        del book.keys[old["key"]]
+    if kind == "withdraw":
+        del book.held[identity]
+        return
+    book.held[identity] = value
+    if value.get("key") is not None:
+        book.keys[value["key"]] = identity
