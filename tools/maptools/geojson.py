@@ -64,10 +64,11 @@ def position_of(value: Any) -> Any:
     longitude, latitude = value[:2]
     if not all(type(number) in (int, Decimal) for number in (longitude, latitude)):
         raise Unfit("has a coordinate that is no number")
-    if abs(latitude) > 90:
-        swapped = ": is it swapped? GeoJSON has longitude first" if abs(longitude) <= 90 and abs(latitude) <= 180 else ""
+    if not -90 <= latitude <= 90:
+        may_be_swapped = -90 <= longitude <= 90 and -180 <= latitude <= 180
+        swapped = ": is it swapped? GeoJSON has longitude first" if may_be_swapped else ""
         raise Unfit(f"has a latitude out of range, {latitude}{swapped}")
-    if abs(longitude) > FARTHEST_LONGITUDE:
+    if not -FARTHEST_LONGITUDE <= longitude <= FARTHEST_LONGITUDE:
         raise Unfit(f"has a longitude out of range, {longitude}")
     return rounded_units(latitude), rounded_units(longitude)
 

@@ -58,6 +58,17 @@ def point_of(text: str, is_in_units: bool) -> Point:
     return latitude, longitude
 
 
+def joined(words: List[str]) -> List[str]:
+    """The words of a command line, with --point and the word after it as one, since that may begin with a minus sign."""
+    result: List[str] = []
+    for word in words:
+        if result and result[-1] == "--point":
+            result[-1] = f"--point={word}"
+        else:
+            result.append(word)
+    return result
+
+
 def degrees_of(units: int) -> str:
     """Whole units as degrees, exactly, without zeros at the end."""
     return format(Decimal(units).scaleb(-7).normalize() + 0, "f")

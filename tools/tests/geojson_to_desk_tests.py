@@ -1,0 +1,202 @@
+"""tools/geojson-to-desk: cases of files, limits, and what `lostd replay` says of the lines."""
+from __future__ import annotations
+
+import glob
+import json
+import os
+import unittest
+from typing import Any, Dict, List
+
+from maptools.desk_rules import apply_edit, edit_fault, empty_book
+from tests.running import CASES, found_in, lostd, question, read, replay, run_tool
+
+COMMON = read("geojson/common.args").splitlines()
+D = 10_000_000
+
+# Points on and beside the edges of the cases, and what they find, worked out by hand.
+KNOWN_POINTS = {
+    "neighbours": [
+        ((405000000, -740000000), ["west"]),
+        ((407000000, -739880001), ["west"]),
+        ((407000000, -739880000), ["east"]),
+        ((410000000, -739900000), []),
+    ],
+    "holes": [
+        ((0, 0), ["ring"]),
+        ((2 * D, 3 * D), []),
+        ((1 * D, 2 * D), []),
+        ((3 * D, 3 * D), ["ring"]),
+        ((6 * D, 7 * D), []),
+        ((6 * D, 8 * D), ["ring"]),
+        ((5 * D, 5 * D), ["ring"]),
+        ((0, 20 * D), ["ring"]),
+    ],
+    "meridian": [
+        ((5 * D, 175 * D), ["jump", "hole", "world"]),
+        ((5 * D, 180 * D), ["jump", "hole", "world"]),
+        ((5 * D, -170 * D - 1), ["jump", "hole", "world"]),
+        ((5 * D, -170 * D), ["world"]),
+        ((3 * D, -174 * D), ["jump", "world"]),
+        ((15 * D, -175 * D), ["beyond", "world"]),
+        ((15 * D, 175 * D), ["beyond", "world"]),
+        ((3333333, -180 * D), ["jump", "slanted", "two-prongs", "hole", "world"]),
+        ((3333332, -180 * D), ["jump", "slanted-neighbour", "two-prongs", "hole", "world"]),
+        ((15000000, -180 * D), ["jump", "hole", "world"]),
+        ((25000000, -180 * D), ["jump", "two-prongs", "hole", "world"]),
+        ((35 * D, 180 * D), ["world"]),
+        ((35 * D, 175 * D), ["touching", "world"]),
+        ((-80 * D, 60 * D), ["pole", "world"]),
+    ],
+    "members": [((1, 20 * D + 1), ["2: B"]), ((0, 50 * D), ["3: the rest"])],
+}
+
+
+def arguments_of(name: str) -> List[str]:
+    """The words of the command line of a case."""
+    path = f"{CASES}/geojson/{name}.args"
+    own = read(f"geojson/{name}.args").splitlines() if os.path.exists(path) else COMMON
+    return [*own, f"{CASES}/geojson/{name}.geojson"]
+
+
+def feature(coordinates: Any, name: Any = "a", kind: str = "Polygon", **properties: Any) -> Dict[str, Any]:
+    """A feature of coordinates."""
+    return {"type": "Feature", "id": name, "properties": properties, "geometry": {"type": kind, "coordinates": coordinates}}
+
+
+def collection(features: List[Any]) -> str:
+    """A file of features."""
+    return json.dumps({"type": "FeatureCollection", "features": features})
+
+
+def staircase(steps: int) -> List[List[float]]:
+    """A closed ring of 2 * steps + 2 positions."""
+    corners = [[number / 1000, (number + up) / 1000] for number in range(steps) for up in (0, 1)]
+    return [*corners, [0, 90], [0, 0]]
+
+
+class Cases(unittest.TestCase):
+    """Each file of tools/cases/geojson."""
+
+    def test_each_file_gives_the_lines_and_the_faults_that_stand_beside_it(self) -> None:
+        names = sorted(os.path.basename(path)[:-8] for path in glob.glob(f"{CASES}/geojson/*.geojson"))
+        self.assertEqual(len(names), 5)
+        for name in names:
+            with self.subTest(name):
+                status, output, said = run_tool("geojson-to-desk", arguments_of(name))
+                self.assertEqual(output, read(f"geojson/{name}.jsonl"))
+                if os.path.exists(f"{CASES}/geojson/{name}.errors"):
+                    self.assertEqual((status, said), (3, read(f"geojson/{name}.errors")))
+                else:
+                    self.assertEqual((status, said.count("\n")), (0, 1))
+
+    @unittest.skipUnless(lostd(), "lostd is not built")
+    def test_the_server_takes_each_line_and_finds_what_is_known(self) -> None:
+        for name, points in KNOWN_POINTS.items():
+            with self.subTest(name):
+                lines = run_tool("geojson-to-desk", arguments_of(name))[1].replace('{"commit":{}}\n', "")
+                asked = "".join(question(*point) for point, _ in points)
+                replies = replay(lines + '{"commit":{}}\n' + asked)
+                count = lines.count("\n")
+                self.assertEqual([next(iter(reply)) for reply in replies[: count + 1]], ["staged"] * count + ["committed"])
+                self.assertEqual([found_in(reply) for reply in replies[count + 1 :]], [found for _, found in points])
+
+
+class Limits(unittest.TestCase):
+    """What is just taken, and what is just not."""
+
+    def convert(self, features: List[Any], *more: str) -> Any:
+        return run_tool("geojson-to-desk", [*COMMON, *more], collection(features))
+
+    def test_a_ring_of_4096_positions_is_taken_and_one_of_4098_is_not(self) -> None:
+        status, output, said = self.convert([feature([staircase(2047)], "most"), feature([staircase(2048)], "more")])
+        self.assertEqual((status, output.count("\n")), (3, 1))
+        self.assertIn("(id 'more'): the polygon has 4,098 positions with its holes, and at most 4,096 are allowed", said)
+
+    def test_64_polygons_are_taken_and_65_are_not(self) -> None:
+        polygons = [[[[number, 0], [number, 1], [number + 0.5, 0], [number, 0]]] for number in range(65)]
+        status, output, said = self.convert([feature(polygons[:64], "most", "MultiPolygon"), feature(polygons, "more", "MultiPolygon")])
+        self.assertEqual((status, output.count("\n")), (3, 1))
+        self.assertIn("(id 'more'): it has 65 polygons, and at most 64 are allowed", said)
+
+    def test_a_line_over_one_mebibyte_is_left_out(self) -> None:
+        ring = [[-170.1234567 - place / 1e6, -80.1234567 + place / 1e6] for place in range(4094)]
+        ring = [*ring, ring[0]]
+        status, output, said = self.convert([feature([[ring]] * 12, "long", "MultiPolygon")])
+        self.assertEqual((status, output), (3, ""))
+        self.assertIn("it makes a line of more than 1,048,576 bytes", said)
+
+    def test_texts_that_the_desk_refuses_are_left_out_by_code(self) -> None:
+        ring = [[[0, 0], [1, 0], [1, 1], [0, 0]]]
+        for words, code in (
+            (["--source", "map..example"], "code 2, BadSource"),
+            (["--source-id", "x" * 129], "code 3, BadSourceId"),
+            (["--updated", "2026-02-29T00:00:00Z"], "code 4, BadStamp"),
+            (["--expires", "never"], "code 5, BadExpires"),
+            (["--service", "sos.police"], "code 6, BadService"),
+            (["--uri", "SIP:b@map.example"], "code 7, BadUri"),
+            (["--service-number", "9-1-1"], "code 8, BadNumber"),
+            (["--display", "en=" + "x" * 1025], "code 11, TooLarge"),
+            (["--key", "a\x7f"], "code 12, BadKey"),
+        ):
+            with self.subTest(code):
+                status, output, said = self.convert([feature(ring)], *words)
+                self.assertEqual((status, output), (3, ""))
+                self.assertIn(code, said)
+
+    def test_one_key_for_two_features_is_said(self) -> None:
+        ring = [[[0, 0], [1, 0], [1, 1], [0, 0]]]
+        status, _, said = self.convert([feature(ring, "a"), feature(ring, "b")], "--key", "one")
+        self.assertEqual(status, 3)
+        self.assertIn("feature 2 (id 'b'): it would be refused with code 16, KeyHeld: feature 1 has the same key, 'one'", said)
+
+    def test_numbers_are_exact_and_unheard_of_ones_are_refused(self) -> None:
+        text = collection([feature([[[0, 0], [1, 0], [1, 1], [0, 0]]])])
+        exact = text.replace("[1, 0]", "[0.00000024999999999999999999999999999999999999999, 1e-9]")
+        self.assertIn("[[0,0],[0,2],[10000000,10000000],[0,0]]", run_tool("geojson-to-desk", COMMON, exact)[1])
+        huge = text.replace("[1, 0]", "[1e400000000, 0]")
+        self.assertIn("position 2 has a longitude out of range", run_tool("geojson-to-desk", COMMON, huge)[2])
+        for spelled in ("NaN", "1e99999999999999999999", "true"):
+            status = run_tool("geojson-to-desk", COMMON, text.replace("[1, 0]", f"[{spelled}, 0]"))[0]
+            self.assertEqual(status, 3 if spelled == "true" else 1, spelled)
+
+    def test_the_key_changes_with_the_boundary_alone(self) -> None:
+        words = [word for pair in zip(COMMON[::2], COMMON[1::2]) if pair[0] != "--key" for word in pair]
+        ring = [[0, 0], [1, 0], [1, 1], [0, 0]]
+        texts = [collection([feature([ring[:2] + [[1, latitude]] + ring[3:]], colour=colour)]) for latitude, colour in ((1, 1), (1, 2), (2, 1))]
+        keys = [json.loads(run_tool("geojson-to-desk", words, text)[1])["publish"]["key"] for text in texts]
+        self.assertEqual(keys[0], keys[1])
+        self.assertNotEqual(keys[0], keys[2])
+
+    def test_replace_lines_follow_publish_lines(self) -> None:
+        text = collection([feature([[[0, 0], [1, 0], [1, 1], [0, 0]]])])
+        later = ["--updated", "2026-01-03T00:00:00Z", "--replace"]
+        book = empty_book()
+        for words in (COMMON, [*COMMON, *later]):
+            ((kind, value),) = json.loads(run_tool("geojson-to-desk", words, text)[1]).items()
+            self.assertIsNone(edit_fault(book, kind, value))
+            apply_edit(book, kind, value)
+        self.assertEqual(kind, "replace")
+
+    def test_flat_steps_run_across_the_map(self) -> None:
+        wide = [[[-100, 0], [100, 0], [100, 1], [-100, 1], [-100, 0]]]
+        regions = [json.loads(self.convert([feature(wide)], *words)[1])["publish"]["serviceBoundary"] for words in ([], ["--flat"])]
+        self.assertEqual([len(region) for region in regions], [2, 1])
+
+
+class CommandLine(unittest.TestCase):
+    """Mistakes on the command line and in whole files."""
+
+    def test_statuses(self) -> None:
+        for words, given, status in (
+            (["--help"], "", 0),
+            ([], "", 2),
+            ([*COMMON, "--uri", "sip:{name"], "", 2),
+            ([*COMMON, "--display", "name"], "", 2),
+            ([*COMMON, "/no/such/file"], "", 1),
+            (COMMON, "{", 1),
+            (COMMON, '{"type":"Polygon","coordinates":[]}', 1),
+            (COMMON, '{"type":"FeatureCollection","crs":{"type":"name","properties":{"name":"EPSG:3857"}},"features":[]}', 1),
+            (COMMON, "[" * 100_000, 1),
+            (COMMON, '{"type":"FeatureCollection","features":[]}', 0),
+        ):
+            self.assertEqual(run_tool("geojson-to-desk", words, given)[0], status, (words[-2:], given[:20]))
