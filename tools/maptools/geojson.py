@@ -2,7 +2,7 @@
 from __future__ import annotations
 
 import json
-from decimal import Decimal, InvalidOperation
+from decimal import MAX_EMAX, MAX_PREC, MIN_EMIN, ROUND_HALF_EVEN, Context, Decimal, InvalidOperation
 from typing import Any, Dict, List
 
 from maptools.desk_rules import GREATEST_LATITUDE, MOST_POLYGONS, MOST_POSITIONS
@@ -10,6 +10,7 @@ from maptools.lines import refuse_constant
 from maptools.meridian import TURN, Ring, Unfit, cut, laid_out, longitudes
 
 FARTHEST_LONGITUDE = 540
+EXACT = Context(prec=MAX_PREC, Emax=MAX_EMAX, Emin=MIN_EMIN, rounding=ROUND_HALF_EVEN)
 KNOWN_SYSTEMS = ("CRS84", "EPSG::4326", "EPSG:4326", "WGS84", "WGS 84")
 
 
@@ -53,8 +54,7 @@ def features_of(text: str) -> List[Any]:
 
 def rounded_units(degrees: Any) -> int:
     """Degrees in whole units of 1e-7 degrees, exactly; what lies between goes to the nearest, a half to the even one."""
-    sign, digits, exponent = Decimal(degrees).as_tuple()
-    return int(Decimal((sign, digits, exponent + 7)).to_integral_value())
+    return int(EXACT.to_integral_value(EXACT.scaleb(degrees, 7)))
 
 
 def position_of(value: Any) -> Any:

@@ -64,6 +64,8 @@ def laid_out(ring: Ring) -> Ring:
     A step of more than 180 degrees goes over the 180th meridian. A step of just 360 degrees may also be drawn across the
     whole map, as at the pole of a map of Antarctica.
     """
+    if max(longitudes(ring)) - min(longitudes(ring)) <= HALF_TURN:
+        return ring
     short, drawn = unwrapped(ring, False), unwrapped(ring, True)
     is_short = is_closed(short) and double_area(short) != 0
     if is_short and is_closed(drawn) and short != drawn:
