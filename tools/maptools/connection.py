@@ -4,6 +4,7 @@ from __future__ import annotations
 import select
 import socket
 import threading
+import time
 from typing import BinaryIO, Iterator, List, NamedTuple, Optional, Tuple
 
 CHUNK = 65_536
@@ -117,12 +118,12 @@ def received(connection: socket.socket, feed: Feed) -> Optional[bytes]:
     return None
 
 
-def replies(connection: socket.socket, feed: Feed) -> Iterator[Optional[bytes]]:
+def replies(connection: socket.socket, feed: Feed, seconds: float) -> Iterator[Optional[bytes]]:
     """The replies as they come, until each line that was sent has one, and None now and then where none comes.
 
-    Broken where the connection ends before.
+    Broken where the connection ends before, or where lines wait for their replies so many seconds.
     """
-    rest, count = b"", 0
+    rest, count, last = b"", 0, time.monotonic()
     while not feed.is_answered(count):
         piece = received(connection, feed)
         if piece == b"":
@@ -130,6 +131,10 @@ def replies(connection: socket.socket, feed: Feed) -> Iterator[Optional[bytes]]:
             if feed.is_answered(count):
                 return
             raise Broken(f"the server closed the connection after {count} replies")
+        if piece or count == sum(feed.sent):
+            last = time.monotonic()
+        if time.monotonic() - last > seconds:
+            raise Broken(f"no reply in {seconds:g} seconds, after {count}: is this the one desk connection of the server?")
         *whole, rest = (rest + (piece or b"")).split(b"\n")
         for line in whole:
             count += 1

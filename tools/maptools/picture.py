@@ -7,11 +7,12 @@ from itertools import groupby
 from typing import Any, Dict, List, NamedTuple, Tuple
 from xml.sax.saxutils import escape
 
+from maptools.desk_rules import GREATEST_LATITUDE, GREATEST_LONGITUDE
 from maptools.places import Area, Edge, Finding, Point, belonging, degrees_of
 
 WIDTH, MARGIN, TALLEST = 4_000, 120, 2_800
 LETTER, LINE = 52, 76
-MOST_LISTED = 48
+MOST_LISTED = 36
 GREEN, RED, INK = "#1d6b3c", "#b02a2a", "#222"
 STYLE = (
     ".f path{stroke:none;fill-rule:evenodd;fill-opacity:.7}"
@@ -44,7 +45,8 @@ def frame_of(areas: List[Area], findings: List[Finding]) -> Frame:
     corners = corners or [(-900_000_000, -1_800_000_000), (900_000_000, 1_800_000_000)]
     (south, north), (west, east) = ((min(axis), max(axis)) for axis in zip(*corners))
     room = max((north - south) // 40, (east - west) // 40, 100)
-    south, north, west, east = south - room, north + room, west - room, east + room
+    south, north = max(south - room, -GREATEST_LATITUDE), min(north + room, GREATEST_LATITUDE)
+    west, east = max(west - room, -GREATEST_LONGITUDE), min(east + room, GREATEST_LONGITUDE)
     narrowing = max(0.2, math.cos(math.radians((north + south) / 2e7)))
     step = max((east - west) * narrowing / (WIDTH - 2 * MARGIN), (north - south) / TALLEST)
     width, height = (east - west) * narrowing / step, (north - south) / step

@@ -192,6 +192,13 @@ class Desk(unittest.TestCase):
         self.assertEqual(run_tool("lost-client", ["desk", "--server", serve_once(closes)[0], "/"])[0], 1)
         self.assertEqual(run_tool("lost-client", ["desk", "--server", free_address(), "-"])[0], 1)
 
+    def test_a_second_desk_connection_gets_no_reply(self) -> None:
+        with socket.create_server(("127.0.0.1", 0)) as listener:
+            server = "127.0.0.1:{}".format(listener.getsockname()[1])
+            status, _, said = run_tool("lost-client", ["desk", "--server", server, "--timeout", "0.5", "-"], '{"commit":{}}\n')
+        self.assertEqual(status, 1)
+        self.assertIn("no reply in 0.5 seconds, after 0: is this the one desk connection of the server?", said)
+
     def keep_open(self, server: str, file: str) -> Any:
         words = [f"{TOOLS}/lost-client", "desk", "--server", server, "--keep-open", file]
         return subprocess.Popen(words, stdin=subprocess.PIPE, stdout=subprocess.PIPE, stderr=subprocess.PIPE)
