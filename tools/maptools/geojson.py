@@ -2,15 +2,15 @@
 from __future__ import annotations
 
 import json
-from decimal import MAX_EMAX, MAX_PREC, MIN_EMIN, ROUND_HALF_EVEN, Context, Decimal, InvalidOperation
+from decimal import Decimal, InvalidOperation
 from typing import Any, Dict, List
 
 from maptools.desk_rules import GREATEST_LATITUDE, MOST_POLYGONS, MOST_POSITIONS
 from maptools.lines import refuse_constant
-from maptools.meridian import TURN, Ring, Unfit, cut, laid_out, longitudes
+from maptools.meridian import TURN, Ring, Unfit, cut, laid_out
+from maptools.units import rounded_units
 
 FARTHEST_LONGITUDE = 540
-EXACT = Context(prec=MAX_PREC, Emax=MAX_EMAX, Emin=MIN_EMIN, rounding=ROUND_HALF_EVEN)
 KNOWN_SYSTEMS = ("CRS84", "EPSG::4326", "EPSG:4326", "WGS84", "WGS 84")
 
 
@@ -50,11 +50,6 @@ def features_of(text: str) -> List[Any]:
     if not isinstance(document.get("features"), list):
         raise NoGeojson("the FeatureCollection has no list of features")
     return document["features"]
-
-
-def rounded_units(degrees: Any) -> int:
-    """Degrees in whole units of 1e-7 degrees, exactly; what lies between goes to the nearest, a half to the even one."""
-    return int(EXACT.to_integral_value(EXACT.scaleb(degrees, 7)))
 
 
 def position_of(value: Any) -> Any:

@@ -3,8 +3,8 @@ from __future__ import annotations
 
 from typing import Any, Dict, List
 
-from maptools.places import degrees_of
 from maptools.refusals import ERRORS, WARNINGS
+from maptools.units import degrees_of
 
 EXPIRY = {"NO-EXPIRATION": "never", "NO-CACHE": "ask each time: do not keep it"}
 

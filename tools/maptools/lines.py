@@ -2,14 +2,34 @@
 from __future__ import annotations
 
 import json
+import math
 from typing import Any, Optional, Tuple
 
+from maptools.texts import is_unicode
+
 LONGEST_LINE = 1_048_576
+DEEPEST_LINE = 127
+
+
+def finite_number(text: str) -> float:
+    """A number with a fraction or an exponent; one that is too large for 64 bits is not accepted."""
+    number = float(text)
+    if math.isinf(number):
+        raise ValueError(f"{text} is too large")
+    return number
 
 
 def whole_number(text: str) -> Any:
-    """A JSON number without fraction and exponent; -0 is no whole number."""
-    return -0.0 if text == "-0" else int(text)
+    """A JSON number without fraction and exponent; -0 is no whole number, and one of hundreds of digits is not accepted."""
+    return -0.0 if text == "-0" else int(text) if len(text) < 300 else finite_number(text)
+
+
+def is_deeper(value: Any, levels: int) -> bool:
+    """Whether lists and objects lie in one another more than so many levels deep."""
+    if not isinstance(value, (list, dict)):
+        return False
+    inner = value.values() if isinstance(value, dict) else value
+    return levels == 0 or any(is_deeper(item, levels - 1) for item in inner)
 
 
 def refuse_constant(name: str) -> Any:
@@ -27,9 +47,11 @@ def read_line(line: bytes) -> Optional[Tuple[str, Any]]:
     if len(line) > LONGEST_LINE:
         return None
     try:
-        value = json.loads(line.decode(), parse_int=whole_number, parse_constant=refuse_constant)
+        value = json.loads(line.decode(), parse_int=whole_number, parse_float=finite_number, parse_constant=refuse_constant)
     except (ValueError, RecursionError):
         return None
-    if not isinstance(value, dict) or len(value) != 1:
+    if not isinstance(value, dict) or len(value) != 1 or is_deeper(value, DEEPEST_LINE):
+        return None
+    if b"\\u" in line and not is_unicode(line_of(value)):
         return None
     return next(iter(value.items()))

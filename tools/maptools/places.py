@@ -7,13 +7,12 @@ a ring, and upper and right ones do not.
 from __future__ import annotations
 
 from collections import Counter
-from decimal import Decimal, InvalidOperation
 from typing import Any, Dict, Iterable, List, NamedTuple, Optional, Tuple
 
 from maptools.desk_rules import CIVIC, GEODETIC, GREATEST_LATITUDE, GREATEST_LONGITUDE, contents_of, is_position
 from maptools.texts import WITHOUT_END, Moment, moment_of, service_of
+from maptools.units import Point
 
-Point = Tuple[int, int]
 Edge = Tuple[Point, Point]
 
 
@@ -33,45 +32,6 @@ class Finding(NamedTuple):
     asked: str
     found: List[Dict[str, Any]]
     nothing: str
-
-
-def units_of(degrees: str) -> int:
-    """Degrees in whole units of 1e-7 degrees, to the nearest one; ValueError where the text is no number."""
-    try:
-        sign, digits, exponent = Decimal(degrees.strip()).as_tuple()
-    except InvalidOperation:
-        raise ValueError(f"{degrees!r} is no number of degrees") from None
-    if not isinstance(exponent, int) or len(digits) + exponent > 4:
-        raise ValueError(f"{degrees!r} is out of range")
-    return int(Decimal((sign, digits, exponent + 7)).to_integral_value())
-
-
-def point_of(text: str, is_in_units: bool) -> Point:
-    """LAT,LON as a point; ValueError where it is none, or out of range."""
-    parts = text.split(",")
-    if len(parts) != 2:
-        raise ValueError(f"{text!r} is not LAT,LON")
-    latitude, longitude = (int(part) if is_in_units else units_of(part) for part in parts)
-    if not is_position([latitude, longitude]):
-        hint = "" if is_in_units or "." in text else "; are these whole units? Then give --units"
-        raise ValueError(f"{text!r} is out of range: latitude first, at most 90, then longitude, at most 180{hint}")
-    return latitude, longitude
-
-
-def joined(words: List[str]) -> List[str]:
-    """The words of a command line, with --point and the word after it as one, since that may begin with a minus sign."""
-    result: List[str] = []
-    for word in words:
-        if result and result[-1] == "--point":
-            result[-1] = f"--point={word}"
-        else:
-            result.append(word)
-    return result
-
-
-def degrees_of(units: int) -> str:
-    """Whole units as degrees, exactly, without zeros at the end."""
-    return format(Decimal(units).scaleb(-7).normalize() + 0, "f")
 
 
 def normal(point: Point) -> Point:

@@ -1,0 +1,54 @@
+"""Degrees and whole units of 1e-7 degrees, and the points of a command line."""
+from __future__ import annotations
+
+from decimal import MAX_EMAX, MAX_PREC, MIN_EMIN, ROUND_HALF_EVEN, Context, Decimal, InvalidOperation
+from typing import List, Tuple, Union
+
+from maptools.desk_rules import is_position
+
+EXACT = Context(prec=MAX_PREC, Emax=MAX_EMAX, Emin=MIN_EMIN, rounding=ROUND_HALF_EVEN)
+
+Point = Tuple[int, int]
+
+
+def rounded_units(degrees: Union[int, Decimal]) -> int:
+    """Degrees in whole units, exactly; what lies between goes to the nearest, a half to the even one."""
+    return int(EXACT.to_integral_value(EXACT.scaleb(degrees, 7)))
+
+
+def units_of(text: str) -> int:
+    """A text of degrees in whole units; ValueError where it is none, or far out of range."""
+    try:
+        degrees = Decimal(text.strip())
+    except InvalidOperation:
+        raise ValueError(f"{text!r} is no number of degrees") from None
+    if not degrees.is_finite() or not -1000 < degrees < 1000:
+        raise ValueError(f"{text!r} is out of range; whole units are taken with --units")
+    return rounded_units(degrees)
+
+
+def degrees_of(units: int) -> str:
+    """Whole units as degrees, exactly, without zeros at the end."""
+    return format(Decimal(units).scaleb(-7).normalize(), "f")
+
+
+def point_of(text: str, is_in_units: bool) -> Point:
+    """LAT,LON as a point; ValueError where it is none, or out of range."""
+    parts = text.split(",")
+    if len(parts) != 2:
+        raise ValueError(f"{text!r} is not LAT,LON")
+    latitude, longitude = (int(part) if is_in_units else units_of(part) for part in parts)
+    if not is_position([latitude, longitude]):
+        raise ValueError(f"{text!r} is out of range: latitude first, at most 90, then longitude, at most 180")
+    return latitude, longitude
+
+
+def joined(words: List[str]) -> List[str]:
+    """The words of a command line, with --point and the word after it as one, since that may begin with a minus sign."""
+    result: List[str] = []
+    for word in words:
+        if result and result[-1] == "--point":
+            result[-1] = f"--point={word}"
+        else:
+            result.append(word)
+    return result
