@@ -29,7 +29,8 @@ def server_of(text: str) -> Server:
     """HOST:PORT, or [ADDRESS]:PORT; ValueError where the text is neither."""
     host, colon, port = text.rpartition(":")
     bare = host[1:-1] if host.startswith("[") and host.endswith("]") else host
-    if not colon or not bare or not (port.isascii() and port.isdigit()) or not 1 <= int(port) <= 65535 or (bare == host and ":" in host):
+    is_port = port.isascii() and port.isdigit() and 1 <= int(port) <= 65535
+    if not colon or not bare or not is_port or (bare == host and ":" in host):
         raise ValueError(f"{text!r} is not HOST:PORT")
     return Server(bare, int(port))
 

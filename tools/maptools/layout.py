@@ -17,7 +17,8 @@ def position_text(position: List[int]) -> str:
 def region_lines(region: Dict[str, Any]) -> List[str]:
     """A polygon or a pattern."""
     if "polygon" in region:
-        return [f"polygon of {len(region['polygon'])} positions, in degrees:", *("  " + position_text(position) for position in region["polygon"])]
+        ring = region["polygon"]
+        return [f"polygon of {len(ring)} positions, in degrees:", *("  " + position_text(position) for position in ring)]
     return ["addresses with " + ", ".join(f"{name} {value}" for name, value in region.get("pattern", {}).items())]
 
 

@@ -19,7 +19,8 @@ STYLE = (
     ".f path{stroke:none;fill-rule:evenodd;fill-opacity:.7}"
     ".s,.d{fill:none;stroke-width:5;pointer-events:none}.d{stroke-dasharray:16 12}"
     "@supports(vector-effect:non-scaling-stroke){.s,.d{vector-effect:non-scaling-stroke;stroke-width:1.4}.d{stroke-dasharray:4 3}}"
-    f"text{{font:{LETTER}px Helvetica,Arial,sans-serif;fill:{INK}}}.n{{text-anchor:middle;stroke:#fff;stroke-width:14;paint-order:stroke}}"
+    f"text{{font:{LETTER}px Helvetica,Arial,sans-serif;fill:{INK}}}"
+    ".n{text-anchor:middle;stroke:#fff;stroke-width:14;paint-order:stroke}"
 )
 
 
@@ -216,7 +217,9 @@ def listing(shown: List[Dict[str, Any]], numbers: Dict[int, int], x: int, y: int
     return parts, y + rows * LINE
 
 
-def legend(shown: List[Dict[str, Any]], numbers: Dict[int, int], findings: List[Finding], notes: List[str], y: int) -> Tuple[List[str], int]:
+def legend(
+    shown: List[Dict[str, Any]], numbers: Dict[int, int], findings: List[Finding], notes: List[str], y: int
+) -> Tuple[List[str], int]:
     """All that stands below the map, and how far it reaches."""
     parts = keys(MARGIN, y)
     listed, y = listing(shown, numbers, MARGIN, y + 5 * LINE // 2)

@@ -23,7 +23,7 @@ REFUSALS: Dict[int, Refusal] = {
     8: Refusal("BadNumber", "serviceNumber is empty, over 64 characters, or has another character", "give digits, * and # alone"),
     9: Refusal("BadRegion", "an item of serviceBoundary is no region", "mend the region; close the ring"),
     10: Refusal("RegionMissing", "a mapping that is no default has no region, or a default has one", "add a region, or leave it out"),
-    11: Refusal("TooLarge", "more than 64 polygons, 256 patterns or 16 display names, or one over 1,024 bytes", "split the mapping in two"),
+    11: Refusal("TooLarge", "over 64 polygons, 256 patterns or 16 names, or a name over 1,024 bytes", "split the mapping in two"),
     12: Refusal("BadKey", "no key, a malformed key, or a key at a default", "give a key; leave it out at a default"),
     13: Refusal("IdentityHeld", "a mapping with this source and sourceId is held", "send it as replace"),
     14: Refusal("IdentityUnknown", "no mapping with this source and sourceId is held", "send it as publish"),

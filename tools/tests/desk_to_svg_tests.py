@@ -105,13 +105,14 @@ class Pictures(unittest.TestCase):
 
     def test_no_line_and_no_file(self) -> None:
         self.assertEqual(self.draw(given="")[0], 0)
-        for words, status in ((["/no/such/file"], 1), (["--point", "91,0"], 2), (["--point", "x"], 2), (["--now", "now"], 2), (["--help"], 0)):
+        mistakes = (["--point", "91,0"], 2), (["--point", "x"], 2), (["--now", "now"], 2)
+        for words, status in ((["/no/such/file"], 1), (["--help"], 0), *mistakes):
             self.assertEqual(run_tool("desk-to-svg", words)[0], status, words)
 
     @unittest.skipUnless(lostd(), "lostd is not built")
     def test_the_server_finds_the_same_in_odd_rings(self) -> None:
         dice = random.Random(2)
-        for _ in range(20):
+        for _ in range(6):
             lines, asked, points = "", "", []
             for number in range(4):
                 ring = [[dice.randrange(9), dice.randrange(9)] for _ in range(dice.randrange(3, 12))]

@@ -39,15 +39,15 @@ KNOWN_POINTS = {
         ((3 * D, -174 * D), ["jump", "world"]),
         ((15 * D, -175 * D), ["beyond", "world"]),
         ((15 * D, 175 * D), ["beyond", "world"]),
-        ((3333333, -180 * D), ["jump", "slanted", "two-prongs", "hole", "world"]),
-        ((3333332, -180 * D), ["jump", "slanted-neighbour", "two-prongs", "hole", "world"]),
+        ((3333334, -180 * D), ["jump", "slanted", "two-prongs", "hole", "world"]),
+        ((3333333, -180 * D), ["jump", "slanted-neighbour", "two-prongs", "hole", "world"]),
         ((15000000, -180 * D), ["jump", "hole", "world"]),
         ((25000000, -180 * D), ["jump", "two-prongs", "hole", "world"]),
         ((35 * D, 180 * D), ["world"]),
         ((35 * D, 175 * D), ["touching", "world"]),
         ((-80 * D, 60 * D), ["pole", "world"]),
     ],
-    "members": [((1, 20 * D + 1), ["2: B"]), ((0, 50 * D), ["3: the rest"])],
+    "members": [((1, 2 * D + 1), ["2: B"]), ((1, 2 * D), ["3: the rest"]), ((0, 50 * D), ["3: the rest"])],
 }
 
 
@@ -162,7 +162,8 @@ class Limits(unittest.TestCase):
     def test_the_key_changes_with_the_boundary_alone(self) -> None:
         words = [word for pair in zip(COMMON[::2], COMMON[1::2]) if pair[0] != "--key" for word in pair]
         ring = [[0, 0], [1, 0], [1, 1], [0, 0]]
-        texts = [collection([feature([ring[:2] + [[1, latitude]] + ring[3:]], colour=colour)]) for latitude, colour in ((1, 1), (1, 2), (2, 1))]
+        rings = [([*ring[:2], [1, latitude], ring[3]], colour) for latitude, colour in ((1, 1), (1, 2), (2, 1))]
+        texts = [collection([feature([ring], colour=colour)]) for ring, colour in rings]
         keys = [json.loads(run_tool("geojson-to-desk", words, text)[1])["publish"]["key"] for text in texts]
         self.assertEqual(keys[0], keys[1])
         self.assertNotEqual(keys[0], keys[2])

@@ -34,6 +34,8 @@ ANSWER = {
     }
 }
 
+LOADED = b"3 lines: 2 edits staged, 1 commits, 0 refused; edition 2; the connection stays open\n"
+
 Replier = Callable[[bytes], Optional[bytes]]
 
 
@@ -69,6 +71,11 @@ def free_address() -> str:
         return "127.0.0.1:{}".format(listener.getsockname()[1])
 
 
+def at(latitude: int, longitude: int) -> Dict[str, Any]:
+    """The location of a point that the client asks for."""
+    return {"id": "here", "profile": "geodetic-2d", "pos": [latitude, longitude]}
+
+
 class Asking(unittest.TestCase):
     """One request and its reply."""
 
@@ -79,20 +86,20 @@ class Asking(unittest.TestCase):
 
     def test_the_requests(self) -> None:
         find = ["find", "--service", "urn:service:sos.police"]
-        place = {"id": "here", "profile": "geodetic-2d"}
         service = {"service": "urn:service:sos.police"}
         address = {"id": "here", "profile": "civic", "address": {"country": "US", "A1": "a=b"}}
+        wishes = {"serviceBoundary": "value", "validateLocation": True}
         for words, request in (
-            ([*find, "--point", "40.861,-73.988"], {"findService": {**service, "location": [{**place, "pos": [408610000, -739880000]}]}}),
-            ([*find, "--point", "-0.00000005, 1.00000015"], {"findService": {**service, "location": [{**place, "pos": [0, 10000002]}]}}),
-            ([*find, "--units", "--point", "-33,7"], {"findService": {**service, "location": [{**place, "pos": [-33, 7]}]}}),
+            ([*find, "--point", "40.861,-73.988"], {"findService": {**service, "location": [at(408610000, -739880000)]}}),
+            ([*find, "--point", "-0.00000005, 1.00000015"], {"findService": {**service, "location": [at(0, 10000002)]}}),
+            ([*find, "--units", "--point", "-33,7"], {"findService": {**service, "location": [at(-33, 7)]}}),
             (
                 [*find, "--value", "--validate", "--path", "esrp.example", "--address", "country=US", "A1=a=b"],
-                {"findService": {**service, "path": ["esrp.example"], "location": [address], "serviceBoundary": "value", "validateLocation": True}},
+                {"findService": {**service, "path": ["esrp.example"], "location": [address], **wishes}},
             ),
             (["services"], {"listServices": {}}),
             (["services", "--service", "urn:service:sos"], {"listServices": {"service": "urn:service:sos"}}),
-            (["services", "--point", "90,-180"], {"listServicesByLocation": {"location": [{**place, "pos": [900000000, -1800000000]}]}}),
+            (["services", "--point", "90,-180"], {"listServicesByLocation": {"location": [at(900000000, -1800000000)]}}),
             (["boundary", "--key", "leonia-1"], {"getServiceBoundary": {"key": "leonia-1"}}),
         ):
             self.assertEqual(self.ask({"errors": {"error": "notFound"}}, *words)[3], request)
@@ -241,7 +248,7 @@ class Serving(unittest.TestCase):
     def test_a_map_is_loaded_and_asked_for(self) -> None:
         words = [f"{TOOLS}/lost-client", "desk", "--server", self.desk, "--keep-open", f"{TOOLS}/cases/client/two-squares.jsonl"]
         client = subprocess.Popen(words, stdin=subprocess.PIPE, stdout=subprocess.PIPE, stderr=subprocess.PIPE)
-        self.assertEqual(client.stderr.readline(), b"3 lines: 2 edits staged, 1 commits, 0 refused; edition 2; the connection stays open\n")
+        self.assertEqual(client.stderr.readline(), LOADED)
         find = ["find", "--server", self.queries, "--service", "urn:service:sos.police", "--json"]
         status, output, _ = run_tool("lost-client", [*find, "--point", "0.5,1"])
         found = [mapping["sourceId"] for mapping in json.loads(output)["findServiceResponse"]["mapping"]]
