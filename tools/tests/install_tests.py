@@ -34,7 +34,9 @@ class Install(unittest.TestCase):
         return sorted(os.path.relpath(f"{place}/{name}", folder) for place, _, names in os.walk(folder) for name in names)
 
     def test_two_files_come_and_go(self) -> None:
-        self.assertEqual(self.install(self.prefix)[0], 0)
+        said = f"installed {self.prefix}/bin/lostd and {self.prefix}/share/man/man1/lostd.1\n"
+        self.assertEqual(self.install(self.prefix, TMPDIR=self.folder), (0, said))
+        self.assertEqual(sorted(os.listdir(self.folder)), ["a place", "top"])
         self.assertEqual(self.files(self.prefix), ["bin/lostd", "share/man/man1/lostd.1"])
         modes = [stat.S_IMODE(os.stat(f"{self.prefix}/{name}").st_mode) for name in self.files(self.prefix)]
         self.assertEqual(modes, [0o755, 0o644])
