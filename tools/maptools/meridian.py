@@ -69,7 +69,8 @@ def laid_out(ring: Ring) -> Ring:
     short, drawn = unwrapped(ring, False), unwrapped(ring, True)
     is_short = is_closed(short) and double_area(short) != 0
     if is_short and is_closed(drawn) and short != drawn:
-        raise Unfit("has steps of 360 degrees that can be read in two ways: give --flat if they run across the whole map")
+        remedy = "give --flat if they run across the map, else write them with one sign"
+        raise Unfit(f"has steps of 360 degrees that can be read in two ways: {remedy}")
     if is_short:
         return short
     if is_closed(drawn):
