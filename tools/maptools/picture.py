@@ -67,9 +67,9 @@ def path_of(lines: List[List[Tuple[int, int]]]) -> str:
         places = [place for place, before in zip(line, [None, *line]) if place != before]
         if len(places) < 2:
             continue
-        for letter, place in zip("m" + " " * len(places), places):
-            down_step = step(place[0] - at[0], place[1] - at[1])
-            text += down_step if letter == " " and down_step[0] == "-" else letter + down_step
+        for separator, place in zip("m" + " " * len(places), places):
+            move = step(place[0] - at[0], place[1] - at[1])
+            text += move if separator == " " and move[0] == "-" else separator + move
             at = place
     return text
 
@@ -101,9 +101,14 @@ def line_color(number: int) -> str:
     return hex_color(number, (0.3, 0.22, 0.36)[number % 3], 0.75)
 
 
+def is_xml(letter: str) -> bool:
+    """Whether XML has a character."""
+    return " " <= letter < "\ud800" or "\udfff" < letter < "\ufffe" or letter > "\uffff"
+
+
 def safe(text: str) -> str:
-    """A text as XML: no character that XML does not have."""
-    return escape("".join(letter if letter >= " " and not 0xD7FF < ord(letter) < 0xE000 else "?" for letter in text))
+    """A text as XML; a question mark stands for each character that XML does not have."""
+    return escape("".join(letter if is_xml(letter) else "?" for letter in text))
 
 
 def title_of(mapping: Dict[str, Any]) -> str:
