@@ -1,4 +1,2 @@
-pub mod ListLemmas
-pub mod StreamLemmas
-pub mod StageLemmas
+pub mod BooksLemmas
 pub mod ReplayLemmas

@@ -1,5 +1,4 @@
-pub mod Stream
-pub mod Step
+pub mod Books
 pub mod Pair
 pub mod Replay
 pub mod Replayer

@@ -4,21 +4,24 @@ ghost use Rattle.std.specs.Result.{result_err};
 ghost use Rattle.lost_spec.specs.Text.{Text};
 ghost use Rattle.lost_spec.specs.Moment.{Instant};
 ghost use Rattle.lost_spec.specs.Book.{empty_book};
+ghost use Rattle.lost_book.specs.Bounds.{widest};
 ghost use Rattle.lost_book.specs.Edit.{edit_of};
 ghost use Rattle.lost_query.specs.Request.{request_of};
-ghost use Rattle.lost_reading.specs.Desk.{Stage, Commit};
+ghost use Rattle.lost_reading.specs.Desk.{Stage, Commit, desk_line};
 ghost use Rattle.lost_reading.specs.Requests.{line_request};
 ghost use Rattle.lost_lines.specs.Answer.{reply_of};
-ghost use Rattle.lost_server.specs.Stream as stream;
-ghost use Rattle.lost_server.specs.Step.{IsAnswered};
+ghost use Rattle.lost_lines.specs.Run.{Whole};
+ghost use Rattle.lost_stream.specs.Stream.{edit_text, refused_text};
+ghost use Rattle.lost_server.specs.Books.{BooksStep};
+ghost use Rattle.lost_server.specs.Replay.{replay_terms};
 
 use crate::pair::Pair;
-use crate::replies::{bad_request, desk_answer, internal_error};
 use lost_book::{Edit, EditError, Limits};
 use lost_json::{DeskReply, reply_request};
 use lost_lines::{Answer, Text as ReplyText};
 use lost_mapping::{Moment, Source};
 use lost_query::Request;
+use lost_stream::{bad_request, desk_answer, internal_error};
 use std::alloc::{AllocError, Global};
 use std::marker::Model;
 
@@ -29,7 +32,7 @@ pub(crate) struct Books {
 }
 
 impl Model for Books {
-    ghost use Rattle.lost_server.specs.Step as spec;
+    ghost use Rattle.lost_server.specs.Books as spec;
 
     ghost Value = { spec.Books };
 
@@ -40,7 +43,7 @@ impl Books {
     /// Two empty books, within the widest limits, or want of memory.
     pub(crate) fn new(alloc: Global) -> Result<Books, AllocError>
         ensures { IfOk result (λ books.
-            books ≡ record { published = empty_book stream.widest; staged = empty_book stream.widest }) }
+            books ≡ record { published = empty_book widest; staged = empty_book widest }) }
     {
         Ok(Books {
             pair: Pair::new(alloc, Limits::widest())?,
@@ -49,8 +52,8 @@ impl Books {
 
     /// Stages an edit: its refusal, or how many edits are staged and not published. Want of memory is code 20.
     pub(crate) fn stage(&mut self, edit: Edit) -> Answer
-        ensures answered { (name : Text) (t : Instant) (line : Text) →
-            IsAnswered name t self.old line (Some (Ok (Stage (edit_of edit)))) (reply_of result) self.new }
+        ensures answered { (name : Text) (t : Instant) (line : Text) → desk_line line ≡ Some (Ok (Stage (edit_of edit)))
+            → BooksStep (replay_terms name t) self.old (Whole line) (reply_of result) self.new }
         ensures desk_reply { (reply_of result).is_internal_error ≡ false }
     {
         let staged = self.pair.stage(edit);
@@ -61,10 +64,10 @@ impl Books {
     /// of memory is code 20.
     pub(crate) fn edit_answer(&self, staged: Result<(), EditError>) -> Answer
         ensures told { reply_of result ≡ record {
-          text = stream.edit_text (result_err staged) (self.now.staged.edits - self.now.published.edits);
+          text = edit_text (result_err staged) (self.now.staged.edits - self.now.published.edits);
           is_internal_error = false;
         } }
-        ensures memory { staged ≡ Err EditError.Memory → reply_of result ≡ record { text = stream.refused_text 20; is_internal_error = false } }
+        ensures memory { staged ≡ Err EditError.Memory → reply_of result ≡ record { text = refused_text 20; is_internal_error = false } }
     {
         match staged {
             Ok(()) => desk_answer(DeskReply::Staged(self.pair.pending())),
@@ -74,8 +77,8 @@ impl Books {
 
     /// Publishes all that is staged. It takes no memory.
     pub(crate) fn commit(&mut self) -> Answer
-        ensures answered { (name : Text) (t : Instant) (line : Text) →
-            IsAnswered name t self.old line (Some (Ok Commit)) (reply_of result) self.new }
+        ensures answered { (name : Text) (t : Instant) (line : Text) → desk_line line ≡ Some (Ok Commit)
+            → BooksStep (replay_terms name t) self.old (Whole line) (reply_of result) self.new }
         ensures desk_reply { (reply_of result).is_internal_error ≡ false }
     {
         self.pair.commit();
@@ -90,8 +93,8 @@ impl Books {
         moment: &Moment,
         request: &Request,
     ) -> Answer
-        ensures { (line : Text) → line_request line ≡ Some (request_of request.now)
-            → IsAnswered name.now moment.now self.now line None (reply_of result) self.now }
+        ensures { (line : Text) → desk_line line ≡ None → line_request line ≡ Some (request_of request.now)
+            → BooksStep (replay_terms name.now moment.now) self.now (Whole line) (reply_of result) self.now }
     {
         match reply_request(alloc, self.pair.published(), name, moment, request) {
             Ok(text) => Answer {
@@ -105,8 +108,8 @@ impl Books {
     /// Answers a line that is neither a desk line nor a request.
     #[tactic(auto, unfolding(lost_json::specs::Line::line_reply))]
     pub(crate) fn neither(&self) -> Answer
-        ensures { (name : Text) (t : Instant) (line : Text) → line_request line ≡ None
-            → IsAnswered name t self.now line None (reply_of result) self.now }
+        ensures { (name : Text) (t : Instant) (line : Text) → desk_line line ≡ None → line_request line ≡ None
+            → BooksStep (replay_terms name t) self.now (Whole line) (reply_of result) self.now }
     {
         bad_request()
     }

@@ -10,7 +10,6 @@ mod pair;
 mod peer;
 mod replayer;
 mod replaying;
-mod replies;
 mod run_fault;
 mod serving;
 

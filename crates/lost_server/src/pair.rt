@@ -32,7 +32,7 @@ impl Model for Pair {
     ghost use Rattle.std.specs.Prelude.{map};
     ghost use Rattle.lost_book.specs.Edit.{edit_of};
     ghost use Rattle.lost_server.specs.Pair.{IsPair, pair_seen};
-    ghost use Rattle.lost_server.specs.Step.{Books};
+    ghost use Rattle.lost_server.specs.Books.{Books};
 
     ghost Value = { Books };
 

@@ -1,17 +1,10 @@
 //! What answers the lines of a replay.
-ghost use Rattle.std.specs.Prelude.{◌≡◌, Option, Some, Err, Result};
-ghost use Rattle.lost_spec.specs.Text.{Text};
-ghost use Rattle.lost_spec.specs.Moment.{Instant};
-ghost use Rattle.lost_reading.specs.Desk.{desk_line};
-ghost use Rattle.lost_lines.specs.Answer.{reply_of};
-ghost use Rattle.lost_server.specs.Step.{Books as BooksSeen, IsAnswered};
-
 use crate::books::Books;
-use crate::replies::{bad_request, desk_answer, internal_error};
 use lost_json::{DeskFault, DeskLine, DeskReply};
 use lost_lines::{Answer, Answerer};
 use lost_mapping::{MappingError, Moment, Source};
 use lost_reading::Line;
+use lost_stream::{bad_request, desk_answer, internal_error};
 use lost_tokens::{Scratch, read_line};
 use std::alloc::Global;
 

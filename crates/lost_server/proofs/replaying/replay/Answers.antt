@@ -1,6 +1,6 @@
 use Rattle.std.proofs.Common.{◌≡◌, ℕ, Bool, true, false, Result, Ok, Err, IfErr, OnErr, refl}
 use Rattle.std.proofs.lemmas.Result.{IfOk-weaker}
-use Rattle.lost_server.proofs.ReplayLemmas.{replayed, replayed_in_part, replayed_so_far, replay_spent, never_held}
+use Rattle.lost_server.proofs.ReplayLemmas.{replayed, replayed_in_part, replayed_so_far, replay_spent}
 use Rattle.lost_server.proofs.replaying.replay.Goals as goal
 
 -- what `NoGate` says: each line is let through
@@ -34,5 +34,4 @@ returns-clause-so_far g c is =
 
 pub returns-clause-turns : goal.returns-clause-turns
 returns-clause-turns g c is =
-    replay_spent c.args.name.now c.args.moment.now always _ c.run_lines.new.answerer refl refl c.in-Ok.ensures _ _ _ _ _ _ _
-    (never_held c.args.name.now c.args.moment.now always _ c.run_lines.new.answerer refl refl c.in-Ok.ensures always_lets _ _ _ _ _ _ _ (c.run_lines.ensures.turns is))
+    replay_spent c.args.name.now c.args.moment.now always _ c.run_lines.new.answerer refl refl c.in-Ok.ensures always_lets _ _ _ _ _ _ _ (c.run_lines.ensures.turns is)
