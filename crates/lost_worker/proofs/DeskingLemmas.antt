@@ -2,10 +2,9 @@
 use Rattle.std.proofs.Common.{◌≡◌, ◌⊎◌, inl, inr, ℕ, ◌+◌, Bool, false, List, [], ◌∷◌, length, Option, Result, Ok, Err, OnErr, IfOk, refl, ap, ◌∙◌}
 use Rattle.lost_spec.specs.Text.{Text}
 use Rattle.lost_spec.specs.Book.{Limits}
-use Rattle.lost_desk.specs.Seen.{DeskSeen}
 use Rattle.lost_lines.specs.declared.counts.Counts.{Counts}
 use Rattle.lost_lines.specs.declared.turns.Turns.{Turns}
-use Rattle.lost_lines.specs.Run.{Cut, Reply, Run}
+use Rattle.lost_lines.specs.Run.{Reply, Run}
 use Rattle.lost_lines.specs.Stream.{IsServed, IsCutOff, IsWholeSoFar, IsSpent, IsHeldBack}
 use Rattle.lost_stream.specs.Step.{Step}
 use Rattle.lost_stream.specs.Outcome.{IsStreamed, IsStreamedInPart, IsStreamedSoFar, IsStreamSpent}

@@ -1,8 +1,7 @@
 -- A stream that is served by what refers to a replier and to moments is one that a worker answers.
-use Rattle.std.proofs.Common.{◌≡◌, ◌⊎◌, inl, inr, ℕ, Bool, List, [], ◌∷◌, ◌++◌, Option, Result, Ok, Err, OnOk, OnErr, IfOk, refl, sym, ap, ◌∙◌, append_assoc, append-nil}
+use Rattle.std.proofs.Common.{◌≡◌, ◌⊎◌, inl, inr, ℕ, Bool, List, [], ◌∷◌, ◌++◌, Option, Result, Ok, Err, OnErr, IfOk, sym, ap, ◌∙◌, append_assoc, append-nil}
 use Rattle.lost_spec.specs.Text.{Text}
 use Rattle.lost_spec.specs.Moment.{Instant}
-use Rattle.lost_spec.specs.Laws.{BeginsWith}
 use Rattle.lost_desk.specs.Seen.{ReaderSeen}
 use Rattle.lost_lines.specs.declared.counts.Counts.{Counts}
 use Rattle.lost_lines.specs.declared.turns.Turns.{Turns}

@@ -1,5 +1,5 @@
 -- The steps of a desk by an edit and by a commit, by what became of them.
-use Rattle.std.proofs.Common.{◌≡◌, ◌≢◌, ℕ, ◌+◌, ◌-◌, false, List, [], ◌∷◌, ◌++◌, length, Option, None, Some, Result, Ok, Err, refl, ap, sym, ◌∙◌, append_assoc, append-nil, length-append, arith}
+use Rattle.std.proofs.Common.{◌≡◌, ◌≢◌, ℕ, ◌-◌, false, List, [], ◌∷◌, ◌++◌, length, None, Some, Ok, refl, ap, sym, ◌∙◌, append_assoc, append-nil, length-append, arith}
 use Rattle.lost_spec.specs.declared.faults.EditError.{EditError}
 use Rattle.lost_spec.specs.declared.faults.EditError.TheVariants.{IdentityHeld, IdentityUnknown, NotNewer, KeyHeld, KeyUnchanged, Full, EditsSpent, Memory}
 use Rattle.lost_spec.specs.Text.{Text}
@@ -10,7 +10,7 @@ use Rattle.lost_reading.specs.Desk.{Stage, Commit}
 use Rattle.lost_writing.specs.DeskReplies.{desk_text}
 use Rattle.lost_desk.specs.Seen.{DeskSeen, staged_book, with_staged, with_committed}
 use Rattle.lost_lines.specs.Run.{Reply}
-use Rattle.lost_stream.specs.Stream.{Lists, Unmarked, RefusedMemory, refused_text}
+use Rattle.lost_stream.specs.Stream.{Unmarked, RefusedMemory, refused_text}
 use Rattle.lost_stream.specs.Step.{IsAnswered}
 use Rattle.lost_worker.specs.Desking.{IsSameDesk, desk_terms, lists_of}
 

@@ -8,6 +8,7 @@ ghost use Rattle.lost_worker.specs.Desking.{IsSameDesk, desk_terms, lists_of};
 use crate::desking::Desking;
 use lost_desk::Desk;
 use lost_lines::{Counts, NoGate, ServeError, Turns, Watched, run_lines};
+use lost_tokens::Scratch;
 use std::alloc::Global;
 use std::io::{Read, Write};
 use std::sync::Wait;
@@ -65,6 +66,11 @@ pub fn serve_desk<T: Wait, R: Read, W: Write>(
     ensures flushed { result ≢ Err ServeError.Write → is_unflushed output.old ≡ false → is_unflushed output.new ≡ false }
     ensures reads { reads_of input.new ≤ turns.reads }
 {
-    let mut desking = Desking { rt, desk };
+    let mut scratch = Scratch::new(alloc);
+    let mut desking = Desking {
+        rt,
+        desk,
+        scratch: &mut scratch,
+    };
     run_lines(alloc, input, output, &mut desking, &NoGate, turns)
 }

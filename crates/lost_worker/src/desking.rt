@@ -1,35 +1,40 @@
 //! What answers the lines of a desk's connection.
-ghost use Rattle.std.specs.Prelude.{◌≡◌, Some, Ok};
+ghost use Rattle.std.specs.Prelude.{◌≡◌, ◌≢◌, Some, None, Ok, Err, IfOk, IfErr, IfSome};
 ghost use Rattle.lost_spec.specs.Text.{Text as Bytes};
 ghost use Rattle.lost_book.specs.Edit.{edit_of};
-ghost use Rattle.lost_reading.specs.Desk.{Stage, Commit};
+ghost use Rattle.lost_reading.specs.Desk.{Stage, Commit, desk_line};
+ghost use Rattle.lost_reading.specs.DeskLines.{order_of};
 ghost use Rattle.lost_lines.specs.Answer.{reply_of};
 ghost use Rattle.lost_stream.specs.Step.{IsAnswered};
 ghost use Rattle.lost_worker.specs.Desking.{IsSameDesk, desk_terms, lists_of};
 
 use lost_book::Edit;
 use lost_desk::Desk;
-use lost_json::{DeskFault, DeskLine, DeskReply, read_desk};
+use lost_json::{DeskFault, DeskLine, DeskReply};
 use lost_lines::{Answer, Answerer};
 use lost_mapping::MappingError;
+use lost_reading::Line;
 use lost_stream::desk_answer;
+use lost_tokens::{Scratch, read_line};
 use std::alloc::Global;
 use std::sync::Wait;
 
-/// What answers the lines of a desk's connection: its desk, and what a commit waits by.
+/// What answers the lines of a desk's connection: its desk, and what a commit waits by. The scratch is what the reader of
+/// lines works in, and holds nothing of them.
 #[derive(Drop)]
-pub(crate) struct Desking<'r, 'd, T: Wait> {
+pub(crate) struct Desking<'r, 'd, 's, T: Wait> {
     pub(crate) rt: &'r T,
     pub(crate) desk: &'d mut Desk,
+    pub(crate) scratch: &'s mut Scratch,
 }
 
-impl<T: Wait> Answerer for Desking<'_, '_, T> {
+impl<T: Wait> Answerer for Desking<'_, '_, '_, T> {
     ghost use Rattle.lost_worker.specs.Desking.{Desks};
 
     ghost step = { Desks };
 
     fn answer(&mut self, alloc: Global, line: &[u8]) -> Answer {
-        match read_desk(alloc, line) {
+        match read_desk(alloc, line, self.scratch) {
             Ok(Some(DeskLine::Edit(edit))) => stage(self.desk, edit),
             Ok(Some(DeskLine::Commit)) => commit(self.rt, self.desk),
             Ok(None) => desk_answer(DeskReply::Refused(1)),
@@ -46,6 +51,23 @@ impl<T: Wait> Answerer for Desking<'_, '_, T> {
 
     fn answer_unread(&mut self) -> Answer {
         desk_answer(DeskReply::Refused(20))
+    }
+}
+
+/// Reads a desk line by its tokens, or `None` where a line is no desk line, which a request is not.
+fn read_desk(
+    alloc: Global,
+    line: &[u8],
+    scratch: &mut Scratch,
+) -> Result<Option<DeskLine>, DeskFault>
+    ensures other { result ≡ Ok None → desk_line line.now ≡ None }
+    ensures order { IfOk result (λ found. IfSome found (λ order. desk_line line.now ≡ Some (Ok (order_of order)))) }
+    ensures refused { IfErr result (λ fault.
+        fault ≢ DeskFault.Mapping MappingError.Memory → desk_line line.now ≡ Some (Err fault)) }
+{
+    match read_line(alloc, line, scratch)? {
+        Line::Desk(order) => Ok(Some(order)),
+        Line::Request(_) | Line::Neither => Ok(None),
     }
 }
 

@@ -1,6 +1,6 @@
-use Rattle.std.proofs.Common.{◌≡◌, ℕ, Bool, true, false, refl, rules}
+use Rattle.std.proofs.Common.{◌≡◌, ℕ, true, false, rules}
 use Rattle.std.proofs.lemmas.Result.{IfOk-weaker, on_err_weaker}
-use Rattle.lost_worker.proofs.DeskingLemmas.{Stays, desk_served, desk_in_part, desk_so_far, desk_spent, stays_at}
+use Rattle.lost_worker.proofs.DeskingLemmas.{desk_served, desk_in_part, desk_so_far, desk_spent, stays_at}
 use Rattle.lost_worker.proofs.desk_stream.serve_desk.Goals as goal
 
 -- `NoGate` lets each line through, so it refuses none

@@ -1,6 +1,6 @@
 use Rattle.std.proofs.Common.{◌≡◌, refl, rules}
 use Rattle.std.proofs.lemmas.Result.{IfOk-weaker, on_err_weaker}
-use Rattle.lost_worker.proofs.ServingLemmas.{Stays, served, cut_off, whole_so_far, spent, stays_at, seen_at}
+use Rattle.lost_worker.proofs.ServingLemmas.{served, cut_off, whole_so_far, spent, stays_at, seen_at}
 use Rattle.lost_worker.proofs.streams.serve_lines.Goals as goal
 
 pub returns-clause-seen : goal.returns-clause-seen
