@@ -1,3 +1,4 @@
 pub mod ServingLemmas
+pub mod SumLemmas
 pub mod StageLemmas
 pub mod DeskingLemmas

@@ -1,4 +1,5 @@
 pub mod Moments
 pub mod Lines
+pub mod Sum
 pub mod Serving
 pub mod Desking

@@ -1,6 +1,7 @@
 //! A worker: it serves connections one after another.
 ghost use Rattle.std.specs.Prelude.{◌≡◌, ◌≤◌, true, false};
 ghost use Rattle.lost_worker.specs.Lines.{Answers, CountsConnection, HasSeenMore};
+ghost use Rattle.lost_worker.specs.Sum.{SumsConnections};
 
 use crate::connection::Connection;
 use crate::moments::Moments;
@@ -13,8 +14,9 @@ use std::alloc::Global;
 use std::io::{Read, Write};
 use std::sync::Wait;
 
-/// Serves each connection that `receiver` gives by [`serve_lines`], until the channel is closed, and gives the sum of the
-/// counts. A connection that ends in a fault adds one to `faults` and nothing else. A sum stays at its greatest value.
+/// Serves each connection that `receiver` gives by [`serve_lines`], one after another, until the channel is closed, and
+/// gives the sum of their counts, number by number. A connection that ends in a fault adds one to `faults` and nothing
+/// else. A number stays at its greatest value.
 pub fn worker_loop<I: Read + Drop, O: Write + Drop, P: Replier, M: Moments, G: Gate, R: Wait>(
     rt: &R,
     alloc: Global,
@@ -26,6 +28,9 @@ pub fn worker_loop<I: Read + Drop, O: Write + Drop, P: Replier, M: Moments, G: G
     turns: Turns,
 ) -> Counts
     ensures seen { HasSeenMore (P.reader replier.old) (P.reader replier.new) }
+    ensures sum { SumsConnections (G.says gate.now) (Answers name.now)
+        (record { reader = P.reader replier.old; moments = M.coming moments.old })
+        (record { reader = P.reader replier.new; moments = M.coming moments.new }) result }
 {
     let mut sum = Counts::default();
     for _round in rt.forever() {
