@@ -1,6 +1,7 @@
 pub mod AddedLemmas
 pub mod BoundaryLemmas
 pub mod ChainLemmas
+pub mod EqualPlaces
 pub mod FindLemmas
 pub mod HasChildren
 pub mod InsertLemmas

@@ -1,4 +1,5 @@
 -- What a `Place` of the code stands for.
+use Rattle.std.specs.Prelude.{◌≡◌, Bool, true}
 use Rattle.lost_query.specs.declared.place.Place.{Place as Kept}
 use Rattle.lost_query.specs.declared.place.Place.TheVariants.{Point as KeptPoint, Address as KeptAddress}
 use Rattle.lost_spec.specs.Find.{Place, AtPoint, AtAddress}
@@ -7,3 +8,7 @@ use Rattle.lost_spec.specs.Find.{Place, AtPoint, AtAddress}
 abbrev pub place_of : Kept → Place
 place_of (KeptPoint point) = AtPoint point
 place_of (KeptAddress address) = AtAddress address
+
+-- places that this equality takes for equal are seen as one place (own)
+abbrev pub EqualPlacesAreOne : (Kept → Kept → Bool) → Type 0
+EqualPlacesAreOne same = (a b : Kept) → same a b ≡ true → place_of a ≡ place_of b

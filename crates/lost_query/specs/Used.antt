@@ -1,5 +1,5 @@
 -- The reply to a request with locations, by the location that is used.
-use Rattle.std.specs.Prelude.{ℕ}
+use Rattle.std.specs.Prelude.{ℕ, Option, None, Some}
 use Rattle.lost_spec.specs.Text.{Text}
 use Rattle.lost_spec.specs.Find.{Place}
 use Rattle.lost_spec.specs.Request.{Reply, Errors}
@@ -11,3 +11,8 @@ use Rattle.lost_query.specs.declared.places.Used.TheVariants.{At, Refused}
 abbrev pub reply_used : ℕ → Used → (Text → Place → Reply) → Reply
 reply_used edition (At id place) answer = answer id.now (place_of place)
 reply_used edition (Refused error) answer = Errors edition error
+
+-- the place of the location that is used, where there is one
+abbrev pub used_place : Used → Option Place
+used_place (At id place) = Some (place_of place)
+used_place (Refused error) = None

@@ -10,7 +10,7 @@ use crate::find_service::{Ask, find_service};
 use crate::holdings::Holdings;
 use crate::lists::{list_anywhere, list_at};
 use crate::path::{Route, path_of};
-use crate::places::{Used, place_used};
+use crate::places::{Used, locate};
 use crate::refusals::refusal;
 use crate::reply::Reply;
 use crate::request::Request;
@@ -63,7 +63,7 @@ fn answer_by_kind<H: Holdings>(
             validate,
             by_value,
             ..
-        } => match place_used(alloc, locations)? {
+        } => match locate(alloc, locations)? {
             Used::Refused(error) => Ok(refusal(holdings, error)),
             Used::At(location_used, place) => {
                 let ask = Ask {
@@ -80,7 +80,7 @@ fn answer_by_kind<H: Holdings>(
             service,
             locations,
             ..
-        } => match place_used(alloc, locations)? {
+        } => match locate(alloc, locations)? {
             Used::Refused(error) => Ok(refusal(holdings, error)),
             Used::At(location_used, place) => list_at(
                 alloc,

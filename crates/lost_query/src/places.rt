@@ -1,20 +1,23 @@
-//! The place of the location used, or the error where there is none.
+//! The place of the location used, or the error where there is none. Rules without a section are this profile's own.
 ghost use Rattle.std.specs.Prelude.{◌≡◌, ℕ, None, Some, Ok, IfOk, IfSome, option_map};
 ghost use Rattle.lost_spec.specs.Civic.{address_fault};
 ghost use Rattle.lost_spec.specs.Text.{Text};
 ghost use Rattle.lost_spec.specs.Find as spec;
 ghost use Rattle.lost_spec.specs.Request.{Reply};
 ghost use Rattle.lost_spec.specs.Answer.{point_place, address_place, place_of, at_location, location_used};
+ghost use Rattle.lost_spec.specs.Holders.{locations_in, place_at, place_used};
 ghost use Rattle.lost_civic.specs.Pairs.{seen_pairs};
 ghost use Rattle.lost_query.specs.Place.{place_of as seen_place};
-ghost use Rattle.lost_query.specs.Request.{body_of, location_of, locations_of};
-ghost use Rattle.lost_query.specs.Used.{reply_used};
+ghost use Rattle.lost_query.specs.Request.{body_of, location_of, locations_of, request_of};
+ghost use Rattle.lost_query.specs.Used.{reply_used, used_place};
 
+use crate::path::{Route, path_of};
 use crate::place::Place;
-use crate::request::{Body, Location};
+use crate::request::{Body, Location, Request};
 use crate::used::{is_geodetic, location_used};
 use lost_civic::{CivicAddress, CivicError};
 use lost_geo::GeoPoint;
+use lost_mapping::Source;
 use lost_spec::answers::AnswerError;
 use std::alloc::{AllocError, Global};
 
@@ -27,12 +30,47 @@ pub(crate) enum Used<'a> {
     Refused(AnswerError),
 }
 
+/// The place at which the server of this name answers a request (RFC 5222, sections 8.3.1 and 12.1), or want of memory:
+/// that of the location used. None where the request has no locations, and where [`crate::answer`] answers `loop`,
+/// `locationProfileUnrecognized`, `SRSInvalid` or `locationInvalid`.
+pub fn place_used(
+    alloc: Global,
+    name: &Source,
+    request: &Request,
+) -> Result<Option<Place>, AllocError>
+    ensures { IfOk result (λ place. option_map seen_place place ≡ place_used name.now (request_of request.now)) }
+{
+    let route = Route {
+        name,
+        path: path_of(request),
+    };
+    if route.is_loop() {
+        return Ok(None);
+    }
+    match locate(alloc, locations_in(request))? {
+        Used::At(_, place) => Ok(Some(place)),
+        Used::Refused(_) => Ok(None),
+    }
+}
+
+/// The locations of a request; two kinds have none (RFC 5222, sections 8 to 11).
+fn locations_in(request: &Request) -> &[Location]
+    ensures { locations_of result.now ≡ locations_in (request_of request.now) }
+{
+    match request {
+        Request::FindService { locations, .. } => locations,
+        Request::ListServicesByLocation { locations, .. } => locations,
+        Request::ListServices { .. } | Request::GetServiceBoundary { .. } => &[],
+    }
+}
+
 /// The id and the place of the location used, or the first error that applies (RFC 5222, section 13.1; order own), or
 /// want of memory: `locationProfileUnrecognized` where no location has a profile that is known; then those of the
 /// location used.
-pub(crate) fn place_used(alloc: Global, locations: &[Location]) -> Result<Used<'_>, AllocError>
-    ensures { IfOk result (λ used. (edition : ℕ) (answer : Text → spec.Place → Reply)
+pub(crate) fn locate(alloc: Global, locations: &[Location]) -> Result<Used<'_>, AllocError>
+    ensures reply { IfOk result (λ used. (edition : ℕ) (answer : Text → spec.Place → Reply)
         → reply_used edition used answer ≡ at_location edition (location_used (locations_of locations.now)) answer) }
+    ensures place { IfOk result (λ used. used_place used ≡ place_at (location_used (locations_of locations.now))) }
 {
     match location_used(locations) {
         Some(location) => place_at(alloc, location),
@@ -44,8 +82,9 @@ pub(crate) fn place_used(alloc: Global, locations: &[Location]) -> Result<Used<'
 /// memory: `SRSInvalid` for a point whose reference system is not known; `locationInvalid` where the content is no
 /// place of the profile.
 fn place_at(alloc: Global, location: &Location) -> Result<Used<'_>, AllocError>
-    ensures { IfOk result (λ used. (edition : ℕ) (answer : Text → spec.Place → Reply)
+    ensures reply { IfOk result (λ used. (edition : ℕ) (answer : Text → spec.Place → Reply)
         → reply_used edition used answer ≡ at_location edition (Some (location_of location.now)) answer) }
+    ensures place { IfOk result (λ used. used_place used ≡ place_at (Some (location_of location.now))) }
 {
     let geodetic = is_geodetic(location.profile.as_str());
     if geodetic && !location.srs_known {

@@ -11,8 +11,8 @@ use Rattle.lost_spec.specs.Civic.{Pairs, matches}
 use Rattle.lost_spec.specs.Moment.{Instant}
 use Rattle.lost_spec.specs.Mapping.{Mapping, is_live}
 use Rattle.lost_spec.specs.Book.{Identity, identity_of, has_identity, has_key, is_key}
-use Rattle.lost_spec.specs.Find.{AtPoint, AtAddress, holds, serves, is_holder, is_standby}
-use Rattle.lost_spec.specs.Services.{is_holding, has_live_key}
+use Rattle.lost_spec.specs.Find.{AtPoint, AtAddress, holds, serves, is_standby}
+use Rattle.lost_spec.specs.Services.{has_live_key}
 use Rattle.lost_urn.specs.Order.{same_service_is}
 use Rattle.lost_civic.specs.declared.elements.Element.{Element}
 use Rattle.lost_query.specs.Judged.{is_reference, is_referring}
@@ -41,6 +41,9 @@ left_of false b h = h
 right_of : (a b : Bool) → (a && b) ≡ true → b ≡ true
 right_of true b h = h
 right_of false b h = absurd (false≢true h)
+
+pub held_of : (a b c : Bool) → (a && (b && c)) ≡ true → c ≡ true
+held_of a b c h = right_of b c (right_of a (b && c) h)
 
 or_true : (a b : Bool) → b ≡ true → (a || b) ≡ true
 or_true true b h = refl
@@ -157,16 +160,13 @@ module _ (ns : List ℕ) (ms : List Mapping) (tables : Tables) (regions : Region
       (subst (λ s. IsListed tables (ByDefault s) number) (service_is m t u (left_of (serves m t u) m.is_default h))
       ((noted_at place number m at_m at_n).by_default (right_of (serves m t u) m.is_default h)))
 
-  held_of : (a b c : Bool) → (a && (b && c)) ≡ true → c ≡ true
-  held_of a b c h = right_of b c (right_of a (b && c) h)
-
-  covers_at_point : (test : Mapping → Bool) (p : Point) (candidates : List ℕ) → ((m : Mapping) → test m ≡ true → holds m (AtPoint p) ≡ true)
+  pub covers_at_point : (test : Mapping → Bool) (p : Point) (candidates : List ℕ) → ((m : Mapping) → test m ≡ true → holds m (AtPoint p) ≡ true)
       → candidates ≡ holders inside p regions.points → Covers test ns ms candidates
   covers_at_point test p candidates tells is place number m at_m at_n h =
       subst (λ l. Among l number) (sym (is ∙ ap (λ r. holders inside p r.points) kept.indexed))
       (holder_at (λ x. x.polygons) inside p ns ms place number m at_m at_n (tells m h))
 
-  covers_at_address : (test : Mapping → Bool) (address : Pairs) (candidates : List ℕ)
+  pub covers_at_address : (test : Mapping → Bool) (address : Pairs) (candidates : List ℕ)
       → ((m : Mapping) → test m ≡ true → holds m (AtAddress address) ≡ true)
       → candidates ≡ holders matches address regions.addresses → Covers test ns ms candidates
   covers_at_address test address candidates tells is place number m at_m at_n h =
@@ -179,25 +179,3 @@ module _ (ns : List ℕ) (ms : List Mapping) (tables : Tables) (regions : Region
   covers_at_reference test required candidates tells is place number m at_m at_n h =
       subst (λ l. Among l number) (sym (is ∙ ap (λ r. holders names_all required r.references) kept.indexed))
       (holder_at (λ x. x.patterns) names_all required ns ms place number m at_m at_n (tells m h))
-
-  pub covers_point : (t : Instant) (p : Point) (candidates : List ℕ) → candidates ≡ holders inside p regions.points
-      → Covers (is_holding t (AtPoint p)) ns ms candidates
-  covers_point t p candidates is =
-      covers_at_point (is_holding t (AtPoint p)) p candidates (λ m h. held_of (is_live m t) (not m.is_default) (holds m (AtPoint p)) h) is
-
-  pub covers_address : (t : Instant) (address : Pairs) (candidates : List ℕ) → candidates ≡ holders matches address regions.addresses
-      → Covers (is_holding t (AtAddress address)) ns ms candidates
-  covers_address t address candidates is =
-      covers_at_address (is_holding t (AtAddress address)) address candidates
-      (λ m h. held_of (is_live m t) (not m.is_default) (holds m (AtAddress address)) h) is
-
-  pub covers_point_service : (t : Instant) (p : Point) (u : Service) (candidates : List ℕ) → candidates ≡ holders inside p regions.points
-      → Covers (is_holder t (AtPoint p) u) ns ms candidates
-  covers_point_service t p u candidates is =
-      covers_at_point (is_holder t (AtPoint p) u) p candidates (λ m h. held_of (serves m t u) (not m.is_default) (holds m (AtPoint p)) h) is
-
-  pub covers_address_service : (t : Instant) (address : Pairs) (u : Service) (candidates : List ℕ) → candidates ≡ holders matches address regions.addresses
-      → Covers (is_holder t (AtAddress address) u) ns ms candidates
-  covers_address_service t address u candidates is =
-      covers_at_address (is_holder t (AtAddress address) u) address candidates
-      (λ m h. held_of (serves m t u) (not m.is_default) (holds m (AtAddress address)) h) is

@@ -8,6 +8,7 @@ mod edits;
 mod entering;
 mod held;
 mod holdings;
+mod placed;
 mod questions;
 mod routing;
 mod services;

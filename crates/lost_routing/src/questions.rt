@@ -4,13 +4,11 @@ ghost use Rattle.std.specs.List.{list_any};
 ghost use Rattle.std.specs.Option.{option_copied};
 ghost use Rattle.lost_spec.specs.Book.{has_identity, has_key};
 ghost use Rattle.lost_spec.specs.Positions.{positions};
-ghost use Rattle.lost_spec.specs.Find.{AtPoint, AtAddress, is_holder, is_standby, serves};
-ghost use Rattle.lost_spec.specs.Services.{is_holding, has_live_key};
+ghost use Rattle.lost_spec.specs.Find.{is_standby, serves};
+ghost use Rattle.lost_spec.specs.Services.{has_live_key};
 
 use crate::held::Held;
-use lost_book::{has_identity, has_key, holds_address, holds_point, serves};
-use lost_civic::CivicAddress;
-use lost_geo::GeoPoint;
+use lost_book::{has_identity, has_key, serves};
 use lost_mapping::{Identity, Mapping, Moment};
 use lost_tables::picks;
 use lost_urn::ServiceUrn;
@@ -108,96 +106,6 @@ impl Held {
             &self.mappings,
             candidates,
             |mapping| serves(mapping, moment, service),
-        )
-    }
-
-    /// The mappings that are live, are no defaults and hold the point, or want of memory.
-    #[tactic(auto, using(crate::proofs::CoverLemmas::covers_point))]
-    pub(crate) fn holding_point(
-        &self,
-        moment: &Moment,
-        point: &GeoPoint,
-    ) -> Result<Vec<usize>, AllocError>
-        ensures { IfOk result (λ places.
-            places.items ≡ positions (is_holding moment.now (AtPoint point.now)) self.now.mappings) }
-    {
-        let candidates = self.regions.at_point(point)?;
-        picks::select(
-            self.alloc,
-            &self.numbers,
-            &self.mappings,
-            candidates.as_slice(),
-            |mapping| mapping.is_live(moment)
-                && !mapping.is_default()
-                && holds_point(mapping, point),
-        )
-    }
-
-    /// The mappings that are live, are no defaults and hold the address, or want of memory.
-    #[tactic(auto, using(crate::proofs::CoverLemmas::covers_address))]
-    pub(crate) fn holding_address(
-        &self,
-        moment: &Moment,
-        address: &CivicAddress,
-    ) -> Result<Vec<usize>, AllocError>
-        ensures { IfOk result (λ places.
-            places.items ≡ positions (is_holding moment.now (AtAddress address.now)) self.now.mappings) }
-    {
-        let candidates = self.regions.at_address(address)?;
-        picks::select(
-            self.alloc,
-            &self.numbers,
-            &self.mappings,
-            candidates.as_slice(),
-            |mapping| mapping.is_live(moment)
-                && !mapping.is_default()
-                && holds_address(mapping, address),
-        )
-    }
-
-    /// The mappings that are live, are no defaults, have this service and hold the point, or want of memory.
-    #[tactic(auto, using(crate::proofs::CoverLemmas::covers_point_service))]
-    pub(crate) fn at_point(
-        &self,
-        moment: &Moment,
-        point: &GeoPoint,
-        service: &ServiceUrn,
-    ) -> Result<Vec<usize>, AllocError>
-        ensures { IfOk result (λ places.
-            places.items ≡ positions (is_holder moment.now (AtPoint point.now) service.now) self.now.mappings) }
-    {
-        let candidates = self.regions.at_point(point)?;
-        picks::select(
-            self.alloc,
-            &self.numbers,
-            &self.mappings,
-            candidates.as_slice(),
-            |mapping| serves(mapping, moment, service)
-                && !mapping.is_default()
-                && holds_point(mapping, point),
-        )
-    }
-
-    /// The mappings that are live, are no defaults, have this service and hold the address, or want of memory.
-    #[tactic(auto, using(crate::proofs::CoverLemmas::covers_address_service))]
-    pub(crate) fn at_address(
-        &self,
-        moment: &Moment,
-        address: &CivicAddress,
-        service: &ServiceUrn,
-    ) -> Result<Vec<usize>, AllocError>
-        ensures { IfOk result (λ places.
-            places.items ≡ positions (is_holder moment.now (AtAddress address.now) service.now) self.now.mappings) }
-    {
-        let candidates = self.regions.at_address(address)?;
-        picks::select(
-            self.alloc,
-            &self.numbers,
-            &self.mappings,
-            candidates.as_slice(),
-            |mapping| serves(mapping, moment, service)
-                && !mapping.is_default()
-                && holds_address(mapping, address),
         )
     }
 }

@@ -1,10 +1,13 @@
 //! The indexed book.
 ghost use Rattle.std.specs.Prelude.{◌≡◌, ◌<◌, Some, IfOk, length, slice_get};
 ghost use Rattle.lost_spec.specs.Book.{empty_book};
+ghost use Rattle.lost_spec.specs.Holders.{holders_of};
+ghost use Rattle.lost_query.specs.Place.{place_of};
 
 use crate::held::Held;
 use lost_book::Limits;
 use lost_mapping::Mapping;
+use lost_query::Place;
 use std::alloc::{AllocError, Global};
 use std::marker::Model;
 
@@ -62,6 +65,16 @@ impl Routing {
         ensures { slice_get self.now.mappings position ≡ Some result.now }
     {
         &self.held.mappings()[position]
+    }
+
+    /// The set of a place: the mappings that hold it, live or not, in rising positions (own rule), or want of memory.
+    pub fn holders(&self, place: &Place) -> Result<Vec<usize>, AllocError>
+        ensures { IfOk result (λ places. places.items ≡ holders_of self.now (place_of place.now)) }
+    {
+        match place {
+            Place::Point(point) => self.held.holders_of_point(point),
+            Place::Address(address) => self.held.holders_of_address(address),
+        }
     }
 
     /// An equal book, or want of memory. It costs a pointer for each mapping, and the indexes anew.

@@ -12,6 +12,7 @@ pub mod Validation
 pub mod Services
 pub mod Request
 pub mod Answer
+pub mod Holders
 pub mod Examples
 pub mod Rows
 pub mod OwnRows

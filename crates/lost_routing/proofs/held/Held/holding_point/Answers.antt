@@ -1,18 +1,12 @@
--- Each mapping that passes is among the candidates.
-use Rattle.std.proofs.Common.{◌≡◌, IfOk, rules, ap, subst, ◌∙◌}
-use Rattle.lost_spec.specs.Positions.{positions}
-use Rattle.lost_spec.specs.Find.{AtPoint}
+-- What is live, is no default and holds the place holds it.
+use Rattle.std.proofs.Common.{not, rules}
+use Rattle.lost_spec.specs.Mapping.{is_live}
+use Rattle.lost_spec.specs.Find.{AtPoint, holds}
 use Rattle.lost_spec.specs.Services.{is_holding}
-use Rattle.lost_routing.proofs.CoverLemmas.{covers_point}
-use Rattle.lost_routing.proofs.QuestionLemmas.{covers_seen}
+use Rattle.lost_routing.proofs.CoverLemmas.{held_of}
 use Rattle.lost_routing.proofs.held.Held.holding_point.Goals as goal
 
 pub returns : goal.returns
 returns c =
-    subst (λ l. IfOk c.select.result (λ places. places.items ≡ positions (is_holding c.args.moment.now (AtPoint c.args.point.now)) l)) (c.deref-2.ensures.value ∙ ap (λ k. k.mappings) c.self.view_is)
-    (c.select.ensures (is_holding c.args.moment.now (AtPoint c.args.point.now)) (λ m r says. search rules)
-    (covers_seen (is_holding c.args.moment.now (AtPoint c.args.point.now)) c.self.inside.numbers.items c.self.inside.mappings.items c.deref.result.now c.deref-2.result.now c.as_slice.result.now
-    c.deref.ensures.value c.deref-2.ensures.value
-    (covers_point c.self.inside.numbers.items c.self.inside.mappings.items c.self.inside.tables c.self.inside.regions c.self.invariant
-    c.args.moment.now c.args.point.now c.as_slice.result.now
-    (c.as_slice.ensures.value ∙ c.in_ok-candidates.ensures))))
+    c.selected_at_point.ensures (is_holding c.args.moment.now (AtPoint c.args.point.now)) (λ m r says. search rules)
+    (λ m h. held_of (is_live m c.args.moment.now) (not m.is_default) (holds m (AtPoint c.args.point.now)) h)

@@ -1,5 +1,5 @@
 -- A row more was walked, whether a live mapping of its service was found or not.
-use Rattle.std.proofs.Common.{◌≡◌, ◌∙◌, ◌<◌, ◌≤◌, Some, None, Option, List, ℕ, length, filter, ap, subst, rules, arith}
+use Rattle.std.proofs.Common.{◌≡◌, ◌∙◌, ◌<◌, ◌≤◌, Some, None, Option, List, ℕ, length, filter, ap, rules, arith}
 use Rattle.std.specs.Option.{option_copied}
 use Rattle.lost_spec.specs.Text.{Text}
 use Rattle.lost_spec.specs.Mapping.{Mapping, is_live}

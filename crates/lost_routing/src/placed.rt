@@ -1,0 +1,140 @@
+//! What the mappings are asked about a place. Lists are of positions, rising. Each question is one walk over the mappings
+//! that the index gives for the place.
+ghost use Rattle.std.specs.Prelude.{◌≡◌, Bool, true, IfOk};
+ghost use Rattle.std.specs.Fn.{FnReturnsAt};
+ghost use Rattle.lost_spec.specs.Mapping as spec;
+ghost use Rattle.lost_spec.specs.Positions.{positions};
+ghost use Rattle.lost_spec.specs.Find.{AtPoint, AtAddress, holds, is_holder};
+ghost use Rattle.lost_spec.specs.Services.{is_holding};
+
+use crate::held::Held;
+use lost_book::{holds_address, holds_point, serves};
+use lost_civic::CivicAddress;
+use lost_geo::GeoPoint;
+use lost_mapping::{Mapping, Moment};
+use lost_tables::picks;
+use lost_urn::ServiceUrn;
+use std::alloc::AllocError;
+
+impl Held {
+    /// The mappings that pass a test which only mappings pass that hold the point, or want of memory.
+    fn selected_at_point<F: Fn(&Mapping) -> bool>(
+        &self,
+        point: &GeoPoint,
+        passes: F,
+    ) -> Result<Vec<usize>, AllocError>
+        requires callable { F.IsAlwaysCallable passes }
+        ensures { (test : spec.Mapping → Bool) → ((m : spec.Mapping) (r : Bool) → FnReturnsAt F.Fn passes m r → r ≡ test m)
+            → ((m : spec.Mapping) → test m ≡ true → holds m (AtPoint point.now) ≡ true)
+            → IfOk result (λ places. places.items ≡ positions test self.now.mappings) }
+    {
+        let candidates = self.regions.at_point(point)?;
+        picks::select(
+            self.alloc,
+            &self.numbers,
+            &self.mappings,
+            candidates.as_slice(),
+            passes,
+        )
+    }
+
+    /// The mappings that hold the point, live or not, or want of memory.
+    pub(crate) fn holders_of_point(&self, point: &GeoPoint) -> Result<Vec<usize>, AllocError>
+        ensures { IfOk result (λ places.
+            places.items ≡ positions (λ m. holds m (AtPoint point.now)) self.now.mappings) }
+    {
+        self.selected_at_point(point, |mapping| holds_point(mapping, point))
+    }
+
+    /// The mappings that pass a test which only mappings pass that hold the address, or want of memory.
+    fn selected_at_address<F: Fn(&Mapping) -> bool>(
+        &self,
+        address: &CivicAddress,
+        passes: F,
+    ) -> Result<Vec<usize>, AllocError>
+        requires callable { F.IsAlwaysCallable passes }
+        ensures { (test : spec.Mapping → Bool) → ((m : spec.Mapping) (r : Bool) → FnReturnsAt F.Fn passes m r → r ≡ test m)
+            → ((m : spec.Mapping) → test m ≡ true → holds m (AtAddress address.now) ≡ true)
+            → IfOk result (λ places. places.items ≡ positions test self.now.mappings) }
+    {
+        let candidates = self.regions.at_address(address)?;
+        picks::select(
+            self.alloc,
+            &self.numbers,
+            &self.mappings,
+            candidates.as_slice(),
+            passes,
+        )
+    }
+
+    /// The mappings that hold the address, live or not, or want of memory.
+    pub(crate) fn holders_of_address(
+        &self,
+        address: &CivicAddress,
+    ) -> Result<Vec<usize>, AllocError>
+        ensures { IfOk result (λ places.
+            places.items ≡ positions (λ m. holds m (AtAddress address.now)) self.now.mappings) }
+    {
+        self.selected_at_address(address, |mapping| holds_address(mapping, address))
+    }
+
+    /// The mappings that are live, are no defaults and hold the point, or want of memory.
+    pub(crate) fn holding_point(
+        &self,
+        moment: &Moment,
+        point: &GeoPoint,
+    ) -> Result<Vec<usize>, AllocError>
+        ensures { IfOk result (λ places.
+            places.items ≡ positions (is_holding moment.now (AtPoint point.now)) self.now.mappings) }
+    {
+        self.selected_at_point(point, |mapping| {
+            mapping.is_live(moment) && !mapping.is_default() && holds_point(mapping, point)
+        })
+    }
+
+    /// The mappings that are live, are no defaults and hold the address, or want of memory.
+    pub(crate) fn holding_address(
+        &self,
+        moment: &Moment,
+        address: &CivicAddress,
+    ) -> Result<Vec<usize>, AllocError>
+        ensures { IfOk result (λ places.
+            places.items ≡ positions (is_holding moment.now (AtAddress address.now)) self.now.mappings) }
+    {
+        self.selected_at_address(address, |mapping| {
+            mapping.is_live(moment) && !mapping.is_default() && holds_address(mapping, address)
+        })
+    }
+
+    /// The mappings that are live, are no defaults, have this service and hold the point, or want of memory.
+    pub(crate) fn at_point(
+        &self,
+        moment: &Moment,
+        point: &GeoPoint,
+        service: &ServiceUrn,
+    ) -> Result<Vec<usize>, AllocError>
+        ensures { IfOk result (λ places.
+            places.items ≡ positions (is_holder moment.now (AtPoint point.now) service.now) self.now.mappings) }
+    {
+        self.selected_at_point(point, |mapping| {
+            serves(mapping, moment, service) && !mapping.is_default() && holds_point(mapping, point)
+        })
+    }
+
+    /// The mappings that are live, are no defaults, have this service and hold the address, or want of memory.
+    pub(crate) fn at_address(
+        &self,
+        moment: &Moment,
+        address: &CivicAddress,
+        service: &ServiceUrn,
+    ) -> Result<Vec<usize>, AllocError>
+        ensures { IfOk result (λ places.
+            places.items ≡ positions (is_holder moment.now (AtAddress address.now) service.now) self.now.mappings) }
+    {
+        self.selected_at_address(address, |mapping| {
+            serves(mapping, moment, service)
+                && !mapping.is_default()
+                && holds_address(mapping, address)
+        })
+    }
+}
