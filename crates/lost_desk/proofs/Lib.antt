@@ -1,3 +1,4 @@
 pub mod ListLemmas
 pub mod StepLemmas
 pub mod DeskLemmas
+pub mod SetLemmas

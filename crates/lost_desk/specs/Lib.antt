@@ -1,5 +1,6 @@
 pub mod Codes
 pub mod Seen
+pub mod Sets
 pub mod Copies
 pub mod Rule
 pub mod Held

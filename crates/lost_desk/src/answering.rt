@@ -1,10 +1,19 @@
 //! The reply to a line over a book. A request is read by its tokens where its shape is common.
-ghost use Rattle.std.specs.Prelude.{◌≡◌, IfOk};
+ghost use Rattle.std.specs.Prelude.{◌≡◌, Some, IfOk};
 ghost use Rattle.lost_json.specs.Line.{line_reply};
+ghost use Rattle.lost_spec.specs.Text.{Text};
+ghost use Rattle.lost_query.specs.Request.{request_of};
+ghost use Rattle.lost_query.specs.Place.{place_of};
+ghost use Rattle.lost_reading.specs.Requests.{line_request};
+ghost use Rattle.lost_spec.specs.Holders.{holders_of};
+ghost use Rattle.lost_desk.specs.Sets.{AreRightIn, KeepsOnly};
 
+use crate::CopyBook;
+use crate::sets::PlaceSets;
+use crate::with_holders::WithHolders;
 use lost_json::{ReadError, reply_request, write_reply};
 use lost_mapping::{Moment, Source};
-use lost_query::{Holdings, Reply};
+use lost_query::{Holdings, Place, Reply, Request, place_used};
 use lost_tokens::{Scratch, read_request};
 use std::alloc::{AllocError, Global};
 
@@ -26,4 +35,97 @@ pub(crate) fn reply_over<H: Holdings>(
         Err(ReadError::BadRequest) => write_reply(alloc, &Reply::BadRequest),
         Err(ReadError::Memory) => Err(AllocError),
     }
+}
+
+/// The reply to a line over this book, as [`reply_over`] gives it, or want of memory. Where the request is answered at a
+/// place, its set is looked for among those that are kept, and is kept where it was not found.
+#[tactic(auto, unfolding(lost_json::specs::Line::line_reply))]
+pub(crate) fn reply_over_sets<S: PlaceSets>(
+    alloc: Global,
+    sets: &mut S,
+    book: &CopyBook,
+    name: &Source,
+    moment: &Moment,
+    line: &[u8],
+    scratch: &mut Scratch,
+) -> Result<Vec<u8>, AllocError>
+    requires { AreRightIn (S.keeps sets.old) book.now }
+    ensures reply { IfOk result (λ reply. reply.items ≡ line_reply book.now name.now moment.now line.now) }
+    ensures kept { KeepsOnly (S.keeps sets.old) book.now (S.keeps sets.new) }
+{
+    match read_request(alloc, line, scratch) {
+        Ok(request) => answer_request(alloc, sets, book, name, moment, &request),
+        Err(ReadError::BadRequest) => write_reply(alloc, &Reply::BadRequest),
+        Err(_) => Err(AllocError),
+    }
+}
+
+/// The reply to a request over this book, or want of memory. Where it is answered at a place, its set is looked for among
+/// those that are kept, and is kept where it was not found.
+fn answer_request<S: PlaceSets>(
+    alloc: Global,
+    sets: &mut S,
+    book: &CopyBook,
+    name: &Source,
+    moment: &Moment,
+    request: &Request,
+) -> Result<Vec<u8>, AllocError>
+    requires { AreRightIn (S.keeps sets.old) book.now }
+    ensures reply { IfOk result (λ reply. (line : Text) → line_request line ≡ Some (request_of request.now)
+        → reply.items ≡ line_reply book.now name.now moment.now line) }
+    ensures kept { KeepsOnly (S.keeps sets.old) book.now (S.keeps sets.new) }
+{
+    match place_used(alloc, name, request)? {
+        Some(place) => answer_at_place(alloc, sets, book, name, moment, request, place),
+        None => reply_request(alloc, book, name, moment, request),
+    }
+}
+
+/// The reply to a request that is answered at this place, or want of memory. The place's set is looked for among those
+/// that are kept, and is kept where it was not found.
+fn answer_at_place<S: PlaceSets>(
+    alloc: Global,
+    sets: &mut S,
+    book: &CopyBook,
+    name: &Source,
+    moment: &Moment,
+    request: &Request,
+    place: Place,
+) -> Result<Vec<u8>, AllocError>
+    requires { AreRightIn (S.keeps sets.old) book.now }
+    ensures reply { IfOk result (λ reply. (line : Text) → line_request line ≡ Some (request_of request.now)
+        → reply.items ≡ line_reply book.now name.now moment.now line) }
+    ensures kept { KeepsOnly (S.keeps sets.old) book.now (S.keeps sets.new) }
+{
+    let edition = book.edition();
+    if let Some(holders) = sets.find(edition, &place) {
+        return answer_from_set(alloc, book, name, moment, request, &place, holders);
+    }
+    let holders = book.holders(&place)?;
+    let reply = answer_from_set(alloc, book, name, moment, request, &place, &holders)?;
+    sets.keep(edition, place, holders);
+    Ok(reply)
+}
+
+/// The reply to a request over this book, or want of memory. What holds this place is known.
+fn answer_from_set(
+    alloc: Global,
+    book: &CopyBook,
+    name: &Source,
+    moment: &Moment,
+    request: &Request,
+    place: &Place,
+    holders: &[usize],
+) -> Result<Vec<u8>, AllocError>
+    requires { holders.now ≡ holders_of book.now (place_of place.now) }
+    ensures { IfOk result (λ reply. (line : Text) → line_request line ≡ Some (request_of request.now)
+        → reply.items ≡ line_reply book.now name.now moment.now line) }
+{
+    let known = WithHolders {
+        alloc,
+        book,
+        place,
+        holders,
+    };
+    reply_request(alloc, &known, name, moment, request)
 }

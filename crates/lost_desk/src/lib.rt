@@ -7,14 +7,18 @@ mod answering;
 mod copies;
 mod desk;
 mod faults;
+mod living;
 mod open;
+mod over_sets;
 mod queue;
 mod reader;
 mod readers;
 mod rule;
+mod sets;
 mod told;
 mod version;
 mod view;
+mod with_holders;
 
 /// The book in each copy.
 pub type CopyBook = lost_routing::Routing;
@@ -24,4 +28,5 @@ pub use faults::{CommitError, OpenError};
 pub use open::open_desk;
 pub use reader::Reader;
 pub use readers::Readers;
+pub use sets::PlaceSets;
 pub use told::Told;

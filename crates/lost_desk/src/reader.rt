@@ -26,10 +26,10 @@ pub(crate) type Seat = left_right::reader::Reader<Version, View, OneList>;
 /// entered the copies.
 #[derive(Drop)]
 pub struct Reader {
-    seat: Option<Seat>,
-    latest: Front,
+    pub(crate) seat: Option<Seat>,
+    pub(crate) latest: Front,
     /// What the reader of lines works in. It holds nothing of them.
-    scratch: Box<Scratch>,
+    pub(crate) scratch: Box<Scratch>,
 }
 
 impl Model for Reader {

@@ -1,0 +1,30 @@
+//! Which mappings of a set are shown at an instant.
+ghost use Rattle.std.specs.Prelude.{◌≡◌, ◌<◌, IfOk, length, filter};
+ghost use Rattle.std.specs.List.{All};
+ghost use Rattle.lost_desk.specs.Sets.{is_living_at};
+
+use crate::CopyBook;
+use lost_mapping::Moment;
+use std::alloc::{AllocError, Global};
+
+/// Those of the positions whose mappings are live and are no defaults, in their order, or want of memory. The positions
+/// are below the book's `len`.
+pub(crate) fn living_among(
+    alloc: Global,
+    book: &CopyBook,
+    moment: &Moment,
+    positions: &[usize],
+) -> Result<Vec<usize>, AllocError>
+    requires { All (λ place. place < length book.now.mappings) positions.now }
+    ensures { IfOk result (λ living.
+        living.items ≡ filter (is_living_at moment.now book.now.mappings) positions.now) }
+{
+    let mut living = Vec::with_capacity(alloc, positions.len())?;
+    for position in positions {
+        let mapping = book.mapping(*position);
+        if mapping.is_live(moment) && !mapping.is_default() {
+            living.push(*position)?;
+        }
+    }
+    Ok(living)
+}

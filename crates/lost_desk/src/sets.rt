@@ -1,0 +1,26 @@
+//! Sets of places that are kept from line to line.
+ghost use Rattle.std.specs.Prelude.{◌≡◌, ◌⊎◌, IfSome, ⊤};
+ghost use Rattle.std.specs.Borrow.{sem, follows_so};
+ghost use mathlib.Core.Option.{none};
+ghost use Rattle.lost_spec.specs.Holders.{Entry};
+ghost use Rattle.lost_query.specs.Place.{place_of};
+ghost use Rattle.lost_desk.specs.Sets.{entry};
+
+use lost_query::Place;
+
+/// What keeps sets of places, however it keeps them (own rule). The set of a place is the rising positions of the mappings
+/// that hold it, live or not. An entry is an edition, a place and a set.
+pub trait PlaceSets {
+    /// Which entries it keeps.
+    ghost keeps: { Self → Entry → Type 0 };
+
+    /// A set that is kept of this edition and place, or None. The entries stay.
+    fn find(&mut self, edition: u64, place: &Place) -> Option<&[usize]>
+        ensures* stays { sem 𝓛 (follows_so Self.row Self.row self.entry.ghost_name none (λ _ _. ⊤)
+            (λ n. (e : Entry) → keeps n e → keeps self.old e)) }
+        ensures kept { IfSome result (λ set. keeps self.old (entry edition (place_of place.now) set.now)) };
+
+    /// Keeps the set of this edition and place, and may drop any entry. Where memory is refused it drops this one.
+    fn keep(&mut self, edition: u64, place: Place, set: Vec<usize>)
+        ensures { (e : Entry) → keeps self.new e → keeps self.old e ⊎ (e ≡ entry edition (place_of place) set.items) };
+}
