@@ -2,3 +2,4 @@ pub mod ServingLemmas
 pub mod SumLemmas
 pub mod StageLemmas
 pub mod DeskingLemmas
+pub mod CacheLemmas

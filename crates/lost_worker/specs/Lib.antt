@@ -3,3 +3,5 @@ pub mod Lines
 pub mod Sum
 pub mod Serving
 pub mod Desking
+pub mod Codes
+pub mod Cached

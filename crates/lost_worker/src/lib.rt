@@ -2,17 +2,22 @@
 //! connections one after another.
 #![tactic(auto)]
 
+mod cached;
 mod connection;
 mod desk_stream;
 mod desking;
+mod faults;
 mod moments;
+mod place_cache;
 mod replier;
 mod serving;
 mod streams;
 mod worker;
 
+pub use cached::{CacheRefusal, CachedReader};
 pub use connection::Connection;
 pub use desk_stream::serve_desk;
+pub use faults::CacheError;
 pub use lost_lines::{Counts, Gate, NoGate, ServeError, Turns, Watched};
 pub use moments::Moments;
 pub use replier::Replier;

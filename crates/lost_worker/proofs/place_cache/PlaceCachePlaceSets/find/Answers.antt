@@ -1,0 +1,26 @@
+-- A set that goes to the front was there, and the set that is found is kept.
+use Rattle.std.proofs.Common.{refl}
+use Rattle.std.proofs.lemmas.Option.{IfSome_then}
+use Rattle.lost_spec.specs.Holders.{Entry}
+use Rattle.lost_query.specs.contracts.place.PlacePartialEq.TheImpl.{ghosts}
+use Rattle.lost_query.specs.Place.{place_of}
+use Rattle.lost_desk.specs.Sets.{entry}
+use Rattle.lost_worker.specs.Cached.{IsKeptIn}
+use Rattle.lost_worker.proofs.CacheLemmas.{promoted_was_kept}
+use Rattle.lost_worker.proofs.place_cache.PlaceCachePlaceSets.find.Goals as goal
+use Rattle.lost_worker.proofs.place_cache.PlaceCachePlaceSets.find.Goals.{then-is_some, else-is_some}
+
+pub returns : goal.returns
+returns g c =
+    let pairs = c.args.self.now.cache.entries in
+    let stays : (e : Entry) → IsKeptIn c.if-is_some.self.cache.entries e → IsKeptIn pairs e =
+    elim c.if-is_some.branch [
+      | then-is_some w ↦ λ e k. promoted_was_kept (ghosts.eq c.args.place.now) pairs e (rw (w.self-is, w.promote.ensures.entries) at k)
+      | else-is_some w ↦ λ e k. (rw w.self-is at k)
+    ] in (
+      (refl, λ _. tt, stays),
+      record {
+        stays = tt;
+        kept = IfSome_then c.set_of-2.result c.set_of-2.ensures (λ set k. stays (entry c.args.edition (place_of c.args.place.now) set.now) k);
+      },
+    )

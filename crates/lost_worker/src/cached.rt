@@ -1,0 +1,163 @@
+//! A reader with a cache of places.
+ghost use Rattle.std.specs.Prelude.{◌≡◌, ◌+◌, ◌≢◌, IsTrue, IsSome, IsNone, IfOk, IfErr, OnOk};
+ghost use Rattle.lost_spec.specs.Book.{is_accepted};
+ghost use Rattle.lost_spec.specs.Laws.{BeginsWith};
+ghost use Rattle.lost_desk.specs.Seen.{seen_book};
+ghost use Rattle.lost_json.specs.Line.{line_reply};
+ghost use Rattle.lost_worker.specs.Cached.{IsCapacity};
+
+use crate::faults::CacheError;
+use crate::place_cache::PlaceCache;
+use crate::replier::Replier;
+use lost_desk::Reader;
+use lost_mapping::{Moment, Source};
+use lru::DefaultHasher;
+use std::alloc::{AllocError, Global};
+use std::hash::{BuildHasher, BuildHasherDefault};
+use std::marker::Model;
+use std::num::NonZeroUsize;
+
+/// The most places that a cache keeps (own rule).
+const MOST_PLACES: u32 = 65_536;
+
+/// A reader that keeps the sets of the places that were asked for last, each with the edition that it is of. Contracts
+/// see it as its reader: its replies are those of the reader, whatever is kept. A set of another edition is not used.
+#[derive(Drop)]
+pub struct CachedReader<S: BuildHasher = DefaultHasher> {
+    reader: Reader,
+    sets: PlaceCache<S>,
+}
+
+impl<S: BuildHasher> Model for CachedReader<S> {
+    ghost use Rattle.lost_desk.specs.Seen.{ReaderSeen};
+    ghost use Rattle.lost_desk.specs.Sets.{AreRightFor};
+    ghost use Rattle.lost_worker.specs.Cached.{IsKeptIn};
+
+    ghost Value = { ReaderSeen };
+
+    ghost view = { λ c. c.reader };
+
+    ghost invariant = { λ c. AreRightFor (IsKeptIn c.sets.cache.entries) c.reader.limits c.reader.seen };
+}
+
+/// A reader that got no cache, and why. The reader is as it was.
+#[derive(Drop)]
+pub struct CacheRefusal {
+    pub reader: Reader,
+    pub code: CacheError,
+}
+
+impl CachedReader<DefaultHasher> {
+    ghost use Rattle.lost_worker.specs.Cached.{IsCapacity};
+
+    /// This reader with an empty cache of at most `capacity` places. The cache hashes places with a fixed seed: where the
+    /// places are picked by somebody who means harm, take [`CachedReader::with_hasher`].
+    ///
+    /// # Errors
+    ///
+    /// They hand the reader back as it was. [`CacheError::Capacity`] where the capacity is not from 1 to 65,536, and after
+    /// it [`CacheError::Memory`] for want of memory.
+    pub fn new(
+        alloc: Global,
+        reader: Reader,
+        capacity: u32,
+    ) -> Result<CachedReader<DefaultHasher>, CacheRefusal>
+        ensures made { IfOk result (λ cached. cached ≡ reader) }
+        ensures within { OnOk result (IsCapacity capacity) }
+        ensures handed_back { IfErr result (λ refusal. refusal.reader ≡ reader) }
+        ensures capacity { IfErr result (λ refusal. refusal.code ≡ CacheError.Capacity → ¬ IsCapacity capacity) }
+        ensures memory_last { IfErr result (λ refusal. refusal.code ≢ CacheError.Capacity → IsCapacity capacity) }
+    {
+        CachedReader::with_hasher(alloc, reader, capacity, BuildHasherDefault::new())
+    }
+}
+
+impl<S: BuildHasher + Drop> CachedReader<S> {
+    ghost use Rattle.lost_worker.specs.Cached.{IsCapacity};
+
+    /// As [`CachedReader::new`], with what hashes places.
+    ///
+    /// # Errors
+    ///
+    /// Those of [`CachedReader::new`].
+    pub fn with_hasher(
+        alloc: Global,
+        reader: Reader,
+        capacity: u32,
+        hasher: S,
+    ) -> Result<CachedReader<S>, CacheRefusal>
+        ensures made { IfOk result (λ cached. cached ≡ reader) }
+        ensures within { OnOk result (IsCapacity capacity) }
+        ensures handed_back { IfErr result (λ refusal. refusal.reader ≡ reader) }
+        ensures capacity { IfErr result (λ refusal. refusal.code ≡ CacheError.Capacity → ¬ IsCapacity capacity) }
+        ensures memory_last { IfErr result (λ refusal. refusal.code ≢ CacheError.Capacity → IsCapacity capacity) }
+    {
+        let Some(places) = places_of(capacity) else {
+            return Err(CacheRefusal {
+                reader,
+                code: CacheError::Capacity,
+            });
+        };
+        match PlaceCache::new(alloc, places, hasher) {
+            Ok(sets) => Ok(CachedReader { reader, sets }),
+            Err(AllocError) => Err(CacheRefusal {
+                reader,
+                code: CacheError::Memory,
+            }),
+        }
+    }
+
+    /// Answers a line as [`Reader::reply_line`] does. Where the request is answered at a place and the place's set is kept
+    /// of the edition that the reader then sees, the index is not asked.
+    ///
+    /// # Errors
+    ///
+    /// Want of memory, also after the desk was closed. The reader may then have entered once and seen a longer list.
+    pub fn reply_line(
+        &mut self,
+        alloc: Global,
+        name: &Source,
+        moment: &Moment,
+        line: &[u8],
+    ) -> Result<Vec<u8>, AllocError>
+        ensures reply { IfOk result (λ reply.
+            reply.items ≡ line_reply (seen_book self.new) name.now moment.now line.now) }
+        ensures begins { BeginsWith self.new.seen self.old.seen }
+        ensures entered { OnOk result (self.new.entries ≡ self.old.entries + 1) }
+        ensures one_list { OnOk result (IsTrue (is_accepted self.new.limits self.new.seen)) }
+        ensures same { (self.new.opening ≡ self.old.opening) × (self.new.limits ≡ self.old.limits) }
+    {
+        self.reader
+            .reply_line_over(alloc, &mut self.sets, name, moment, line)
+    }
+
+    /// How often a set was found, up to the greatest `u64`. What it counts is shown by a test alone.
+    pub fn hits(&self) -> u64 {
+        self.sets.hits
+    }
+}
+
+impl<S: BuildHasher + Drop> Replier for CachedReader<S> {
+    ghost reader = { λ c. c };
+
+    fn reply_line(
+        &mut self,
+        alloc: Global,
+        name: &Source,
+        moment: &Moment,
+        line: &[u8],
+    ) -> Result<Vec<u8>, AllocError> {
+        CachedReader::reply_line(self, alloc, name, moment, line)
+    }
+}
+
+/// So many places, where their number is from 1 to 65,536.
+fn places_of(capacity: u32) -> Option<NonZeroUsize>
+    ensures none { IsNone result → ¬ IsCapacity capacity }
+    ensures some { IsSome result → IsCapacity capacity }
+{
+    if capacity > MOST_PLACES {
+        return None;
+    }
+    NonZeroUsize::new(capacity as usize)
+}
