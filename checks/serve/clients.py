@@ -1,0 +1,186 @@
+"""Clients of a live history: each is a process that asks over one connection after another, and keeps what it was told."""
+import os
+import pickle
+import random
+import time
+import traceback
+from collections import deque
+from typing import NamedTuple
+
+from server import Ended, Peer
+from verdicts import INTERNAL, Differences, edition_in, shown
+
+CHAPTER_SECONDS = 2.0
+MOST_LINES = 990_000
+LIVES = [1, 20, 1_000, 1_000, 30_000, 100_000, 400_000, MOST_LINES]
+BATCHES = [1, 5, 60, 200, 400]
+IN_FLIGHT = 2
+NO_EDITION = -1
+
+
+class Run(NamedTuple):
+    """What all clients of a run share; `told` has the last edition of a commit that was answered."""
+
+    port: int
+    chapters: list
+    started: float
+    seconds: float
+    connections: int
+    seed: int
+    folder: str
+    told: object
+
+    def passed(self):
+        """The seconds since the start."""
+        return time.monotonic() - self.started
+
+    def chapter(self):
+        """The number of the chapter that is now."""
+        return min(int(self.passed() / CHAPTER_SECONDS), len(self.chapters) - 1)
+
+
+class Counted(NamedTuple):
+    """What a client counted."""
+
+    replies: int
+    connections: int
+    wants_of_memory: int
+    differences: Differences
+
+
+class Pool:
+    """The requests of a chapter, twice in a row, so that each run of them is one piece of bytes."""
+
+    def __init__(self, number, requests):
+        self.number, self.size = number, len(requests)
+        lines = [request + b"\n" for request in requests] * 2
+        self.lines, self.text, self.places = lines, b"".join(lines), [0]
+        for line in lines:
+            self.places.append(self.places[-1] + len(line))
+        self.editions = [{} for _ in requests] * 2
+
+    def piece(self, first, end):
+        """The bytes of some requests in a row."""
+        return self.text[self.places[first] : self.places[end]]
+
+
+class Client:
+    """Asks the requests of the chapters, and keeps each different reply to each."""
+
+    def __init__(self, number, run):
+        self.number, self.run = number, run
+        self.dice = random.Random(run.seed * 1000 + number)
+        self.differences = Differences()
+        self.replies = self.connections = self.wants_of_memory = 0
+        self.pool = None
+        self.file = open(f"{run.folder}/{number}", "wb")
+
+    def turn_to(self, chapter):
+        """Keeps what was told in the chapter before, and goes on with this one."""
+        if self.pool:
+            pickle.dump((self.pool.number, self.pool.editions[: self.pool.size]), self.file)
+        self.pool = Pool(chapter, self.run.chapters[chapter].requests) if chapter is not None else None
+
+    def ask_all(self):
+        """Asks until the time is over."""
+        while self.run.passed() < self.run.seconds and self.connections < self.run.connections:
+            is_last = self.connections + 1 == self.run.connections
+            self.serve_out(MOST_LINES if is_last else self.dice.choice(LIVES))
+        self.turn_to(None)
+        self.file.close()
+
+    def serve_out(self, most):
+        """Asks at most so many lines on one connection."""
+        peer, waiting, last, left = Peer(self.run.port), deque(), 0, most
+        self.connections += 1
+        while True:
+            while left and len(waiting) < IN_FLIGHT and self.run.passed() < self.run.seconds:
+                waiting.append(self.put(peer, left))
+                left -= len(waiting[-1][1])
+            if not waiting:
+                break
+            pool, places, told = waiting.popleft()
+            last = self.look_at(pool, places, peer.take(len(places)), max(last, told))
+        if rest := peer.end():
+            self.differences.add(f"connection: it got more than its replies: {shown(rest)}")
+
+    def put(self, peer, left):
+        """Sends some requests in a row; which they are, and the edition that had been told before."""
+        chapter = self.run.chapter()
+        if not self.pool or self.pool.number != chapter:
+            self.turn_to(chapter)
+        pool = self.pool
+        count = min(left, self.dice.choice(BATCHES), pool.size)
+        first = self.dice.randrange(pool.size)
+        told = self.run.told.value
+        peer.put(pool.piece(first, first + count))
+        return pool, range(first, first + count), told
+
+    def look_at(self, pool, places, replies, last):
+        """Keeps replies, and looks whether an edition fell; the greatest edition so far."""
+        self.replies += len(replies)
+        for place, reply in zip(places, replies):
+            edition = pool.editions[place].get(reply)
+            if edition is None:
+                edition = self.learn(pool, place, reply)
+            if edition > last:
+                last = edition
+            elif edition < last and edition != NO_EDITION:
+                self.say_fall(pool.lines[place], edition, last)
+        return last
+
+    def say_fall(self, line, edition, last):
+        """An edition is below one that was on the connection, or that the desk had been told when the line was sent."""
+        self.differences.add(f"query: {shown(line.strip())}\n    edition {edition} came after {last} was told")
+
+    def learn(self, pool, place, reply):
+        """Keeps a reply that is new, and gives its edition; one that lacked memory is counted each time."""
+        if reply == INTERNAL:
+            self.wants_of_memory += 1
+            return NO_EDITION
+        edition = edition_in(reply)
+        edition = NO_EDITION if edition is None else edition
+        pool.editions[place][reply] = edition
+        return edition
+
+    def counted(self):
+        """What was counted."""
+        return Counted(self.replies, self.connections, self.wants_of_memory, self.differences)
+
+
+def be_client(number, run, line):
+    """What the process of a client does; `line` is told what was counted."""
+    client = Client(number, run)
+    try:
+        client.ask_all()
+    except Ended as ended:
+        client.differences.add(f"connection {client.connections} of client {number}: {ended}")
+    except Exception:
+        client.differences.add(f"client {number}: {traceback.format_exc()}")
+    line.send(client.counted())
+    line.close()
+    os._exit(0)
+
+
+def replies_kept(folder, clients):
+    """What clients kept, chapter by chapter: for each the replies to each request, of all clients together."""
+    files = [open(f"{folder}/{number}", "rb") for number in range(clients)]
+    heads = [next_kept(file) for file in files]
+    while any(heads):
+        chapter = min(head[0] for head in heads if head)
+        together = None
+        for number, head in enumerate(heads):
+            if head and head[0] == chapter:
+                kept = [set(editions) for editions in head[1]]
+                together = kept if together is None else [one | other for one, other in zip(together, kept)]
+                heads[number] = next_kept(files[number])
+        yield chapter, together
+
+
+def next_kept(file):
+    """The next chapter that a client kept; None at the end."""
+    try:
+        return pickle.load(file)
+    except EOFError:
+        file.close()
+        return None

@@ -1,0 +1,209 @@
+"""Starts lostd serve, and speaks with it over TCP."""
+import json
+import resource
+import select
+import signal
+import socket
+import struct
+import subprocess
+import tempfile
+
+NAME = "lost.example"
+PATIENCE = 60
+PIECE = 1 << 18
+COMMIT = b'{"commit":{}}'
+BAD_REQUEST = b'{"errors":{"error":"badRequest"}}'
+BAD_LINE = b'{"refused":{"code":1,"name":"BadLine"}}'
+
+
+class Ended(Exception):
+    """A connection ended, or was silent for too long, before all its replies came."""
+
+
+class Peer:
+    """One end of a connection: lines are put in, and their replies taken, while both go on at once."""
+
+    def __init__(self, port):
+        self.socket = socket.create_connection(("127.0.0.1", port), PATIENCE)
+        self.socket.setsockopt(socket.IPPROTO_TCP, socket.TCP_NODELAY, 1)
+        self.socket.setblocking(False)
+        self.poll = select.poll()
+        self.poll.register(self.socket, select.POLLIN)
+        self.port = self.socket.getsockname()[1]
+        self.to_send = memoryview(b"")
+        self.pieces, self.count = [], 0
+
+    def put(self, lines):
+        """Lines, each with its newline, are to be sent; as much as the system takes now is sent now."""
+        self.to_send = memoryview(bytes(self.to_send) + lines) if self.to_send else memoryview(lines)
+        self.send()
+
+    def send(self):
+        """Sends as much as the system takes now."""
+        try:
+            while self.to_send:
+                self.to_send = self.to_send[self.socket.send(self.to_send[:PIECE]) :]
+        except BlockingIOError:
+            pass
+        except OSError as error:
+            raise Ended(f"it could not be written: {error}") from None
+
+    def receive(self, patience):
+        """Waits until something was sent or received; the bytes that were received, or None."""
+        self.poll.modify(self.socket, select.POLLIN | (select.POLLOUT if self.to_send else 0))
+        ready = self.poll.poll(patience * 1000)
+        if not ready:
+            raise Ended(f"nothing came for {patience} seconds")
+        if self.to_send and ready[0][1] & select.POLLOUT:
+            self.send()
+        try:
+            return self.socket.recv(4 * PIECE)
+        except BlockingIOError:
+            return None
+        except OSError as error:
+            raise Ended(f"it could not be read: {error}") from None
+
+    def take(self, count, patience=PATIENCE):
+        """The next replies, so many, without their newlines."""
+        while self.count < count:
+            received = self.receive(patience)
+            if received == b"":
+                raise Ended("it was ended by the server")
+            if received:
+                self.pieces.append(received)
+                self.count += received.count(b"\n")
+        replies = b"".join(self.pieces).split(b"\n", count)
+        self.pieces = [replies.pop()]
+        self.count -= count
+        return replies
+
+    def ask(self, line):
+        """The reply to one line."""
+        return self.ask_all([line])[0]
+
+    def ask_all(self, lines):
+        """The replies to lines that are sent one behind the other."""
+        self.put(b"".join(line + b"\n" for line in lines))
+        return self.take(len(lines))
+
+    def end(self, patience=PATIENCE):
+        """Ends the lines; what is still received until the server ends the connection."""
+        while self.to_send:
+            received = self.receive(patience)
+            self.pieces.append(received or b"")
+        self.socket.shutdown(socket.SHUT_WR)
+        return self.rest(patience)
+
+    def rest(self, patience=PATIENCE):
+        """What is received until the server ends the connection."""
+        while (received := self.receive(patience)) != b"":
+            self.pieces.append(received or b"")
+        self.socket.close()
+        return b"".join(self.pieces)
+
+    def reset(self):
+        """Throws the connection away, so that the server finds it reset."""
+        self.socket.setsockopt(socket.SOL_SOCKET, socket.SO_LINGER, struct.pack("ii", 1, 0))
+        self.socket.close()
+
+
+def free_ports(count):
+    """So many ports that nobody listens on."""
+    sockets = [socket.create_server(("127.0.0.1", 0)) for _ in range(count)]
+    ports = [taken.getsockname()[1] for taken in sockets]
+    for taken in sockets:
+        taken.close()
+    return ports
+
+
+class Server:
+    """A server that runs. Used in a `with`, it is ended at the end in any case."""
+
+    def __init__(self, program, workers, connections, *more, megabytes=None):
+        self.queries, self.desk_port = free_ports(2)
+        self.workers, self.connections, self.made = workers, connections, 0
+        self.errors = tempfile.TemporaryFile()
+        words = ["lostd", "serve", "--name", NAME, *addresses(self.queries, self.desk_port)]
+        words += ["--workers", str(workers), "--connections", str(connections), *more]
+        self.process = subprocess.Popen(
+            words,
+            executable=program,
+            stdin=subprocess.DEVNULL,
+            stdout=subprocess.PIPE,
+            stderr=self.errors,
+            preexec_fn=lambda: limit_memory(megabytes),
+        )
+        self.first_line = self.process.stdout.readline()
+        if self.first_line != b"ready\n":
+            self.stop()
+            raise Ended(f"the server did not begin: {self.first_line!r} {self.said()}")
+
+    def __enter__(self):
+        return self
+
+    def __exit__(self, *_):
+        self.stop()
+
+    def connect(self):
+        """A query connection."""
+        self.made += 1
+        return Peer(self.queries)
+
+    def desk(self):
+        """The desk's connection."""
+        return Peer(self.desk_port)
+
+    def said(self):
+        """The lines on standard error so far."""
+        self.errors.seek(0)
+        return self.errors.read().decode().splitlines()
+
+    def use_up(self):
+        """Makes all query connections that are left."""
+        while self.made < self.connections:
+            peer = self.connect()
+            peer.end()
+
+    def finish(self, patience=PATIENCE):
+        """Waits for the end of the server; its status and its last lines."""
+        try:
+            output = self.process.communicate(timeout=patience)[0]
+        except subprocess.TimeoutExpired:
+            self.stop()
+            return None, b"it did not end"
+        return self.process.returncode, output
+
+    def signal(self, number):
+        """Sends the server a signal; the status with which it ends."""
+        self.process.send_signal(number)
+        return self.process.wait(PATIENCE)
+
+    def stop(self):
+        """Ends the server, if it runs."""
+        if self.process.poll() is None:
+            self.process.send_signal(signal.SIGKILL)
+            self.process.wait()
+        self.process.stdout.close()
+
+    def done(self, lines, faults):
+        """What is wrong with the end of the server, where so many lines and faults are due."""
+        wanted = (0, b"done lines=%d faults=%d\n" % (lines, faults))
+        ended = self.finish()
+        return [] if ended == wanted else [f"it ended with {ended} and not with {wanted}"]
+
+
+def addresses(queries, desk):
+    """The words that say on which ports of this machine a server listens."""
+    return ["--queries", f"127.0.0.1:{queries}", "--desk", f"127.0.0.1:{desk}"]
+
+
+def limit_memory(megabytes):
+    """Allows this process so many megabytes of addresses; None allows any number."""
+    if megabytes is not None:
+        resource.setrlimit(resource.RLIMIT_AS, (megabytes << 20, megabytes << 20))
+
+
+def edition_of(reply):
+    """The edition that a reply or a commit's answer names; None where it names none."""
+    ((_, members),) = json.loads(reply).items()
+    return members.get("edition")
