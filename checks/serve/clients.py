@@ -12,14 +12,19 @@ from verdicts import INTERNAL, Differences, edition_in, shown
 
 CHAPTER_SECONDS = 2.0
 MOST_LINES = 990_000
+# How many lines connections ask.
 LIVES = [1, 20, 1_000, 1_000, 30_000, 100_000, 400_000, MOST_LINES]
+SHORT_LIVES = [1, 20, 200, 1_000, 5_000]
 BATCHES = [1, 5, 60, 200, 400]
 IN_FLIGHT = 2
 NO_EDITION = -1
 
 
 class Run(NamedTuple):
-    """What all clients of a run share; `told` has the last edition of a commit that was answered."""
+    """What all clients of a run share; `told` has the last edition of a commit that was answered.
+
+    Where memory may be lacking, a reply may be internalError, and the server may end a connection.
+    """
 
     port: int
     chapters: list
@@ -29,6 +34,8 @@ class Run(NamedTuple):
     seed: int
     folder: str
     told: object
+    lives: list
+    may_lack_memory: bool = False
 
     def passed(self):
         """The seconds since the start."""
@@ -44,8 +51,10 @@ class Counted(NamedTuple):
 
     replies: int
     connections: int
-    wants_of_memory: int
     differences: Differences
+    replies_of_ended_well: int
+    wants_of_memory: int
+    ended_early: int
 
 
 class Pool:
@@ -71,7 +80,7 @@ class Client:
         self.number, self.run = number, run
         self.dice = random.Random(run.seed * 1000 + number)
         self.differences = Differences()
-        self.replies = self.connections = self.wants_of_memory = 0
+        self.replies = self.connections = self.replies_of_ended_well = self.wants_of_memory = self.ended_early = 0
         self.pool = None
         self.file = open(f"{run.folder}/{number}", "wb")
 
@@ -85,11 +94,18 @@ class Client:
         """Asks until the time is over."""
         while self.run.passed() < self.run.seconds and self.connections < self.run.connections:
             is_last = self.connections + 1 == self.run.connections
-            self.serve_out(MOST_LINES if is_last else self.dice.choice(LIVES))
+            before = self.replies
+            try:
+                self.ask_on_one(MOST_LINES if is_last else self.dice.choice(self.run.lives))
+                self.replies_of_ended_well += self.replies - before
+            except Ended:
+                self.ended_early += 1
+                if not self.run.may_lack_memory:
+                    raise
         self.turn_to(None)
         self.file.close()
 
-    def serve_out(self, most):
+    def ask_on_one(self, most):
         """Asks at most so many lines on one connection."""
         peer, waiting, last, left = Peer(self.run.port), deque(), 0, most
         self.connections += 1
@@ -135,7 +151,7 @@ class Client:
 
     def learn(self, pool, place, reply):
         """Keeps a reply that is new, and gives its edition; one that lacked memory is counted each time."""
-        if reply == INTERNAL:
+        if reply == INTERNAL and self.run.may_lack_memory:
             self.wants_of_memory += 1
             return NO_EDITION
         edition = edition_in(reply)
@@ -145,7 +161,10 @@ class Client:
 
     def counted(self):
         """What was counted."""
-        return Counted(self.replies, self.connections, self.wants_of_memory, self.differences)
+        return Counted(
+            self.replies, self.connections, self.differences, self.replies_of_ended_well, self.wants_of_memory,
+            self.ended_early,
+        )
 
 
 def be_client(number, run, line):

@@ -4,7 +4,7 @@ import tempfile
 import time
 
 import search
-from clients import CHAPTER_SECONDS, Run, be_client, replies_kept
+from clients import CHAPTER_SECONDS, LIVES, Run, be_client, replies_kept
 from drawing import history
 from mappings import holds
 from server import Server
@@ -88,7 +88,7 @@ def run_live(program, seconds, clients, seed):
     with tempfile.TemporaryDirectory() as folder, Server(program, WORKERS, clients * each) as server:
         desk = server.desk()
         told = FORK.RawValue("Q", 0)
-        run = Run(server.queries, chapters, time.monotonic(), seconds, each, seed, folder, told)
+        run = Run(server.queries, chapters, time.monotonic(), seconds, each, seed, folder, told, LIVES)
         started = start_clients(run, clients)
         desk_lines = play_desk(server, run, desk)
         counted = [line.recv() for _, line in started]
@@ -97,27 +97,22 @@ def run_live(program, seconds, clients, seed):
         passed = run.passed()
         server.made = sum(one.connections for one in counted)
         books = Books()
-        end_well(server, desk, sum(one.replies for one in counted), books.differences)
+        desk.end()
+        server.use_up()
+        for wrong in [*server.done(sum(one.replies for one in counted), 0), *server.said()]:
+            books.differences.add(f"end: {wrong}")
         return tell(books, desk_lines, counted, passed, chapters, folder)
 
 
-def end_well(server, desk, lines, differences):
-    """Uses up the connections that are left, and looks at the end of the server."""
-    desk.end()
-    server.use_up()
-    for wrong in [*server.done(lines, 0), *server.said()]:
-        differences.add(f"end: {wrong}")
-
-
-def tell(books, desk_lines, counted, passed, chapters, folder):
+def tell(books, desk_lines, counted, passed, chapters, folder, may_lack_memory=False):
     """Judges all replies, and prints the counts; whether there was no difference."""
     begun = time.monotonic()
     for line, reply in desk_lines:
-        books.add(line, reply)
+        books.add(line, reply, may_lack_memory)
     different = judge(books, chapters, folder, len(counted))
     for one in counted:
         books.differences.include(one.differences)
-    replies, connections = (sum(one[place] for one in counted) for place in (0, 1))
+    replies, connections = sum(one.replies for one in counted), sum(one.connections for one in counted)
     print(
         f"{replies} replies in {passed:.0f} seconds, {replies / passed:.0f} a second, on {connections} connections of "
         f"{len(counted)} clients to {WORKERS} workers"

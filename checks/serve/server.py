@@ -1,5 +1,6 @@
 """Starts lostd serve, and speaks with it over TCP."""
 import json
+import os
 import resource
 import select
 import signal
@@ -132,6 +133,7 @@ class Server:
             stdout=subprocess.PIPE,
             stderr=self.errors,
             preexec_fn=lambda: limit_memory(megabytes),
+            env=os.environ | ({"MALLOC_ARENA_MAX": "1"} if megabytes else {}),
         )
         self.first_line = self.process.stdout.readline()
         if self.first_line != b"ready\n":

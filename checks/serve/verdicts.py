@@ -12,9 +12,9 @@ from strict_json import NoJson, read_json, write_json
 EDITION = re.compile(rb'\{"[A-Za-z]+":\{"edition":([0-9]+)[,}]')
 INTERNAL = b'{"errors":{"error":"internalError"}}'
 MEMORY = b'{"refused":{"code":20,"name":"Memory"}}'
-WANTS_OF_MEMORY = (INTERNAL, MEMORY)
 MOST_SHOWN = 5
 MOST_TEXT = 600
+LARGE = 10_000
 
 
 def now():
@@ -49,14 +49,13 @@ class Books:
         self.oracle = Replay(NAME, moment or now())
         self.by_edition = {0: self.oracle.published}
         self.differences = Differences()
-        self.lines = self.accepted = self.wants_of_memory = 0
+        self.lines = self.accepted = 0
         self.values = {}
 
     def add(self, line, reply, may_lack_memory=False):
         """A desk line and its reply; a line that was refused for want of memory changes nothing."""
         self.lines += 1
-        if may_lack_memory and reply in WANTS_OF_MEMORY:
-            self.wants_of_memory += 1
+        if may_lack_memory and reply == MEMORY:
             return
         wanted = self.wanted(line)
         self.accepted += wanted.startswith(b'{"staged"')
@@ -65,7 +64,9 @@ class Books:
 
     def wanted(self, line):
         """The oracle's reply to a line at the desk's address, where whatever is no desk line is a bad one."""
-        value = read_or_none(line)
+        if len(line) > LARGE and line not in self.values:
+            self.values[line] = read_or_none(line)
+        value = self.values[line] if line in self.values else read_or_none(line)
         if not is_desk_line(value):
             return BAD_LINE
         return write_json(self.oracle.desk_reply(value)).encode()
