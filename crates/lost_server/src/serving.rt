@@ -9,12 +9,16 @@ use crate::peer::{Incoming, Outgoing, ends};
 use crate::run_fault::{RunFault, fault_of_opening};
 use crossbeam_channel::{Receiver, Sender, bounded};
 use lost_book::Limits;
-use lost_desk::{Desk, Reader, Readers, open_desk};
+use lost_desk::{Desk, Readers, open_desk};
 use lost_mapping::Source;
-use lost_worker::{Connection, Counts, Gate, ServeError, Turns, Watched, serve_desk, worker_loop};
+use lost_worker::{
+    CachedReader, Connection, Counts, Gate, ServeError, Turns, Watched, serve_desk, worker_loop,
+};
 use std::alloc::{AllocError, Global};
+use std::hash::RandomState;
 use std::io::Eprint;
 use std::net::{SocketAddr, TcpListener, TcpStream};
+use std::random::RandomSource;
 use std::sync::{Arc, Wait};
 use std::thread;
 use std::thread::{JoinHandle, Threads};
@@ -38,6 +42,9 @@ type Queries<R> = Receiver<Query<R>>;
 /// How many query connections may wait for a worker.
 const MAX_WAITING: usize = 64;
 
+/// How many places each worker keeps what holds them of.
+const PLACES: u32 = 1_024;
+
 /// What all threads of a server share.
 #[derive(Drop)]
 struct Shared<'n, R: Clock + Eprint + Drop, G> {
@@ -52,7 +59,7 @@ struct Shared<'n, R: Clock + Eprint + Drop, G> {
 /// What one worker has.
 #[derive(Drop)]
 struct Working<R: Clock + Eprint + Drop> {
-    reader: Reader,
+    reader: CachedReader<RandomState>,
     queries: Queries<R>,
 }
 
@@ -65,8 +72,12 @@ struct Working<R: Clock + Eprint + Drop> {
 /// # Errors
 ///
 /// [`RunFault::Workers`] unless there are 1 to 64 workers. [`RunFault::Accept`] where a listener was given up, once all
-/// connections have ended. [`RunFault::Memory`] where a growth, a reader's place or a thread was refused.
-pub fn serve<R: Threads + Wait + Clock + Eprint + Clone + Send + Sync, G: Gate + Sync>(
+/// connections have ended. [`RunFault::Memory`] where a growth, a reader's place, a thread or the random bytes that the
+/// caches hash by were refused.
+pub fn serve<
+    R: Threads + Wait + Clock + Eprint + RandomSource + Clone + Send + Sync,
+    G: Gate + Sync,
+>(
     rt: &R,
     alloc: Global,
     name: &Source,
@@ -122,7 +133,10 @@ fn notices_of<R: Clock + Eprint + Clone>(
 }
 
 /// Serves all connections, each reader by a worker of its own.
-fn serve_all<R: Threads + Wait + Clock + Eprint + Drop + Send + Sync, G: Gate + Sync>(
+fn serve_all<
+    R: Threads + Wait + Clock + Eprint + RandomSource + Drop + Send + Sync,
+    G: Gate + Sync,
+>(
     shared: &Shared<'_, R, G>,
     desk: &mut Desk,
     readers: Readers,
@@ -134,7 +148,7 @@ fn serve_all<R: Threads + Wait + Clock + Eprint + Drop + Send + Sync, G: Gate + 
 {
     // Further connections wait to be accepted.
     let (sender, queries) = bounded(shared.alloc, MAX_WAITING)?;
-    let workers = workers_of(shared.alloc, readers, queries)?;
+    let workers = workers_of(shared.rt, shared.alloc, readers, queries)?;
     in_threads(
         shared,
         workers,
@@ -146,8 +160,10 @@ fn serve_all<R: Threads + Wait + Clock + Eprint + Drop + Send + Sync, G: Gate + 
     )
 }
 
-/// A worker for each reader, all of which take query connections from one channel.
-fn workers_of<R: Clock + Eprint + Drop>(
+/// A worker for each reader, all of which take query connections from one channel. Each keeps places by hashes of its
+/// own, which no client knows.
+fn workers_of<R: Clock + Eprint + RandomSource + Drop>(
+    rt: &R,
     alloc: Global,
     mut readers: Readers,
     queries: Queries<R>,
@@ -156,6 +172,12 @@ fn workers_of<R: Clock + Eprint + Drop>(
     for _ in 0..MAX_WAITING {
         let Some(reader) = readers.take() else {
             break;
+        };
+        let Ok(hasher) = RandomState::new(rt) else {
+            return Err(AllocError);
+        };
+        let Ok(reader) = CachedReader::with_hasher(alloc, reader, PLACES, hasher) else {
+            return Err(AllocError);
         };
         workers.push(Working {
             reader,

@@ -15,6 +15,7 @@ use serving::ServeOrder;
 use std::env;
 use std::net::{Net, TcpListener, TcpStream};
 use std::process::ExitCode;
+use std::random::RandomSource;
 use std::rt::Env;
 use std::sync::Wait;
 use std::thread::Threads;
@@ -46,6 +47,7 @@ fn run<
         + Threads
         + Wait
         + Clock
+        + RandomSource
         + Clone
         + Send
         + Sync,

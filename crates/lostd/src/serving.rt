@@ -6,6 +6,7 @@ use lost_mapping::Source;
 use lost_server::{Manners, NoGate, RunFault, ServeError, serve};
 use std::io::ErrorKind;
 use std::net::{Net, TcpListener, TcpStream};
+use std::random::RandomSource;
 use std::sync::Wait;
 use std::thread::Threads;
 use std::time::{Clock, Duration};
@@ -57,6 +58,7 @@ pub(crate) fn serve_addresses<
         + Threads
         + Wait
         + Clock
+        + RandomSource
         + Clone
         + Send
         + Sync,

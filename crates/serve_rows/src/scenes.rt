@@ -8,6 +8,7 @@ use lost_server::{Counts, Gate, Manners, NoGate, RunFault, serve};
 use std::alloc::Global;
 use std::io;
 use std::net::{Net, TcpListener, TcpStream};
+use std::random::RandomSource;
 use std::sync::Wait;
 use std::sync::atomic::AtomicU64;
 use std::thread::{Threads, join, map_indices};
@@ -20,7 +21,10 @@ const IDLE: u64 = 30;
 const CLIENTS: usize = 8;
 
 /// Serves so many connections by so many workers.
-fn serve_bench<R: Threads + Wait + Clock + Eprint + Clone + Send + Sync, G: Gate + Sync>(
+fn serve_bench<
+    R: Threads + Wait + Clock + Eprint + RandomSource + Clone + Send + Sync,
+    G: Gate + Sync,
+>(
     rt: &R,
     alloc: Global,
     bench: &Bench,
@@ -64,6 +68,7 @@ pub(crate) fn loopback<
         + Clock
         + Eprint
         + Print
+        + RandomSource
         + Clone
         + Send
         + Sync
@@ -108,6 +113,7 @@ pub(crate) fn gate<
         + Clock
         + Eprint
         + Print
+        + RandomSource
         + Clone
         + Send
         + Sync
@@ -155,6 +161,7 @@ pub(crate) fn no_workers<
         + Clock
         + Eprint
         + Print
+        + RandomSource
         + Clone
         + Send
         + Sync
@@ -173,6 +180,7 @@ pub(crate) fn eight_clients<
         + Clock
         + Eprint
         + Print
+        + RandomSource
         + Clone
         + Send
         + Sync
