@@ -18,6 +18,8 @@ LONG_AGO = "2001-01-01T00:00:00Z"
 EXPIRES = {"NO-EXPIRATION": 12, "NO-CACHE": 3, LONG_AGO: 1, "9000-01-01T00:00:00.5Z": 2}
 MOST_REMEMBERED = 60
 FIRST_EDITS = 40
+# A wide chapter is one of ten: it asks about many places, and has few commits.
+WIDE, WIDE_GROUPS, WIDE_TOWNS, WIDE_REQUESTS = 4, 6, 10, 300
 
 
 class Chapter(NamedTuple):
@@ -58,6 +60,10 @@ class Endless(Session):
         """A request, or what became of one."""
         return self.promised(self.requests.request)
 
+    def request_lines(self, count):
+        """So many of them."""
+        return [self.request_line() for _ in range(count)]
+
     def desk_line(self):
         """A desk line, or what became of one."""
         return self.promised(self.edits.edit)
@@ -86,18 +92,28 @@ def names_twice(line):
 
 
 def history(seed, chapters, requests, groups):
-    """So many chapters, each of so many requests and groups; the first begins with many edits."""
+    """So many chapters, each of so many requests and groups; the first begins with many edits, and some are wide."""
     session = Endless(seed)
     told = []
     for number in range(chapters):
         if number % 4 == 3:
             session.move()
         session.forget()
-        drawn = [session.group() for _ in range(groups)]
+        is_wide = number % 10 == WIDE
+        drawn = [session.group() for _ in range(WIDE_GROUPS if is_wide else groups)]
         if number == 0:
             drawn.insert(0, [session.desk_line() for _ in range(FIRST_EDITS)] + [COMMIT])
-        told.append(Chapter([session.request_line() for _ in range(requests)], drawn))
+        told.append(Chapter(wide_requests(session) if is_wide else session.request_lines(requests), drawn))
     return told
+
+
+def wide_requests(session):
+    """Requests about many more places than a worker may keep."""
+    lines = []
+    for _ in range(WIDE_TOWNS):
+        session.move()
+        lines += session.request_lines(WIDE_REQUESTS)
+    return lines
 
 
 def long_requests():

@@ -17,7 +17,7 @@ from strict_json import write_json
 from verdicts import INTERNAL, MEMORY, Books
 
 WORKERS = 4
-REQUESTS = 40
+REQUESTS, MOST_REQUESTS = 40, 300
 GROUPS = 30
 CONNECTIONS_A_SECOND = 20
 MOST_LARGE = 1_500
@@ -108,7 +108,8 @@ def chapters_of(seed, seconds):
     for chapter in history(seed, int(seconds / CHAPTER_SECONDS) + 1, REQUESTS, GROUPS):
         keys = [dice.choice([0, 1, 2, 5, 10, 20, 50]) for _ in range(LARGE_ASKED)]
         large = [b'{"getServiceBoundary":{"key":"large%d"}}' % key for key in keys]
-        requests = chapter.requests + large + dice.choice([[], long_requests()])
+        usual = dice.sample(chapter.requests, min(len(chapter.requests), MOST_REQUESTS))
+        requests = usual + large + dice.choice([[], long_requests()])
         chapters.append(Chapter(dice.sample(requests, len(requests)), chapter.groups))
     return chapters
 
