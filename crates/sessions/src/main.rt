@@ -1,18 +1,29 @@
 //! Replays each session of the folder that it is run in, and says whether the replies are those that are expected:
-//! `NAME.jsonl` has the lines, `NAME.expected` the replies. It ends with status 1 where some session differs.
+//! `NAME.jsonl` has the lines, `NAME.expected` the replies. Then it has each answered by a desk and a reader that keeps 1, 2
+//! and 1,024 places. It ends with status 1 where some session differs.
 #![tactic(auto)]
 
+mod cached;
 mod names;
 mod session;
 
+use lost_mapping::{Moment, Source};
+use std::alloc::AllocError;
 use std::process::ExitCode;
 use std::rt::Files;
+use std::sync::Wait;
 use std::{fs, io};
 
+/// How many places the readers keep.
+const PLACES: [u32; 3] = [1, 2, 1_024];
+
 fn main(rt: HostRuntime) -> io::Result<ExitCode> {
+    let Some((server, moment)) = session::setting(rt.alloc()) else {
+        return Err(AllocError.into());
+    };
     let mut differ = false;
     for name in &names::names(&rt)? {
-        if !is_as_expected(&rt, name.as_str())? {
+        if !is_as_expected(&rt, name.as_str(), &server, &moment)? {
             differ = true;
         }
     }
@@ -23,15 +34,45 @@ fn main(rt: HostRuntime) -> io::Result<ExitCode> {
     })
 }
 
-/// Replays one session, and says how it went.
-fn is_as_expected<R: Files + Print + AllocGlobal>(rt: &R, name: &str) -> io::Result<bool> {
-    let lines = fs::read(rt, format!(in rt.alloc(); "{name}.jsonl")?.as_str())?;
-    let expected = fs::read(rt, format!(in rt.alloc(); "{name}.expected")?.as_str())?;
-    let Some(replies) = session::replies(rt.alloc(), lines.as_slice()) else {
-        println!(rt; "{name}: the replay ended in a fault")?;
+/// Has one session answered in each way, and says how it went.
+fn is_as_expected<R: Files + Wait + Print + AllocGlobal>(
+    rt: &R,
+    name: &str,
+    server: &Source,
+    moment: &Moment,
+) -> io::Result<bool> {
+    let alloc = rt.alloc();
+    let lines = fs::read(rt, format!(in alloc; "{name}.jsonl")?.as_str())?;
+    let expected = fs::read(rt, format!(in alloc; "{name}.expected")?.as_str())?;
+    let replayed = session::replies(alloc, lines.as_slice(), server, moment);
+    if !is_same(rt, name, "replayed", replayed, expected.as_slice())? {
+        return Ok(false);
+    }
+    for places in PLACES {
+        let replies = cached::replies(rt, alloc, lines.as_slice(), server, moment, places);
+        if !is_same(rt, name, "with places kept", replies, expected.as_slice())? {
+            return Ok(false);
+        }
+    }
+    println!(rt; "{name}: as expected")?;
+    Ok(true)
+}
+
+/// Whether the replies are those that are expected; says so where they are not.
+fn is_same<R: Print>(
+    rt: &R,
+    name: &str,
+    how: &str,
+    replies: Option<Vec<u8>>,
+    expected: &[u8],
+) -> io::Result<bool> {
+    let Some(replies) = replies else {
+        println!(rt; "{name}, {how}: the run ended in a fault")?;
         return Ok(false);
     };
-    let same = replies.as_slice() == expected.as_slice();
-    println!(rt; "{name}: {}", if same { "as expected" } else { "differs" })?;
+    let same = replies.as_slice() == expected;
+    if !same {
+        println!(rt; "{name}, {how}: differs")?;
+    }
     Ok(same)
 }

@@ -12,15 +12,20 @@ const NAME: &[u8] = b"lost.example";
 /// The moment of every session.
 const NOW: &[u8] = b"2026-01-01T00:00:00Z";
 
-/// The replies to the lines of a session, or `None` where the replay ends in a fault.
-pub(crate) fn replies(alloc: Global, lines: &[u8]) -> Option<Vec<u8>> {
+/// The server's name and the moment of every session.
+pub(crate) fn setting(alloc: Global) -> Option<(Source, Moment)> {
     let name = Source::parse(alloc, NAME).ok()?;
     let moment = Stamp::parse(alloc, NOW).ok()?.moment();
-    replies_at(alloc, lines, &name, &moment)
+    Some((name, moment))
 }
 
 /// The replies of the server of a name at a moment, or `None` where the replay ends in a fault.
-fn replies_at(alloc: Global, lines: &[u8], name: &Source, moment: &Moment) -> Option<Vec<u8>>
+pub(crate) fn replies(
+    alloc: Global,
+    lines: &[u8],
+    name: &Source,
+    moment: &Moment,
+) -> Option<Vec<u8>>
     ensures { IfSome result (λ text. AreReplies name.now moment.now lines.now text.items) }
 {
     let mut input = Watched::new(lines);
