@@ -4,13 +4,13 @@ use std::thread::sleep;
 use std::time::{Clock, Duration};
 
 /// How often in a row an accept may fail before the listener is given up.
-const MAX_ATTEMPTS: u32 = 1_000;
+const MAX_ATTEMPTS: u32 = 360_000;
 
 /// How long to wait after an accept that failed, as it does where too many files are open, in milliseconds.
 const PAUSE: u64 = 10;
 
-/// Waits for the next connection. An accept that fails is made again after a pause; after 1,000 failures in a row, some
-/// ten seconds, the listener is given up.
+/// Waits for the next connection. An accept that fails is made again after a pause; after 360,000 failures in a row, an
+/// hour, the listener is given up.
 pub(crate) fn accept<R: Clock>(rt: &R, listener: &TcpListener) -> Option<(TcpStream, SocketAddr)> {
     for _ in 0..MAX_ATTEMPTS {
         if let Ok(accepted) = listener.accept() {

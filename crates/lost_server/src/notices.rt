@@ -48,6 +48,14 @@ impl<R: Clock + Eprint + Drop> Notices<R> {
         }
     }
 
+    /// Says that a listener was given up.
+    pub(crate) fn say_of_listener(&self) {
+        // Where standard error fails, the status still tells.
+        let _said = self.rt.eprint(
+            "lostd: no more connections could be accepted: the server ends when those that stand have ended\n",
+        );
+    }
+
     /// Says a line in one piece. One for which there is no memory is not said; where standard error fails, nothing is.
     fn say(&self, line: Result<String, AllocError>) {
         if let Ok(line) = line {

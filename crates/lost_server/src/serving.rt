@@ -273,6 +273,7 @@ fn serve_desk_listener<R: Wait + Clock + Eprint + Drop, G>(
     desk: &mut Desk,
 ) -> bool {
     let Some((stream, address)) = accept(shared.rt, listener) else {
+        shared.notices.say_of_listener();
         return false;
     };
     if let Err(fault) = serve_desk_stream(shared.rt, shared.alloc, &stream, desk) {
@@ -315,6 +316,7 @@ fn hand_over_all<R: Wait + Clock + Eprint + Drop, G>(
     let mut counts = Counts::default();
     for number in 1..=u64::from(connections) {
         let Some((stream, address)) = accept(shared.rt, listener) else {
+            shared.notices.say_of_listener();
             return Err(RunFault::Accept);
         };
         if !hand_over(shared, sender, stream, number, address) {
