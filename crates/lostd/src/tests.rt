@@ -35,7 +35,11 @@ fn words(alloc: Global, line: &str) -> Result<Vec<String>, AllocError> {
 /// Does what a command line says, and gives the exit status as it is shown.
 fn ended(console: &Console, alloc: Global, line: &str) -> Result<String, Fail> {
     let words = words(alloc, line)?;
-    let code: ExitCode = end(console, obey(console, words.as_slice()).map(|_| ()));
+    let outcome = match obey(console, words.as_slice()) {
+        Ok(_) => Ok(()),
+        Err(trouble) => Err(trouble),
+    };
+    let code: ExitCode = end(console, outcome);
     Ok(format!(in alloc; "{code:?}")?)
 }
 
