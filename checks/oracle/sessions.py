@@ -42,15 +42,17 @@ THEMES = {
 class Session:
     """A session of a seed: name, now and lines."""
 
+    themes, kind_of_ground, kind_of_edits = THEMES, Ground, Edits
+
     def __init__(self, seed):
         self.dice = dice = Dice(seed)
         self.name = dice.choice([SERVER_NAMES[0], dice.choice(SERVER_NAMES)])
         self.now = dice.choice([MOMENTS[0], dice.choice(MOMENTS)])
-        self.theme = THEMES[dice.by_weight({name: theme.weight for name, theme in THEMES.items()})]
-        self.ground = Ground(dice, self.theme.is_grid)
+        self.theme = self.themes[dice.by_weight({name: theme.weight for name, theme in self.themes.items()})]
+        self.ground = self.kind_of_ground(dice, self.theme.is_grid)
         self.town = Town(dice)
         self.services = dice.sample(SERVICES[:4], dice.choice([1, 2] if self.theme.is_dense else [1, 2, 3]))
-        self.edits, self.requests = Edits(self), Requests(self)
+        self.edits, self.requests = self.kind_of_edits(self), Requests(self)
         with_blanks = dice.chance(0.3)
         self.lines = [self.line(value, with_blanks) for value in self.values()]
         self.given = b"\n".join(self.lines) + dice.choice([b"\n"] * 9 + [b""])

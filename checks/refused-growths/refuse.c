@@ -3,8 +3,11 @@
 //
 // REFUSE is the number of the growth that is refused, from 1; with no such growth none is. Where COUNT is set, the number
 // of growths stands on standard error at the end.
+#define _GNU_SOURCE
 #include <stdio.h>
 #include <stdlib.h>
+#include <sys/syscall.h>
+#include <unistd.h>
 
 extern void *__libc_malloc(size_t size);
 extern void *__libc_realloc(void *block, size_t size);
@@ -24,12 +27,20 @@ __attribute__((destructor)) static void end(void)
         fprintf(stderr, "growths %ld\n", made);
 }
 
+// A program with threads ends so, and no destructor is called.
+void _exit(int status)
+{
+    end();
+    syscall(SYS_exit_group, status);
+    __builtin_unreachable();
+}
+
 void *malloc(size_t size)
 {
-    return ++made == refused ? NULL : __libc_malloc(size);
+    return __atomic_add_fetch(&made, 1, __ATOMIC_RELAXED) == refused ? NULL : __libc_malloc(size);
 }
 
 void *realloc(void *block, size_t size)
 {
-    return ++made == refused ? NULL : __libc_realloc(block, size);
+    return __atomic_add_fetch(&made, 1, __ATOMIC_RELAXED) == refused ? NULL : __libc_realloc(block, size);
 }

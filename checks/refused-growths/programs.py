@@ -1,0 +1,255 @@
+"""Programs of rows, in which each growth of memory is refused in turn."""
+import os
+import re
+import subprocess
+import sys
+from collections import Counter
+
+from serving import Wrong
+
+HERE = os.path.dirname(os.path.realpath(__file__))
+TOP = os.path.dirname(os.path.dirname(HERE))
+DESK_LINE = re.compile(rb'\s*\{\s*"(publish|replace|withdraw|commit)"')
+MARK = b"memory ran out"
+NOT_OPENED = b"open: 2"
+# A question, an edit that the rows of desk_rows do not have, and a commit.
+FURTHER = [
+    b'{"findService":{"location":[{"id":"p","pos":[5000000,5000000],"profile":"geodetic-2d"}],'
+    b'"service":"urn:service:sos.police"}}',
+    b'{"publish":{"expires":"NO-EXPIRATION","key":"D-1","lastUpdated":"2025-12-01T00:00:00Z",'
+    b'"service":"urn:service:sos.fire","serviceBoundary":[{"polygon":[[0,0],[0,10000000],[10000000,10000000],'
+    b'[10000000,0],[0,0]],"profile":"geodetic-2d"}],"source":"map.example","sourceId":"D","uri":["sip:D@map.example"]}}',
+    b'{"commit":{}}',
+]
+# What index_rows says of a refused call, with the answer of the index after it, and of the same call again.
+REFUSED = {
+    b"first put refused:": [b"first put again: 1"],
+    b"second put refused: 1": [b"second put again: 1 2"],
+    b"add refused: 1 2": [b"add again: 1 2"],
+    b"holding refused": [],
+}
+# What an empty book answers to the questions of book_rows.
+EMPTY = b"edition 0, held 0, keys - - - - -, not implemented, holding, at, defaults, of service, below"
+
+
+def call(words, library, refused, count=False, given=b"", folder=None):
+    """Runs a program in which one growth is refused; 0 refuses none."""
+    variables = {"LD_PRELOAD": library, "REFUSE": str(refused)}
+    if count:
+        variables["COUNT"] = "1"
+    return subprocess.run(words, input=given, env=variables, cwd=folder, capture_output=True, timeout=60)
+
+
+def growths(ran):
+    """How many growths a run had."""
+    return int(ran.stderr.split()[-1])
+
+
+def lines_of(text):
+    lines = text.split(b"\n")
+    return lines[:-1] if lines[-1] == b"" else lines
+
+
+class Program:
+    """A program, with what it is given and what it must write."""
+
+    def __init__(self, crate, library):
+        self.words = [f"{TOP}/crates/{crate}/out/{crate}"]
+        if not os.path.exists(self.words[0]):
+            sys.exit(f"{self.words[0]} is not there: run `rt run` in crates/{crate} first")
+        self.library = library
+        self.given = b""
+        if os.path.exists(f"{TOP}/crates/{crate}/stdin"):
+            with open(f"{TOP}/crates/{crate}/stdin", "rb") as file:
+                self.given = file.read()
+        with open(f"{TOP}/crates/{crate}/stdout", "rb") as file:
+            self.wanted = file.read()
+
+    def judge(self, refused):
+        """In which way the program ends where this growth is refused."""
+        ran = call(self.words, self.library, refused, given=self.given)
+        if ran.returncode == 0 and ran.stdout == self.wanted:
+            return "not needed"
+        if ran.returncode == 1 and b"memory" in ran.stderr.lower() and self.wanted.startswith(ran.stdout):
+            return "memory ran out"
+        raise Wrong(f"growth {refused}: status {ran.returncode}, {ran.stdout[-200:]!r}, {ran.stderr!r}")
+
+    def sweep(self):
+        ran = call(self.words, self.library, 0, count=True, given=self.given)
+        if ran.stdout != self.wanted:
+            raise Wrong("the text differs with no growth refused")
+        made = growths(ran)
+        return made, Counter(self.judge(number) for number in range(1, made + 1))
+
+
+class Desk(Program):
+    """The program desk_rows, which answers a refused line and goes on."""
+
+    def __init__(self, library):
+        super().__init__("desk_rows", library)
+        self.lines = lines_of(self.given)
+        self.answers = lines_of(self.wanted)
+        self.first = len(self.answers) - len(self.lines)
+
+    def run(self, lines, refused=0):
+        given = b"".join(line + b"\n" for line in lines)
+        return lines_of(call(self.words, self.library, refused, given=given).stdout)
+
+    def judge(self, refused):
+        """In which way the program ends where this growth is refused."""
+        ran = call(self.words, self.library, refused, given=self.given)
+        answers = lines_of(ran.stdout)
+        if ran.returncode == 0 and answers == self.answers[: self.first - 1] + [NOT_OPENED]:
+            return "not opened"
+        if ran.returncode != 0 or MARK not in answers:
+            return super().judge(refused)
+        if answers.count(MARK) != 1 or len(answers) != len(self.answers):
+            raise Wrong(f"growth {refused}: {answers}")
+        place = answers.index(MARK)
+        self.judge_again(refused, place)
+        return self.judge_after(refused, place)
+
+    def judge_again(self, refused, place):
+        """The marked line, given once more, has its answer, and all others have theirs."""
+        number = place - self.first
+        again = self.run(self.lines[: number + 1] + self.lines[number:], refused)
+        if again != self.answers[:place] + [MARK] + self.answers[place:]:
+            raise Wrong(f"growth {refused}: given once more, line {number + 1} gives {again}")
+
+    def judge_after(self, refused, place):
+        """What comes behind the marked line is answered as though it had not been there. Gives the kind of line."""
+        number = place - self.first
+        after = self.run(self.lines[: number + 1] + FURTHER, refused)
+        without = self.run(self.lines[:number] + FURTHER)
+        if after != without[:place] + [MARK] + without[place:]:
+            raise Wrong(f"growth {refused}: line {number + 1} is marked, and what follows gives {after}")
+        if not self.lines[number].startswith(b'{"commit"'):
+            return "another line answered memory ran out"
+        if place == self.answers.index(b"committed, edition 3") and not (
+            b'"edition":1,' in without[-3] and without[-2:] == [b"staged, pending 3", b"committed, edition 4"]
+        ):
+            raise Wrong(f"growth {refused}: the second pair is not committed, and then {without[-3:]}")
+        return f"not {self.answers[place].decode()}"
+
+
+class Cache(Program):
+    """The program cache_rows, which answers a refused line and goes on: a desk line once, a question by two readers."""
+
+    def __init__(self, library):
+        super().__init__("cache_rows", library)
+        self.lines = lines_of(self.given)
+        self.answers = lines_of(self.wanted)
+        # For each answer the number of its line; none for what is said at the beginning and at the end of a part.
+        self.numbers = [None, None]
+        for number, line in enumerate(self.lines):
+            is_question = line != b"next" and not DESK_LINE.match(line)
+            self.numbers += [None] * 4 if line == b"next" else [number] * (2 if is_question else 1)
+        self.numbers += [None, None]
+        end = next(place for place, line in enumerate(self.answers) if line.startswith(b"finds "))
+        self.first_part = self.answers[: end + 1]
+
+    def run(self, given, refused=0):
+        return call(self.words, self.library, refused, given=given).stdout
+
+    def is_same(self, got, wanted):
+        """Whether two outputs are the same but for the counts."""
+        return len(got) == len(wanted) and all(
+            one == other or one.startswith((b"hits ", b"finds ")) for one, other in zip(got, wanted)
+        )
+
+    def judge(self, refused):
+        """In which way the program ends where this growth is refused."""
+        ran = call(self.words, self.library, refused, given=self.given)
+        answers = lines_of(ran.stdout)
+        # A desk that is not opened reads no line: the next one reads them.
+        if answers in ([NOT_OPENED, *self.first_part], [*self.first_part, NOT_OPENED]):
+            return "not opened"
+        if ran.returncode == 0 and answers != self.answers and self.is_same(answers, self.answers):
+            return "a place not kept"
+        if ran.returncode != 0 or MARK not in answers:
+            return super().judge(refused)
+        place = answers.index(MARK)
+        number = self.numbers[place]
+        if answers.count(MARK) != 1 or number is None:
+            raise Wrong(f"growth {refused}: {answers}")
+        if DESK_LINE.match(self.lines[number]):
+            others = b"".join(line + b"\n" for line in self.lines[:number] + self.lines[number + 1 :])
+            wanted = lines_of(self.run(others))
+            kind = "desk line"
+        else:
+            # One of the two readers, or the line before either was asked.
+            both = len(self.answers) - len(answers)
+            wanted = self.answers[:place] + self.answers[place + 1 + both :]
+            kind = "question"
+        if not self.is_same(answers[:place] + answers[place + 1 :], wanted):
+            raise Wrong(f"growth {refused}: line {number + 1} is marked, and another line is answered otherwise")
+        return f"a {kind} answered memory ran out"
+
+
+class Index(Program):
+    """The program index_rows, which tells of a refused call and makes it again."""
+
+    def __init__(self, library):
+        super().__init__("index_rows", library)
+        self.answers = lines_of(self.wanted)
+
+    def judge(self, refused):
+        """In which way the program ends where this growth is refused."""
+        ran = call(self.words, self.library, refused)
+        answers = lines_of(ran.stdout)
+        place = next((place for place, line in enumerate(answers) if line in REFUSED), None)
+        if ran.returncode != 0 or place is None:
+            return super().judge(refused)
+        told = [answers[place], *REFUSED[answers[place]]]
+        if answers != self.answers[:place] + told + self.answers[place:]:
+            raise Wrong(f"growth {refused}: {answers}")
+        return told[0].split(b":")[0].decode()
+
+    def sweep(self):
+        made, ways = super().sweep()
+        for line in REFUSED:
+            if not ways[line.split(b":")[0].decode()]:
+                raise Wrong(f"no growth gives {line!r}")
+        return made, ways
+
+
+class Books(Program):
+    """The program book_rows, which applies a refused edit again, and asks a refused question again."""
+
+    def __init__(self, library):
+        super().__init__("book_rows", library)
+        self.answers = lines_of(self.wanted)
+
+    def before(self, place):
+        """What the book of the line at a place answered in the line before, without how its edit went; None for an empty one."""
+        name = self.answers[place].split(b" ")[0]
+        for line in reversed(self.answers[:place]):
+            if line == b"next":
+                return None
+            if line.startswith(name + b" "):
+                return line.split(b": ", 1)[1]
+        return None
+
+    def judge(self, refused):
+        """In which way the program ends where this growth is refused."""
+        ran = call(self.words, self.library, refused, given=self.given)
+        answers = lines_of(ran.stdout)
+        place = next((place for place, (one, other) in enumerate(zip(answers, self.answers)) if one != other), None)
+        if ran.returncode != 0 or place is None:
+            return super().judge(refused)
+        told = answers[place]
+        if answers[:place] + answers[place + 1 :] != self.answers:
+            raise Wrong(f"growth {refused}: {told!r}, and another line is not as ever")
+        if told == b"asked again":
+            return "asked again"
+        how, state = told.split(b": ", 1)
+        if how != self.answers[place].split(b" ")[0] + b" ran out of memory" or state != (self.before(place) or EMPTY):
+            raise Wrong(f"growth {refused}: {told!r}")
+        return how.decode()
+
+    def sweep(self):
+        made, ways = super().sweep()
+        for way in ("asked again", "book ran out of memory", "routing ran out of memory"):
+            if not ways[way]:
+                raise Wrong(f"no growth ends in {way!r}")
+        return made, ways
