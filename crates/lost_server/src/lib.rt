@@ -17,6 +17,3 @@ pub use lost_lines::{Counts, Gate, NoGate, ServeError, Turns, Watched};
 pub use replaying::replay;
 pub use run_fault::RunFault;
 pub use serving::{Manners, serve};
-
-#[cfg(test)]
-mod tests;

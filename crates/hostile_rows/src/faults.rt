@@ -1,64 +1,39 @@
-//! The texts of all faults, in one table.
-use crate::ServeError;
-use lost_json::{DeskFault, ReadError};
+//! The texts of all faults, and what is answered where memory is refused.
+use lost_json::{DeskFault, DeskReply, ReadError};
+use lost_lines::Answer;
+use lost_server::ServeError;
 use lost_spec::faults::{
     CivicError, EditError, GeoError, MappingError, RingError, SourceError, StampError, UrnError,
 };
+use lost_stream::{desk_answer, internal_error};
 use std::alloc::{AllocError, Global};
 use std::fmt::Display;
-use std::test::Fail;
+use std::io;
 
-/// A line for each fault, the crates from the lowest on, and the variants of each enum in their order.
-const TEXTS: &str = "the text does not begin with urn:service:
-a label is empty
-a label has a character other than ASCII letters, digits and hyphens
-a label begins or ends with a hyphen
-a label has more than 63 characters
-there are more than 8 labels
-memory ran out
-the latitude is outside -900000000 to 900000000
-the longitude is outside -1800000000 to 1800000000
-the ring has fewer than 4 positions
-the ring does not end where it begins
-the ring has more than 4096 positions
-no name is that of a civic element
-a name stands twice
-there are more than 128 pairs, or a name or a value has more than 512 bytes
-memory ran out
-a name is not that of a civic element
-the text is no name of labels joined by dots
-memory ran out
-the text is no time in UTC such as 2026-01-01T00:00:00Z
-memory ran out
-the source is no name of labels joined by dots
-the sourceId is no text of 1 to 128 bytes without control characters
-lastUpdated is no stamp
-expires is neither NO-CACHE, NO-EXPIRATION nor a stamp
-the service is no service URN
-the list of URIs is empty or too long, or has a bad URI or a scheme twice
-the service number is no text of 1 to 64 digits, stars and hashes
-a region is no polygon and no civic pattern
-a default has a region, or another mapping has none
-there are too many polygons, patterns or display names, or a display name is too long
-the key is bad, or stands at a default, or is missing elsewhere
-memory ran out
-a mapping with this source and sourceId is held
-no mapping with this source and sourceId is held
-lastUpdated is not after that of the mapping held
-another mapping has the key
-the regions changed and the key did not
-as many mappings as the limit are held
-as many edits as the limit were accepted
-memory ran out
-the line is no request
-memory ran out
-a member is missing or of another kind
-the mapping or the withdrawal is refused
-the input could not be read
-the output could not be written
-the input has more than the turns allow
-memory ran out
-";
+/// Prints a line for each fault, the crates from the lowest on, and the variants of each enum in their order.
+pub(crate) fn tell_faults<R: Print + AllocGlobal>(rt: &R) -> io::Result<()> {
+    print!(rt; "{}", value_texts(rt.alloc())?)?;
+    print!(rt; "{}", edit_texts(rt.alloc())?)?;
+    print!(rt; "{}", line_texts(rt.alloc())?)
+}
+
+/// Prints the answers where the memory for an edit is refused, and where a line could not be kept, and whether each counts
+/// as one for want of memory.
+pub(crate) fn tell_marks<R: Print>(rt: &R) -> io::Result<()> {
+    tell_answer(
+        rt,
+        &desk_answer(DeskReply::Refused(EditError::Memory.code())),
+    )?;
+    tell_answer(rt, &internal_error())
+}
+
+/// Prints an answer, and whether it counts as one for want of memory.
+fn tell_answer<R: Print>(rt: &R, answer: &Answer) -> io::Result<()> {
+    if let Ok(text) = std::str::from_utf8(answer.bytes()) {
+        print!(rt; "{text}")?;
+    }
+    println!(rt; "counts {}", u8::from(answer.is_internal_error))
+}
 
 /// A line for each fault of a list.
 fn told<F: Display + Copy>(alloc: Global, faults: &[F]) -> Result<String, AllocError> {
@@ -157,14 +132,4 @@ fn line_texts(alloc: Global) -> Result<String, AllocError> {
         ],
     )?;
     format!(in alloc; "{requests}{desk_lines}{streams}")
-}
-
-#[test]
-fn each_fault_has_its_text(rt: HostRuntime) -> Result<(), Fail> {
-    let values = value_texts(rt.alloc())?;
-    let edits = edit_texts(rt.alloc())?;
-    let lines = line_texts(rt.alloc())?;
-    let texts = format!(in rt.alloc(); "{values}{edits}{lines}")?;
-    assert_eq!(rt; texts.as_str(), TEXTS);
-    Ok(())
 }
