@@ -74,16 +74,18 @@ fn request(
     }
 }
 
-/// The replies to the lines of a session, by a reader that keeps so many places, or `None` where the run ends in a fault.
+/// The replies to the lines of a session, by a desk of these limits and a reader that keeps so many places, or `None` where
+/// the run ends in a fault.
 pub(crate) fn replies<T: Wait>(
     rt: &T,
     alloc: Global,
     lines: &[u8],
     name: &Source,
     moment: &Moment,
+    limits: Limits,
     places: u32,
 ) -> Option<Vec<u8>> {
-    let (mut desk, mut readers) = open_desk(rt, alloc, Limits::widest(), 1).ok()?;
+    let (mut desk, mut readers) = open_desk(rt, alloc, limits, 1).ok()?;
     let replies = match readers.take() {
         Some(reader) => replies_of(rt, alloc, lines, name, moment, &mut desk, reader, places),
         None => None,

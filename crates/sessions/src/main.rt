@@ -1,12 +1,15 @@
 //! Replays each session of the folder that it is run in, and says whether the replies are those that are expected:
 //! `NAME.jsonl` has the lines, `NAME.expected` the replies. Then it has each answered by a desk and a reader that keeps 1, 2
-//! and 1,024 places. It ends with status 1 where some session differs.
+//! and 1,024 places. A desk has the limits that the file `NAME.limits` gives; a session with such a file is not replayed,
+//! since a replay has the widest. It ends with status 1 where some session differs.
 #![tactic(auto)]
 
 mod cached;
+mod limits;
 mod names;
 mod session;
 
+use lost_book::Limits;
 use lost_mapping::{Moment, Source};
 use std::alloc::AllocError;
 use std::process::ExitCode;
@@ -44,12 +47,16 @@ fn is_as_expected<R: Files + Wait + Print + AllocGlobal>(
     let alloc = rt.alloc();
     let lines = fs::read(rt, format!(in alloc; "{name}.jsonl")?.as_str())?;
     let expected = fs::read(rt, format!(in alloc; "{name}.expected")?.as_str())?;
-    let replayed = session::replies(alloc, lines.as_slice(), server, moment);
-    if !is_same(rt, name, "replayed", replayed, expected.as_slice())? {
-        return Ok(false);
+    let limits = limits::limits(rt, name)?;
+    if limits.is_none() {
+        let replayed = session::replies(alloc, lines.as_slice(), server, moment);
+        if !is_same(rt, name, "replayed", replayed, expected.as_slice())? {
+            return Ok(false);
+        }
     }
+    let limits = limits.unwrap_or(Limits::widest());
     for places in PLACES {
-        let replies = cached::replies(rt, alloc, lines.as_slice(), server, moment, places);
+        let replies = cached::replies(rt, alloc, lines.as_slice(), server, moment, limits, places);
         if !is_same(rt, name, "with places kept", replies, expected.as_slice())? {
             return Ok(false);
         }
