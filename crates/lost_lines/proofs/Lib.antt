@@ -5,3 +5,4 @@ pub mod ServingLemmas
 pub mod ResultLemmas
 pub mod CutterLemmas
 pub mod StreamLemmas
+pub mod OutcomeLemmas

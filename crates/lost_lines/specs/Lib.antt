@@ -1,8 +1,10 @@
 pub mod Answer
+pub mod Calls
 pub mod Cutter
 pub mod Cutting
 pub mod Fault
 pub mod Gate
+pub mod Outcome
 pub mod Run
 pub mod Sending
 pub mod Serving

@@ -1,8 +1,7 @@
 //! Serves a stream of lines.
-ghost use Rattle.std.specs.Prelude.{◌≡◌, ◌≢◌, ◌≤◌, ◌⊎◌, true, false, IfOk, OnOk, OnErr, IsErrOf, Err};
-ghost use Rattle.std.specs.Io.KnownBytes.{IsAtEnd};
-ghost use Rattle.lost_lines.specs.Stream.{IsServed, IsCutOff, IsWholeSoFar, IsSpent, IsHeldBack};
-ghost use Rattle.lost_lines.specs.Watched.{inner_of, has_failed, has_ended, is_unflushed, reads_of};
+ghost use Rattle.std.specs.Prelude.{◌≢◌, Err};
+ghost use Rattle.lost_lines.specs.Calls.{AreFresh, StreamFaults};
+ghost use Rattle.lost_lines.specs.Outcome.{IsOutcome, passage_of};
 
 use crate::answerer::Answerer;
 use crate::counts::Counts;
@@ -37,43 +36,13 @@ pub fn run_lines<R: Read, W: Write, A: Answerer, G: Gate>(
     gate: &G,
     turns: Turns,
 ) -> Result<Counts, ServeError>
-    requires no_read { reads_of input.old ≡ 0 }
-    requires not_ended { has_ended input.old ≡ false }
-    requires input_sound { has_failed input.old ≡ false }
-    requires output_sound { has_failed output.old ≡ false }
-    ensures served { IfOk result (λ counts. IsServed (G.says gate.now) A.step answerer.old answerer.new
-        (R.remaining (inner_of input.old)) (W.contents (inner_of output.old))
-        (W.contents (inner_of output.new)) counts) }
-    ensures within { IfOk result (λ counts. counts.lines ≤ turns.lines) }
+    requires fresh { AreFresh input.old output.old }
 
-    // Ok comes only where the input ended and neither flag is set.
-    ensures ended { OnOk result (has_ended input.new ≡ true) }
-    ensures at_end { OnOk result (IsAtEnd (R.remaining (inner_of input.new))) }
-    ensures sound { OnOk result ((has_failed input.new ≡ false) × (has_failed output.new ≡ false)) }
-
-    // Each fault comes only for its cause, and leaves a front of the replies.
-    ensures cut_off { OnErr result (IsCutOff (G.says gate.now) A.step answerer.old answerer.new
-        (R.remaining (inner_of input.old)) (W.contents (inner_of output.old))
-        (W.contents (inner_of output.new))) }
-    ensures read { IsErrOf result ServeError.Read → has_failed input.new ≡ true }
-    ensures write { IsErrOf result ServeError.Write → has_failed output.new ≡ true }
-    // A failed read always ends in `Read`, and a failed write in `Write`.
-    ensures only_read { result ≢ Err ServeError.Read → has_failed input.new ≡ false }
-    ensures only_write { result ≢ Err ServeError.Write → has_failed output.new ≡ false }
-    ensures turns { IsErrOf result ServeError.TurnsSpent →
-        IsSpent (G.says gate.now) A.step answerer.old answerer.new turns
-        (R.remaining (inner_of input.old)) (R.remaining (inner_of input.new))
-        (W.contents (inner_of output.old)) (W.contents (inner_of output.new)) (reads_of input.new) (has_ended input.new)
-        ⊎ IsHeldBack (G.says gate.now) A.step answerer.old answerer.new turns.lines
-        (R.remaining (inner_of input.old)) (R.remaining (inner_of input.new))
-        (W.contents (inner_of output.old)) (W.contents (inner_of output.new)) (has_ended input.new) }
+    // A reply for each line, in order; after a fault a front of the replies.
+    ensures outcome { IsOutcome (G.says gate.now) A.step answerer.old answerer.new turns
+        (passage_of R.remaining W.contents input.old input.new output.old output.new) result }
+    ensures faults { StreamFaults R.remaining turns input.new output.old output.new result }
     ensures memory { result ≢ Err ServeError.Memory }
-    // Nothing is left unflushed, but for a failed write or flush.
-    ensures flushed { result ≢ Err ServeError.Write → is_unflushed output.old ≡ false → is_unflushed output.new ≡ false }
-    ensures whole { IsErrOf result ServeError.Read → IsWholeSoFar (G.says gate.now) A.step answerer.old answerer.new turns.lines
-        (R.remaining (inner_of input.old)) (R.remaining (inner_of input.new))
-        (W.contents (inner_of output.old)) (W.contents (inner_of output.new)) }
-    ensures reads { reads_of input.new ≤ turns.reads }
 {
     let mut server = LineServer::new(alloc, turns.lines);
     let mut chunk = [0u8; MAX_READ];

@@ -1,11 +1,14 @@
 -- What a replay gives: the stream of lines of one thread, which begins with no edits. (Own.)
-use Rattle.std.specs.Prelude.{ℕ, Bool, true, [], Option}
+use Rattle.std.specs.Prelude.{◌≢◌, ◌≤◌, ℕ, Bool, true, [], Option, Result, IfOk, IfErr, IsErrOf}
 use Rattle.lost_spec.specs.Text.{Text}
 use Rattle.lost_spec.specs.Moment.{Instant}
 use Rattle.lost_book.specs.Bounds.{widest}
 use Rattle.lost_json.specs.Line.{line_reply}
 use Rattle.lost_lines.specs.declared.counts.Counts.{Counts}
+use Rattle.lost_lines.specs.declared.fault.ServeError.{ServeError}
+use Rattle.lost_lines.specs.declared.fault.ServeError.TheVariants.{Read, TurnsSpent, Memory}
 use Rattle.lost_lines.specs.declared.turns.Turns.{Turns}
+use Rattle.lost_lines.specs.Outcome.{Passage}
 use Rattle.lost_stream.specs.Stream.{Terms, Lists, internal_error, bad_request}
 use Rattle.lost_stream.specs.Outcome.{IsStreamed, IsStreamedInPart, IsStreamedSoFar, IsStreamSpent}
 
@@ -37,3 +40,12 @@ pub record IsReplayedSoFar (name : Text) (t : Instant) (most : ℕ) (unread left
 pub record IsReplaySpent (name : Text) (t : Instant) (turns : Turns) (unread left before after : Option Text) (reads : ℕ) (has_ended : Bool) : Type 0 where
   pub end : Lists
   pub streamed : IsStreamSpent (replay_terms name t) no_edits end turns unread left before after reads has_ended
+
+-- what a replay gives, whichever result it has: at Ok the whole stream was replayed, in at most as many lines as the turns allow; at each fault of the stream a front of it;
+-- at `Read` and `TurnsSpent` all lines whose byte 10 was read, up to as many as the turns allow
+pub record IsReplayOutcome (name : Text) (t : Instant) (turns : Turns) (p : Passage) (result : Result Counts ServeError) : Type 0 where
+  pub replayed : IfOk result (λ counts. IsReplayed name t p.unread p.before p.after counts)
+  pub within : IfOk result (λ counts. counts.lines ≤ turns.lines)
+  pub in_part : IfErr result (λ e. e ≢ Memory → IsReplayedInPart name t p.unread p.before p.after)
+  pub so_far : IsErrOf result Read → IsReplayedSoFar name t turns.lines p.unread p.left p.before p.after
+  pub spent : IsErrOf result TurnsSpent → IsReplaySpent name t turns p.unread p.left p.before p.after p.reads p.ended

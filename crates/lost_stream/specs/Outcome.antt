@@ -1,12 +1,15 @@
 -- What serving a stream of desk lines and other lines gives, counted afresh, up to its end or to a fault. (Own.)
-use Rattle.std.specs.Prelude.{◌≡◌, ◌⊎◌, ℕ, Bool, false, List, ◌++◌, map, take, length, Option, IfSome}
+use Rattle.std.specs.Prelude.{◌≡◌, ◌≤◌, ◌⊎◌, ℕ, Bool, false, List, ◌++◌, map, take, length, Option, IfSome, Result, IfOk, OnErr, IsErrOf}
 use Rattle.std.specs.List.{count_by}
 use Rattle.std.specs.Io.KnownBytes.{Appends, Consumes}
 use Rattle.lost_spec.specs.Text.{Text}
 use Rattle.lost_lines.specs.declared.counts.Counts.{Counts}
+use Rattle.lost_lines.specs.declared.fault.ServeError.{ServeError}
+use Rattle.lost_lines.specs.declared.fault.ServeError.TheVariants.{Read, TurnsSpent}
+use Rattle.lost_lines.specs.declared.turns.Turns.{Turns}
 use Rattle.lost_lines.specs.Cutting.{lines_of, ended_lines}
 use Rattle.lost_lines.specs.Run.{long_count}
-use Rattle.lost_lines.specs.declared.turns.Turns.{Turns}
+use Rattle.lost_lines.specs.Outcome.{Passage}
 use Rattle.lost_lines.specs.Stream.{AppendsFront, StandsPast}
 use Rattle.lost_stream.specs.Stream.{Terms, Lists, Line, AreMarks, lists_at, stream_text, is_short}
 
@@ -52,3 +55,12 @@ pub record IsStreamedSoFar (terms : Terms) (start end : Lists) (most : ℕ) (unr
 pub record IsStreamSpent (terms : Terms) (start end : Lists) (turns : Turns) (unread left before after : Option Text) (reads : ℕ) (has_ended : Bool) : Type 0 where
   pub so_far : IsStreamedSoFar terms start end turns.lines unread left before after
   pub spent : StandsPast turns.lines (texts_of_lines so_far.lines) so_far.consumed ⊎ ((reads ≡ turns.reads) × (has_ended ≡ false))
+
+-- what a call over the stream gives, whichever result it has: at Ok the whole stream was served, in at most as many lines as the turns allow; at each fault a front of it;
+-- at `Read` and `TurnsSpent` all lines whose byte 10 was read, up to as many as the turns allow
+pub record IsStreamOutcome (terms : Terms) (start end : Lists) (turns : Turns) (p : Passage) (result : Result Counts ServeError) : Type 0 where
+  pub served : IfOk result (λ counts. IsStreamed terms start end p.unread p.before p.after counts)
+  pub within : IfOk result (λ counts. counts.lines ≤ turns.lines)
+  pub in_part : OnErr result (IsStreamedInPart terms start end p.unread p.before p.after)
+  pub so_far : IsErrOf result Read → IsStreamedSoFar terms start end turns.lines p.unread p.left p.before p.after
+  pub spent : IsErrOf result TurnsSpent → IsStreamSpent terms start end turns p.unread p.left p.before p.after p.reads p.ended

@@ -1,12 +1,15 @@
 -- A stream that is served by what refers to a replier and to moments is one that a worker answers.
-use Rattle.std.proofs.Common.{◌≡◌, ◌⊎◌, inl, inr, ℕ, Bool, List, [], ◌∷◌, ◌++◌, Option, Result, Ok, Err, OnErr, IfOk, sym, ap, ◌∙◌, append_assoc, append-nil}
+use Rattle.std.proofs.Common.{◌≡◌, ◌⊎◌, inl, inr, ℕ, Bool, List, [], ◌∷◌, ◌++◌, Option, Result, Ok, Err, sym, ap, ◌∙◌, append_assoc, append-nil}
+use Rattle.std.proofs.lemmas.Result.{IfOk-weaker, on_err_weaker}
 use Rattle.lost_spec.specs.Text.{Text}
 use Rattle.lost_spec.specs.Moment.{Instant}
 use Rattle.lost_desk.specs.Seen.{ReaderSeen}
 use Rattle.lost_lines.specs.declared.counts.Counts.{Counts}
+use Rattle.lost_lines.specs.declared.fault.ServeError.{ServeError}
 use Rattle.lost_lines.specs.declared.turns.Turns.{Turns}
 use Rattle.lost_lines.specs.Run.{Cut, Whole, TooLong, Unread, Reply, Run}
 use Rattle.lost_lines.specs.Stream.{IsServed, IsCutOff, IsWholeSoFar, IsSpent, IsHeldBack}
+use Rattle.lost_lines.specs.Outcome.{Passage, IsOutcome}
 use Rattle.lost_worker.specs.declared.serving.Serving.{Serving}
 use Rattle.lost_worker.specs.Lines.{Worker, Answers, HasSeenMore}
 use Rattle.lost_worker.specs.Serving.{worker_of, Serves}
@@ -62,7 +65,7 @@ module _ {P M : Type 0} (reader : P → ReaderSeen) (coming : M → List Instant
       record { replier = more.replier ∙ serves.replier_stays; moments = more.moments ∙ serves.moments_stay }
 
   module _ (says : ℕ → Bool → Type 0) (old new : Serving P M) (named : old.name.now ≡ name) where
-    pub served : (unread before after : Option Text) (counts : Counts) → IsServed says (Serves reader coming) old new unread before after counts
+    served : (unread before after : Option Text) (counts : Counts) → IsServed says (Serves reader coming) old new unread before after counts
         → IsServed says (Answers name) (worker_of reader coming old) (worker_of reader coming new) unread before after counts
     served unread before after counts s = record {
       lines = s.lines;
@@ -74,7 +77,7 @@ module _ {P M : Type 0} (reader : P → ReaderSeen) (coming : M → List Instant
       counted = s.counted;
     }
 
-    pub cut_off : (unread before after : Option Text) → IsCutOff says (Serves reader coming) old new unread before after
+    cut_off : (unread before after : Option Text) → IsCutOff says (Serves reader coming) old new unread before after
         → IsCutOff says (Answers name) (worker_of reader coming old) (worker_of reader coming new) unread before after
     cut_off unread before after s = record {
       lines = s.lines;
@@ -85,7 +88,7 @@ module _ {P M : Type 0} (reader : P → ReaderSeen) (coming : M → List Instant
       written = s.written;
     }
 
-    pub whole_so_far : (most : ℕ) (unread left before after : Option Text) → IsWholeSoFar says (Serves reader coming) old new most unread left before after
+    whole_so_far : (most : ℕ) (unread left before after : Option Text) → IsWholeSoFar says (Serves reader coming) old new most unread left before after
         → IsWholeSoFar says (Answers name) (worker_of reader coming old) (worker_of reader coming new) most unread left before after
     whole_so_far most unread left before after s = record {
       lines = s.lines;
@@ -98,7 +101,7 @@ module _ {P M : Type 0} (reader : P → ReaderSeen) (coming : M → List Instant
       written = s.written;
     }
 
-    pub spent : (turns : Turns) (unread left before after : Option Text) (reads : ℕ) (has_ended : Bool)
+    spent : (turns : Turns) (unread left before after : Option Text) (reads : ℕ) (has_ended : Bool)
         → IsSpent says (Serves reader coming) old new turns unread left before after reads has_ended ⊎ IsHeldBack says (Serves reader coming) old new turns.lines unread left before after has_ended
         → IsSpent says (Answers name) (worker_of reader coming old) (worker_of reader coming new) turns unread left before after reads has_ended
         ⊎ IsHeldBack says (Answers name) (worker_of reader coming old) (worker_of reader coming new) turns.lines unread left before after has_ended
@@ -118,16 +121,24 @@ module _ {P M : Type 0} (reader : P → ReaderSeen) (coming : M → List Instant
       written = s.written;
     })
 
-  -- whether it was served or cut off, a run was made
-  pub stays_at : {E : Type 0} (result : Result Counts E) (says : ℕ → Bool → Type 0) (old new : Serving P M) (unread before after : Option Text)
-      → IfOk result (λ counts. IsServed says (Serves reader coming) old new unread before after counts) → OnErr result (IsCutOff says (Serves reader coming) old new unread before after) → Stays old new
-  stays_at (Ok counts) says old new unread before after is_served is_cut = stays old new is_served.lines is_served.replies is_served.run
-  stays_at (Err e) says old new unread before after is_served is_cut = stays old new is_cut.lines is_cut.replies is_cut.run
+  pub outcome : (says : ℕ → Bool → Type 0) (old new : Serving P M) → old.name.now ≡ name → (turns : Turns) (p : Passage) (result : Result Counts ServeError)
+      → IsOutcome says (Serves reader coming) old new turns p result → IsOutcome says (Answers name) (worker_of reader coming old) (worker_of reader coming new) turns p result
+  outcome says old new named turns p result o = record {
+    served = IfOk-weaker result _ _ (λ counts s. served says old new named p.unread p.before p.after counts s) o.served;
+    within = o.within;
+    cut_off = on_err_weaker result (λ s. cut_off says old new named p.unread p.before p.after s) o.cut_off;
+    whole = λ is. whole_so_far says old new named turns.lines p.unread p.left p.before p.after (o.whole is);
+    spent = λ is. spent says old new named turns p.unread p.left p.before p.after p.reads p.ended (o.spent is);
+  }
 
-  pub seen_at : {E : Type 0} (result : Result Counts E) (says : ℕ → Bool → Type 0) (old new : Serving P M) (unread before after : Option Text) → old.name.now ≡ name
-      → IfOk result (λ counts. IsServed says (Serves reader coming) old new unread before after counts) → OnErr result (IsCutOff says (Serves reader coming) old new unread before after)
-      → HasSeenMore (reader old.replier.now) (reader new.replier.now)
-  seen_at (Ok counts) says old new unread before after named is_served is_cut =
-      HasSeenMore-from_run name _ _ is_served.lines is_served.replies (worker_run old new is_served.lines is_served.replies named is_served.run)
-  seen_at (Err e) says old new unread before after named is_served is_cut =
-      HasSeenMore-from_run name _ _ is_cut.lines is_cut.replies (worker_run old new is_cut.lines is_cut.replies named is_cut.run)
+  -- whatever the result is, a run was made
+  pub stays_at : (says : ℕ → Bool → Type 0) (old new : Serving P M) (turns : Turns) (p : Passage) (result : Result Counts ServeError) → IsOutcome says (Serves reader coming) old new turns p result → Stays old new
+  stays_at says old new turns p (Ok counts) o = stays old new o.served.lines o.served.replies o.served.run
+  stays_at says old new turns p (Err e) o = stays old new o.cut_off.lines o.cut_off.replies o.cut_off.run
+
+  pub seen_at : (says : ℕ → Bool → Type 0) (old new : Serving P M) → old.name.now ≡ name → (turns : Turns) (p : Passage) (result : Result Counts ServeError)
+      → IsOutcome says (Serves reader coming) old new turns p result → HasSeenMore (reader old.replier.now) (reader new.replier.now)
+  seen_at says old new named turns p (Ok counts) o =
+      HasSeenMore-from_run name _ _ o.served.lines o.served.replies (worker_run old new o.served.lines o.served.replies named o.served.run)
+  seen_at says old new named turns p (Err e) o =
+      HasSeenMore-from_run name _ _ o.cut_off.lines o.cut_off.replies (worker_run old new o.cut_off.lines o.cut_off.replies named o.cut_off.run)

@@ -1,10 +1,13 @@
 //! Runs the streams of its input through a desk and two readers, and prints what each gives. A line of the input is a
 //! command: `line TEXT`, `last TEXT` (without byte 10) and `long NUMBER` (so many bytes) add to a stream; `turns LINES`
-//! says how many lines are answered at most; `refuse LINE` has the gate refuse a line; `desk`, `queries` and `workers`
-//! serve the stream: by the desk, by a reader, and by two workers whose first line waits until another was answered.
+//! says how many lines are answered at most; `refuse LINE` has the gate refuse a line; `desk`, `queries`, `pair` and
+//! `workers` serve the stream: by the desk, by a reader, by two readers in two threads, of which the first waits until
+//! the second has answered, and by two workers whose first line waits until another was answered.
 #![tactic(auto)]
 
+mod following;
 mod meeting;
+mod pair;
 mod script;
 mod stream;
 mod upto;

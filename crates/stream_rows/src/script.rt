@@ -1,4 +1,5 @@
 //! The commands of the input.
+use crate::pair::serve_pair;
 use crate::stream::{Stream, tell};
 use crate::upto::UpTo;
 use crate::workers::serve_two;
@@ -112,6 +113,10 @@ fn serve<R: Threads + Wait + Clock + Sync + Print + AllocGlobal>(
     match command {
         "desk" => desk(rt, bench, stream),
         "queries" => queries(rt, bench, stream),
+        "pair" => {
+            let setting = &bench.setting;
+            serve_pair(rt, &mut bench.first, &mut bench.second, setting, stream)
+        }
         "workers" => {
             let setting = &bench.setting;
             serve_two(rt, &mut bench.first, &mut bench.second, setting, stream)
