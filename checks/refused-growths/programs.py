@@ -145,8 +145,13 @@ class Cache(Program):
             is_question = line != b"next" and not DESK_LINE.match(line)
             self.numbers += [None] * 4 if line == b"next" else [number] * (2 if is_question else 1)
         self.numbers += [None, None]
-        end = next(place for place, line in enumerate(self.answers) if line.startswith(b"finds "))
-        self.first_part = self.answers[: end + 1]
+        self.unopened = self.outputs_unopened()
+
+    def outputs_unopened(self):
+        """What is said where one desk is not opened: a desk reads the part that the one before it would have read."""
+        ends = [place + 1 for place, line in enumerate(self.answers) if line.startswith(b"finds ")]
+        parts = [self.answers[begin:end] for begin, end in zip([0, *ends], ends)][:-1]
+        return [sum(parts[:place], []) + [NOT_OPENED] + sum(parts[place:], []) for place in range(len(parts) + 1)]
 
     def run(self, given, refused=0):
         return call(self.words, self.library, refused, given=given).stdout
@@ -161,8 +166,7 @@ class Cache(Program):
         """In which way the program ends where this growth is refused."""
         ran = call(self.words, self.library, refused, given=self.given)
         answers = lines_of(ran.stdout)
-        # A desk that is not opened reads no line: the next one reads them.
-        if answers in ([NOT_OPENED, *self.first_part], [*self.first_part, NOT_OPENED]):
+        if answers in self.unopened:
             return "not opened"
         if ran.returncode == 0 and answers != self.answers and self.is_same(answers, self.answers):
             return "a place not kept"

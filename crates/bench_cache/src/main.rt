@@ -1,6 +1,7 @@
-//! What a cache of places saves and costs, as ratios: `bench_cache measure` prints them. Without an argument a few places
-//! are asked twice, by a reader and by one with a cache, and how much was found is printed, so that the gate runs the same
-//! code.
+//! What a cache of places saves and costs, as ratios: `bench_cache measure` prints them. `bench_cache reader` and
+//! `bench_cache cache` ask places that never repeat, by a reader and by one with a cache, for a tool that counts
+//! instructions. Without an argument a few places are asked twice, by both, and how much was found is printed, so that the
+//! gate runs the same code.
 #![tactic(auto)]
 
 mod asking;
@@ -11,17 +12,19 @@ use std::rt::{Clock, Env};
 use std::{env, io};
 
 fn main(rt: HostRuntime) -> io::Result<()> {
-    if is_measuring(&rt)? {
-        measures::print_costs(&rt)
-    } else {
-        measures::print_counts(&rt)
+    let word = first_word(&rt)?;
+    match word.as_str() {
+        "measure" => measures::print_costs(&rt),
+        "reader" => measures::print_found(&rt, false),
+        "cache" => measures::print_found(&rt, true),
+        _ => measures::print_counts(&rt),
     }
 }
 
-/// Whether the first argument is `measure`.
-fn is_measuring<R: Env + AllocGlobal>(rt: &R) -> io::Result<bool> {
+/// The first argument, or an empty text.
+fn first_word<R: Env + AllocGlobal>(rt: &R) -> io::Result<String> {
     for word in env::args(rt)?.skip(1) {
-        return Ok(word.as_str() == "measure");
+        return Ok(word);
     }
-    Ok(false)
+    Ok(String::new(rt.alloc()))
 }

@@ -14,6 +14,9 @@ const PLACES: u32 = 1_024;
 /// How often each figure is taken; the least of them counts.
 const ROUNDS: u32 = 5;
 
+/// How many places are asked for once, for a tool that counts instructions.
+const COUNTED: u32 = 20_000;
+
 /// What is asked over a map.
 #[derive(Clone, Copy)]
 struct Plan {
@@ -53,6 +56,33 @@ pub(crate) fn print_counts<R: Print + Wait + AllocGlobal>(rt: &R) -> io::Result<
         "{} found by a reader, {found} with a cache, which had {hits} places",
         plain?
     )
+}
+
+/// Asks places that never repeat, by a reader or by one with a cache, and prints how many mappings were found.
+pub(crate) fn print_found<R: Print + Wait + AllocGlobal>(rt: &R, by_cache: bool) -> io::Result<()> {
+    let alloc = rt.alloc();
+    let stacks = Stacks {
+        spots: 1_000,
+        height: 1,
+        positions: 2,
+    };
+    let setting = Setting::new(alloc)?;
+    let lines = places(alloc, stacks, COUNTED)?;
+    let Opened {
+        desk,
+        mut reader,
+        other,
+    } = open(rt, alloc, stacks)?;
+    let found = if by_cache {
+        match cached(alloc, other) {
+            Ok(mut cache) => ask(alloc, &mut cache, &setting, lines.as_slice(), 1),
+            Err(error) => Err(error),
+        }
+    } else {
+        ask(alloc, &mut reader, &setting, lines.as_slice(), 1)
+    };
+    desk.close(rt);
+    println!(rt; "{} found", found?)
 }
 
 /// A reader with a cache.

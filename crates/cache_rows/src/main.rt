@@ -15,7 +15,7 @@ fn main(rt: HostRuntime) -> io::Result<()> {
     let Some(limits) = Limits::new(1_000, 1_000) else {
         return Ok(());
     };
-    for _ in 0..2 {
+    for _ in 0..3 {
         match open_desk(&rt, rt.alloc(), limits, 2) {
             Ok((mut desk, mut readers)) => {
                 let result = session::run(&rt, &mut desk, &mut readers);

@@ -1,18 +1,17 @@
 -- What a cache of places keeps, and which capacities it may have. (Own.)
 use Rattle.std.specs.Prelude.{◌≡◌, ℕ, ◌≤◌, List, Contains}
 use Rattle.lost_spec.specs.Holders.{Entry}
-use Rattle.lost_query.specs.declared.place.Place.{Place}
 use Rattle.lost_query.specs.Place.{place_of}
 use Rattle.lost_desk.specs.Sets.{entry}
 use Rattle.lost_worker.specs.declared.place_cache.Kept.{Kept}
 
--- the entry of a place and what is kept of it
-abbrev pub entry_of : Place → Kept → Entry
-entry_of place kept = entry kept.edition (place_of place) kept.set.items
+-- the entry of what is kept
+abbrev pub entry_of : Kept → Entry
+entry_of kept = entry kept.edition (place_of kept.place) kept.set.items
 
 -- an entry is that of a pair of the cache
-abbrev pub IsKeptIn : List (Place × Kept) → Entry → Type 0
-IsKeptIn pairs e = (place : Place) × (kept : Kept) × Contains pairs (place, kept) × (e ≡ entry_of place kept)
+abbrev pub IsKeptIn : List (ℕ × Kept) → Entry → Type 0
+IsKeptIn pairs e = (hash : ℕ) × (kept : Kept) × Contains pairs (hash, kept) × (e ≡ entry_of kept)
 
 -- a cache has from 1 to 65,536 places
 pub record IsCapacity (capacity : ℕ) : Type 0 where

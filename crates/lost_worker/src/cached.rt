@@ -20,8 +20,9 @@ use std::num::NonZeroUsize;
 /// The most places that a cache keeps (own rule).
 const MOST_PLACES: u32 = 65_536;
 
-/// A reader that keeps the sets of the places that were asked for last, each with the edition that it is of. Contracts
-/// see it as its reader: its replies are those of the reader, whatever is kept. A set of another edition is not used.
+/// A reader that keeps the sets of places, each with the edition that it is of: each place while there is room, and then
+/// the places that come again, each in the room of the one that was used the longest ago. Contracts see it as its reader:
+/// its replies are those of the reader, whatever is kept. A set of another edition is not used.
 #[derive(Drop)]
 pub struct CachedReader<S: BuildHasher = DefaultHasher> {
     reader: Reader,

@@ -7,6 +7,7 @@ mod connection;
 mod desk_stream;
 mod desking;
 mod faults;
+mod marks;
 mod moments;
 mod place_cache;
 mod replier;
