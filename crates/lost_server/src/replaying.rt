@@ -4,11 +4,9 @@ ghost use Rattle.std.specs.Io.KnownBytes.{IsAtEnd};
 ghost use Rattle.lost_lines.specs.Watched.{inner_of, has_failed, has_ended, is_unflushed, reads_of};
 ghost use Rattle.lost_server.specs.Replay.{IsReplayed, IsReplayedInPart, IsReplayedSoFar, IsReplaySpent};
 
-use crate::books::Books;
 use crate::replayer::Replayer;
 use lost_lines::{Counts, NoGate, ServeError, Turns, Watched, run_lines};
 use lost_mapping::{Moment, Source};
-use lost_tokens::Scratch;
 use std::alloc::Global;
 use std::io::{Read, Write};
 
@@ -67,14 +65,8 @@ pub fn replay<R: Read, W: Write>(
     ensures flushed { result ≢ Err ServeError.Write → is_unflushed output.old ≡ false → is_unflushed output.new ≡ false }
     ensures reads { reads_of input.new ≤ turns.reads }
 {
-    let Ok(books) = Books::new(alloc) else {
+    let Ok(mut replayer) = Replayer::new(alloc, name, moment) else {
         return Err(ServeError::Memory);
-    };
-    let mut replayer = Replayer {
-        name,
-        moment: *moment,
-        books,
-        scratch: Scratch::new(alloc),
     };
     run_lines(alloc, input, output, &mut replayer, &NoGate, turns)
 }

@@ -6,7 +6,6 @@ use crate::replayer::Replayer;
 use lost_book::EditError;
 use lost_lines::{Answer, Answerer};
 use lost_mapping::{Moment, Source};
-use lost_tokens::Scratch;
 use std::alloc::{AllocError, Global};
 use std::test::Fail;
 
@@ -78,17 +77,12 @@ fn is_answer(answer: &Answer, line: &[u8], is_internal_error: bool) -> bool {
 /// could not be kept, it is `internalError`, and is counted.
 #[test]
 fn each_mark_has_its_answer(rt: HostRuntime) -> Result<(), Fail> {
-    let mut books = Books::new(rt.alloc())?;
+    let books = Books::new(rt.alloc())?;
     let staged = books.edit_answer(Err(EditError::Memory));
     assert!(rt; is_answer(&staged, MEMORY, false));
     let name = Source::parse(rt.alloc(), b"lost.example").map_err(|_| "memory")?;
     let moment = Moment::new(0, 0).ok_or("a moment")?;
-    let mut replayer = Replayer {
-        name: &name,
-        moment,
-        books,
-        scratch: Scratch::new(rt.alloc()),
-    };
+    let mut replayer = Replayer::new(rt.alloc(), &name, &moment)?;
     assert!(rt; is_answer(&replayer.answer_unread(), INTERNAL, true));
     Ok(())
 }
