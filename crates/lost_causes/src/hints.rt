@@ -25,12 +25,8 @@ pub(crate) fn pair_hint(lat: i64, lon: i64) -> &'static str {
     }
 }
 
-/// What may be meant by a line that is no JSON.
-pub(crate) fn layout_hint(line: &[u8]) -> &'static str {
+/// Whether a line that is no JSON looks like one of JSON that is laid out over several lines.
+pub(crate) fn is_laid_out(line: &[u8]) -> bool {
     let text = line.trim_ascii_start();
-    if text.starts_with(b"\"") || text.starts_with(b"}") || text.starts_with(b"]") {
-        ": it looks like JSON laid out over several lines, and each object must stand on one line"
-    } else {
-        ""
-    }
+    text.starts_with(b"\"") || text.starts_with(b"}") || text.starts_with(b"]")
 }

@@ -1,5 +1,5 @@
 //! Lines that are no JSON.
-use crate::hints::layout_hint;
+use crate::hints::is_laid_out;
 use crate::stop::{Stop, found};
 use serde_json::{Error, Value};
 use std::alloc::Global;
@@ -31,7 +31,7 @@ fn no_json(alloc: Global, line: &[u8], error: &Error) -> Stop {
     syntax(alloc, line, error)
 }
 
-/// Where a line is no JSON, and what may be meant.
+/// What a line that is no JSON looks like, or where the reader of JSON stood.
 fn syntax(alloc: Global, line: &[u8], error: &Error) -> Stop {
     let row = error.line();
     let column = error.column();
@@ -40,6 +40,11 @@ fn syntax(alloc: Global, line: &[u8], error: &Error) -> Stop {
             "no JSON: line {row} column {column}: the line ends in the middle of a value, and each object must stand on one line"
         ));
     }
-    let hint = layout_hint(line);
-    found(format!(in alloc; "no JSON: line {row} column {column}{hint}"))
+    if is_laid_out(line) {
+        return found(String::from_str(
+            alloc,
+            "no JSON: it looks like JSON laid out over several lines, and each object must stand on one line",
+        ));
+    }
+    found(format!(in alloc; "no JSON: line {row} column {column}"))
 }
