@@ -38,7 +38,7 @@ module _ (name : Text) (t : Instant) where
   step_of_books : (old new : Replayer) (cut : Cut) (reply : Reply) → old.name.now ≡ name → old.moment ≡ t → Replays old cut reply new → BooksStep (replay_terms name t) old.books cut reply new.books
   step_of_books old new cut reply named timed replays = rw (named, timed) at replays.step
 
-  runs_to : (lists : Lists) (lines : List Text) (replies : List Reply) (old new : Replayer) → old.name.now ≡ name → old.moment ≡ t → AreBooksOf lists old.books → Run Replays old lines replies new → RunsTo lists lines replies new
+  pub runs_to : (lists : Lists) (lines : List Text) (replies : List Reply) (old new : Replayer) → old.name.now ≡ name → old.moment ≡ t → AreBooksOf lists old.books → Run Replays old lines replies new → RunsTo lists lines replies new
   runs_to lists [] [] old new named timed are run = record { end = lists; are = rw run are; run = refl }
   runs_to lists [] (reply ∷ replies) old new named timed are run = absurd run
   runs_to lists (line ∷ lines) [] old new named timed are run = absurd run
@@ -48,7 +48,7 @@ module _ (name : Text) (t : Instant) where
       record { end = more.end; are = more.are; run = (cut, one.later, is_cut, one.step, more.run) }
 
   module _ (says : ℕ → Bool → Type 0) (old new : Replayer) (named : old.name.now ≡ name) (timed : old.moment ≡ t) (fresh : old.books ≡ no_books) where
-    from_none : (lines : List Text) (replies : List Reply) → Run Replays old lines replies new → RunsTo no_edits lines replies new
+    pub from_none : (lines : List Text) (replies : List Reply) → Run Replays old lines replies new → RunsTo no_edits lines replies new
     from_none lines replies run = runs_to no_edits lines replies old new named timed (none_are old.books fresh) run
 
     replayed : (unread before after : Option Text) (counts : Counts) → IsServed says Replays old new unread before after counts → IsReplayed name t unread before after counts

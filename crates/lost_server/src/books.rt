@@ -21,6 +21,7 @@ use lost_json::{DeskReply, reply_request};
 use lost_lines::{Answer, Text as ReplyText};
 use lost_mapping::{Moment, Source};
 use lost_query::Request;
+use lost_routing::Routing;
 use lost_stream::{bad_request, desk_answer, internal_error};
 use std::alloc::{AllocError, Global};
 use std::marker::Model;
@@ -48,6 +49,20 @@ impl Books {
         Ok(Books {
             pair: Pair::new(alloc, Limits::widest())?,
         })
+    }
+
+    /// The book that is published.
+    pub(crate) fn published(&self) -> &Routing
+        ensures { result.now ≡ self.now.published }
+    {
+        self.pair.published()
+    }
+
+    /// The book of what is staged too.
+    pub(crate) fn staged(&self) -> &Routing
+        ensures { result.now ≡ self.now.staged }
+    {
+        self.pair.staged()
     }
 
     /// Stages an edit: its refusal, or how many edits are staged and not published. Want of memory is code 20.

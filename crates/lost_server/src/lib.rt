@@ -14,6 +14,7 @@ mod run_fault;
 mod serving;
 
 pub use lost_lines::{Counts, Gate, NoGate, ServeError, Turns, Watched};
+pub use replayer::Replayer;
 pub use replaying::replay;
 pub use run_fault::RunFault;
 pub use serving::{Manners, serve};

@@ -1,21 +1,54 @@
-//! What answers the lines of a replay.
+//! What answers the lines of a replay. Rules without a section are this profile's own.
+ghost use Rattle.std.specs.Prelude.{◌≡◌, IfOk};
+ghost use Rattle.lost_server.specs.Replayer.{Begins, books_of};
+
 use crate::books::Books;
 use lost_json::{DeskFault, DeskLine, DeskReply};
 use lost_lines::{Answer, Answerer};
 use lost_mapping::{MappingError, Moment, Source};
 use lost_reading::Line;
+use lost_routing::Routing;
 use lost_stream::{bad_request, desk_answer, internal_error};
 use lost_tokens::{Scratch, read_line};
-use std::alloc::Global;
+use std::alloc::{AllocError, Global};
 
 /// What answers the lines of a replay: the name of the server and the moment stay, the books go with each line. The
 /// scratch is what the reader of lines works in, and holds nothing of them.
 #[derive(Drop)]
-pub(crate) struct Replayer<'a> {
-    pub(crate) name: &'a Source,
-    pub(crate) moment: Moment,
-    pub(crate) books: Books,
-    pub(crate) scratch: Scratch,
+pub struct Replayer<'a> {
+    name: &'a Source,
+    moment: Moment,
+    books: Books,
+    scratch: Scratch,
+}
+
+impl<'a> Replayer<'a> {
+    /// What answers the lines of a replay by the server of this name at one moment, before the first line: it holds no
+    /// mappings. Or want of memory.
+    pub fn new(alloc: Global, name: &'a Source, moment: &Moment) -> Result<Replayer<'a>, AllocError>
+        ensures { IfOk result (λ replayer. Begins name.now moment.now replayer) }
+    {
+        Ok(Replayer {
+            name,
+            moment: *moment,
+            books: Books::new(alloc)?,
+            scratch: Scratch::new(alloc),
+        })
+    }
+
+    /// How many edits are published.
+    pub fn edition(&self) -> u64
+        ensures { result ≡ (books_of self.now).published.edits }
+    {
+        self.books.published().edition()
+    }
+
+    /// The book of what is staged too: the one that says which edits are refused.
+    pub fn staged(&self) -> &Routing
+        ensures { result.now ≡ (books_of self.now).staged }
+    {
+        self.books.staged()
+    }
 }
 
 impl Answerer for Replayer<'_> {

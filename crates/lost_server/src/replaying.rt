@@ -4,11 +4,9 @@ ghost use Rattle.lost_lines.specs.Calls.{AreFresh, StreamFaults};
 ghost use Rattle.lost_lines.specs.Outcome.{passage_of};
 ghost use Rattle.lost_server.specs.Replay.{IsReplayOutcome};
 
-use crate::books::Books;
 use crate::replayer::Replayer;
 use lost_lines::{Counts, NoGate, ServeError, Turns, Watched, run_lines};
 use lost_mapping::{Moment, Source};
-use lost_tokens::Scratch;
 use std::alloc::Global;
 use std::io::{Read, Write};
 
@@ -41,14 +39,8 @@ pub fn replay<R: Read, W: Write>(
     ensures unread { result ≡ Err ServeError.Memory → input.new ≡ input.old }
     ensures unwritten { result ≡ Err ServeError.Memory → output.new ≡ output.old }
 {
-    let Ok(books) = Books::new(alloc) else {
+    let Ok(mut replayer) = Replayer::new(alloc, name, moment) else {
         return Err(ServeError::Memory);
-    };
-    let mut replayer = Replayer {
-        name,
-        moment: *moment,
-        books,
-        scratch: Scratch::new(alloc),
     };
     run_lines(alloc, input, output, &mut replayer, &NoGate, turns)
 }

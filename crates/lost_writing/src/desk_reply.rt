@@ -16,9 +16,9 @@ pub enum DeskReply {
     Refused(u8),
 }
 
-/// The name of a refusal, from 1 to 20.
+/// The name of a refusal, which stands in JSON as it is. The caller has: its code is from 1 to 20.
 #[tactic(auto, unfolding(serde_json::proofs::OnLiterals::serde_json_on_literals))]
-fn refusal_name(code: u8) -> &'static str
+pub fn refusal_name(code: u8) -> &'static str
     requires { IsCode code }
     ensures name { result.now ≡ refusal_name_of code }
     ensures plain { IsPlainName result.now }

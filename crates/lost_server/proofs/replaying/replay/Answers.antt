@@ -12,4 +12,4 @@ always_lets line refused = absurd (cc)
 
 pub returns-clause-outcome : goal.returns-clause-outcome
 returns-clause-outcome g c =
-    replay_outcome c.args.name.now c.args.moment.now always _ c.run_lines.new.answerer refl refl c.in-Ok.ensures always_lets _ _ c.run_lines.result c.run_lines.ensures.outcome
+    replay_outcome c.args.name.now c.args.moment.now always _ c.run_lines.new.answerer c.in-Ok.ensures.name_is c.in-Ok.ensures.moment_is c.in-Ok.ensures.books_are always_lets _ _ c.run_lines.result c.run_lines.ensures.outcome

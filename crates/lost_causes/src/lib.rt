@@ -1,0 +1,23 @@
+//! Why a line was refused or is no line at all, in plain words with the place in the line (own rules). What is said holds
+//! of the line; where a place cannot be told, nothing is said.
+#![tactic(auto)]
+
+mod bad_line;
+mod hints;
+mod json;
+mod kept;
+mod locations;
+mod object;
+mod patterns;
+mod polygons;
+mod quoting;
+mod refusal;
+mod regions;
+mod requests;
+mod shape;
+mod stop;
+mod texts;
+mod times;
+mod uris;
+
+pub use refusal::{bad_request_cause, refusal_cause};

@@ -1,0 +1,18 @@
+//! Texts of a line as they are shown in a cause.
+use serde_json::Value;
+use std::alloc::{AllocError, Global};
+
+/// The most characters of a text that are shown.
+const MOST_SHOWN: usize = 80;
+
+/// A text as JSON has it, so that it breaks no line. Of a long one the front is shown, and three dots.
+pub(crate) fn quoted(alloc: Global, text: &str) -> Result<String, AllocError> {
+    let mut shown = String::new(alloc);
+    for character in text.chars().take(MOST_SHOWN) {
+        shown.push(character)?;
+    }
+    if shown.len() < text.len() {
+        shown.push_str("...")?;
+    }
+    Value::String(shown).to_string(alloc)
+}

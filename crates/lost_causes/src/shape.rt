@@ -1,0 +1,95 @@
+//! Codes 10, 11 and 12: what does not go together, and what is too much.
+use crate::object::Object;
+use crate::stop::{Stop, found};
+use crate::texts::id;
+use lost_reading::GEODETIC;
+use serde_json::Value;
+use std::alloc::Global;
+
+/// The most polygons of a mapping.
+const MAX_POLYGONS: usize = 64;
+
+/// The most patterns of a mapping.
+const MAX_PATTERNS: usize = 256;
+
+/// The most display names of a mapping.
+const MAX_NAMES: usize = 16;
+
+/// The most bytes of the language or the text of a display name.
+const MAX_BYTES: usize = 1024;
+
+/// Whether a mapping is a default.
+fn is_default(mapping: &Object<'_>) -> bool {
+    match mapping.member("default") {
+        Some(value) => value.as_bool() == Some(true),
+        None => false,
+    }
+}
+
+/// Why the number of regions is that of no mapping.
+pub(crate) fn missing(mapping: &Object<'_>) -> Result<(), Stop> {
+    let words = if is_default(mapping) {
+        "serviceBoundary: a default has no region"
+    } else {
+        "serviceBoundary: it has no region, and default is not true"
+    };
+    Err(found(String::from_str(mapping.alloc, words)))
+}
+
+/// What of a mapping is too much.
+pub(crate) fn too_large(mapping: &Object<'_>) -> Result<(), Stop> {
+    let alloc = mapping.alloc;
+    let regions = mapping.optional_list("serviceBoundary", "a list of regions")?;
+    let polygons = regions.iter().filter(|region| is_polygon(region)).count();
+    at_most(alloc, "serviceBoundary", "polygons", polygons, MAX_POLYGONS)?;
+    let patterns = regions.len().saturating_sub(polygons);
+    at_most(alloc, "serviceBoundary", "patterns", patterns, MAX_PATTERNS)?;
+    let names = mapping.optional_list("displayName", "a list of objects")?;
+    at_most(alloc, "displayName", "names", names.len(), MAX_NAMES)?;
+    for (place, item) in names.iter().enumerate() {
+        display_name(alloc, place, item)?;
+    }
+    Ok(())
+}
+
+fn is_polygon(region: &Value) -> bool {
+    match region.as_object() {
+        Some(members) => match members.get("profile") {
+            Some(profile) => profile.as_str() == Some(GEODETIC),
+            None => false,
+        },
+        None => false,
+    }
+}
+
+fn at_most(alloc: Global, name: &str, what: &str, count: usize, most: usize) -> Result<(), Stop> {
+    if count > most {
+        return Err(found(format!(in alloc;
+            "{name}: it has {count} {what}, and at most {most} are allowed"
+        )));
+    }
+    Ok(())
+}
+
+/// Which text of a display name is too long.
+fn display_name(alloc: Global, place: usize, item: &Value) -> Result<(), Stop> {
+    let object = Object::of(alloc, "displayName", item)?;
+    for member in ["lang", "text"] {
+        if object.required_text(member)?.len() > MAX_BYTES {
+            return Err(found(format!(in alloc;
+                "displayName[{place}].{member}: it has more than {MAX_BYTES} bytes"
+            )));
+        }
+    }
+    Ok(())
+}
+
+/// Why the key of a mapping is none.
+pub(crate) fn key(mapping: &Object<'_>) -> Result<(), Stop> {
+    let words = match mapping.text("key") {
+        Some(_) if is_default(mapping) => "key: a default has none",
+        Some(text) => return id(mapping.alloc, "key", text),
+        None => "key: it is missing, and default is not true",
+    };
+    Err(found(String::from_str(mapping.alloc, words)))
+}

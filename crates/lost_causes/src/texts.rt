@@ -1,0 +1,81 @@
+//! Codes 2, 3, 6, 8 and 12: sources, sourceIds and keys, services and numbers.
+use crate::quoting::quoted;
+use crate::stop::{Stop, found};
+use lost_urn::{ServiceUrn, check_label};
+use std::alloc::Global;
+
+/// The most bytes of a source.
+const MAX_SOURCE: usize = 253;
+
+/// The most bytes of a sourceId or a key.
+const MAX_ID: usize = 128;
+
+/// The most characters of a service number.
+const MAX_NUMBER: usize = 64;
+
+/// Why a text is no source.
+pub(crate) fn source(alloc: Global, text: &str) -> Result<(), Stop> {
+    length(alloc, "source", text, MAX_SOURCE)?;
+    for label in text.as_bytes().split(|byte| *byte == b'.') {
+        if let Err(fault) = check_label(label) {
+            let shown = quoted(alloc, text)?;
+            return Err(found(format!(in alloc; "source: {shown}: {fault}")));
+        }
+    }
+    Ok(())
+}
+
+/// Why a text is no sourceId or no key, by the name of the member.
+pub(crate) fn id(alloc: Global, name: &str, text: &str) -> Result<(), Stop> {
+    length(alloc, name, text, MAX_ID)?;
+    for byte in text.as_bytes() {
+        if *byte < 32 || *byte == 127 {
+            let shown = quoted(alloc, text)?;
+            return Err(found(format!(in alloc;
+                "{name}: {shown} has a control character, byte {byte}"
+            )));
+        }
+    }
+    Ok(())
+}
+
+/// Why a text is no service URN, by the name of the member.
+pub(crate) fn service(alloc: Global, name: &str, text: &str) -> Result<(), Stop> {
+    match ServiceUrn::check(text.as_bytes()) {
+        Ok(()) => Ok(()),
+        Err(fault) => {
+            let shown = quoted(alloc, text)?;
+            Err(found(format!(in alloc; "{name}: {shown}: {fault}")))
+        }
+    }
+}
+
+/// Why a text is no service number.
+pub(crate) fn number(alloc: Global, text: &str) -> Result<(), Stop> {
+    length(alloc, "serviceNumber", text, MAX_NUMBER)?;
+    if text.as_bytes().iter().all(|byte| is_dial_byte(*byte)) {
+        return Ok(());
+    }
+    let shown = quoted(alloc, text)?;
+    Err(found(format!(in alloc;
+        "serviceNumber: {shown} has a character other than 0 to 9, * and #"
+    )))
+}
+
+fn is_dial_byte(byte: u8) -> bool {
+    byte.is_ascii_digit() || byte == b'*' || byte == b'#'
+}
+
+/// Why the length of a text is not from 1 to the most bytes that it may have.
+fn length(alloc: Global, name: &str, text: &str, most: usize) -> Result<(), Stop> {
+    let bytes = text.len();
+    if bytes == 0 {
+        return Err(found(format!(in alloc; "{name}: it is empty")));
+    }
+    if bytes > most {
+        return Err(found(format!(in alloc;
+            "{name}: it has {bytes} bytes, and at most {most} are allowed"
+        )));
+    }
+    Ok(())
+}

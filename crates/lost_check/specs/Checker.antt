@@ -1,0 +1,23 @@
+-- What a clause reads of what checks the lines of a stream.
+use Rattle.std.specs.Prelude.{◌≡◌}
+use Rattle.lost_lines.specs.Run.{Cut, Reply}
+use Rattle.lost_server.specs.Replayer.{Replays}
+use Rattle.lost_check.specs.declared.checker.Checker.{Checker}
+use Rattle.lost_check.specs.Kinds.{kind_of}
+use Rattle.lost_check.specs.Said.{IsSaid}
+use Rattle.lost_check.specs.Tally.{Counted}
+
+-- a line is counted, and what is said of it is by the answer of a replay to it
+pub record Judges (old new : Checker) (answer said : Reply) : Type 0 where
+  pub replayer_stays : new.replayer ≡ old.replayer
+  pub counted : Counted old.tally new.tally (kind_of answer.text)
+  pub says : IsSaid new.tally.lines answer.text said.text
+  pub same_flag : said.is_internal_error ≡ answer.is_internal_error
+
+-- the step of what checks lines: a replay answers the line, and what is said of it is by that answer
+pub record Checks (old : Checker) (cut : Cut) (said : Reply) (new : Checker) : Type 0 where
+  pub answer : Reply
+  pub replays : Replays old.replayer cut answer new.replayer
+  pub counted : Counted old.tally new.tally (kind_of answer.text)
+  pub says : IsSaid new.tally.lines answer.text said.text
+  pub same_flag : said.is_internal_error ≡ answer.is_internal_error

@@ -1,0 +1,5 @@
+pub mod Kinds
+pub mod Said
+pub mod Tally
+pub mod Checker
+pub mod Check

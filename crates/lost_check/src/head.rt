@@ -1,0 +1,39 @@
+//! The head of what is said of a line: its number, and the refusal's code and name. It takes no memory.
+ghost use Rattle.std.specs.Prelude.{◌≡◌, ◌≤◌, ◌+◌, ◌++◌, IfSome, length};
+ghost use Rattle.lost_writing.specs.DeskReplies.{IsCode};
+ghost use Rattle.lost_check.specs.Said.{line_front, code_label};
+
+use lost_writing::{DeskText, refusal_name};
+
+/// The head of what is said of the line with this number: `line 12: badRequest`, where the label is `badRequest`. The
+/// caller has: the label has at most 18 bytes.
+pub(crate) fn head(number: u64, label: &[u8]) -> DeskText
+    requires { length label.now ≤ 18 }
+    ensures text { result ≡ line_front number ++ label.now }
+    ensures short { length result ≤ 45 }
+{
+    let mut text = DeskText::new();
+    text.push(b"line ");
+    text.push_number(number);
+    text.push(b": ");
+    text.push(label);
+    text
+}
+
+/// The label of a code: `9 BadRegion`, where there is one. The caller has: the code is from 1 to 20.
+pub(crate) fn label(code: Option<u8>) -> DeskText
+    requires { IfSome code (λ code. IsCode code) }
+    ensures text { result ≡ code_label code }
+    ensures short { length result ≤ 18 }
+{
+    let mut text = DeskText::new();
+    match code {
+        Some(code) => {
+            text.push_number(u64::from(code));
+            text.push(b" ");
+            text.push(refusal_name(code).as_bytes());
+        }
+        None => text.push(b"refused"),
+    }
+    text
+}

@@ -1,0 +1,13 @@
+//! A check of a stream of desk lines and request lines (own rules): what a replay of it would refuse, line by line.
+#![tactic(auto)]
+
+mod checker;
+mod checking;
+mod findings;
+mod head;
+mod kind;
+mod saying;
+mod tally;
+
+pub use checking::check_lines;
+pub use findings::Findings;

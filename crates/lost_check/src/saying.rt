@@ -1,0 +1,71 @@
+//! What is said of a line.
+ghost use Rattle.std.specs.Prelude.{◌≡◌, ◌≢◌, ◌≤◌, ◌++◌, All, IfOk, length};
+ghost use Rattle.lost_lines.specs.Answer.{bytes_of};
+ghost use Rattle.lost_lines.specs.Cutting.{newline};
+ghost use Rattle.lost_check.specs.Said.{IsHeaded, IsSaid};
+
+use crate::head::{head, label};
+use crate::kind::{Kind, code_of, kind_of};
+use lost_lines::Text;
+use lost_writing::DeskText;
+use memchr::memchr;
+use std::alloc::{AllocError, Global};
+
+/// What is said of the line with this number, by the reply of a replay to it: nothing where that says nothing against
+/// the line; else the line's number and the refusal, and then the cause, up to its first byte 10. Where memory is short the
+/// cause is left out.
+pub(crate) fn say(alloc: Global, number: u64, reply: &[u8], cause: &[u8]) -> Text
+    ensures { IsSaid number reply.now (bytes_of result) }
+{
+    match kind_of(reply) {
+        Kind::Taken => Text::Constant(b""),
+        Kind::Refused => {
+            let label = label(code_of(reply));
+            headed(alloc, head(number, label.bytes()), cause)
+        }
+        Kind::BadRequest => headed(alloc, head(number, b"badRequest"), cause),
+        Kind::Unjudged => headed(alloc, head(number, b"internalError"), cause),
+    }
+}
+
+/// A line of text with this head and this cause. The caller has: the head has at most 45 bytes.
+fn headed(alloc: Global, head: DeskText, cause: &[u8]) -> Text
+    requires { length head ≤ 45 }
+    ensures { IsHeaded head (bytes_of result) }
+{
+    match whole(alloc, head.bytes(), cause) {
+        Ok(line) => Text::Kept(line),
+        Err(_) => Text::Short(ended(head)),
+    }
+}
+
+/// A head that is the whole line.
+fn ended(head: DeskText) -> DeskText
+    requires { length head ≤ 45 }
+    ensures { IsHeaded head result }
+{
+    let mut line = head;
+    line.push(b"\n");
+    line
+}
+
+/// A head and a cause as one line, or want of memory.
+fn whole(alloc: Global, head: &[u8], cause: &[u8]) -> Result<Vec<u8>, AllocError>
+    ensures { IfOk result (λ line. IsHeaded head.now line.items) }
+{
+    let mut line = Vec::new(alloc);
+    line.extend_from_slice(head)?;
+    line.extend_from_slice(first_line(cause))?;
+    line.push(b'\n')?;
+    Ok(line)
+}
+
+/// The bytes before the first byte 10, or all where there is none.
+fn first_line(bytes: &[u8]) -> &[u8]
+    ensures { All (λ b. b ≢ newline) result.now }
+{
+    match memchr(b'\n', bytes) {
+        Some(end) => &bytes[..end],
+        None => bytes,
+    }
+}
