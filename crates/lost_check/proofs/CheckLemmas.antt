@@ -1,9 +1,12 @@
 -- A stream that is served by what checks lines is a check of a replay.
-use Rattle.std.proofs.Common.{◌≡◌, ◌⊎◌, inl, inr, ℕ, ◌+◌, ◌-◌, ◌^◌, ◌≤◌, min, Bool, List, [], ◌∷◌, ◌++◌, length, Option, Some, None, IfSome, refl, sym, ap, ◌∙◌, arith}
+use Rattle.std.proofs.Common.{◌≡◌, ◌≢◌, ◌⊎◌, inl, inr, ℕ, ◌+◌, ◌-◌, ◌^◌, ◌≤◌, min, Bool, List, [], ◌∷◌, ◌++◌, length, Option, Some, None, IfSome, Result, Ok, Err, IfOk, IfErr, OnErr, refl, sym, ap, ◌∙◌, arith}
 use Rattle.std.proofs.lemmas.List.Sums.{count_by-le-length}
 use Rattle.lost_spec.specs.Text.{Text}
 use Rattle.lost_spec.specs.Moment.{Instant}
 use Rattle.lost_lines.specs.declared.counts.Counts.{Counts}
+use Rattle.lost_lines.specs.declared.fault.ServeError.{ServeError}
+use Rattle.lost_lines.specs.declared.turns.Turns.{Turns}
+use Rattle.lost_lines.specs.Outcome.{Passage, IsOutcome}
 use Rattle.lost_lines.specs.Cutting.{lines_of}
 use Rattle.lost_lines.specs.Run.{Reply, Run, text_of, long_count, memory_count}
 use Rattle.lost_lines.specs.Stream.{IsServed, IsCutOff, IsWholeSoFar}
@@ -20,7 +23,7 @@ use Rattle.lost_check.specs.declared.findings.Findings.{Findings}
 use Rattle.lost_check.specs.Kinds.{kind_of, is_refused, is_bad_request, is_unjudged}
 use Rattle.lost_check.specs.Tally.{count_of, AreFindings}
 use Rattle.lost_check.specs.Checker.{Checks}
-use Rattle.lost_check.specs.Check.{IsJudged, IsChecked, IsCheckedInPart, IsCheckedSoFar}
+use Rattle.lost_check.specs.Check.{IsJudged, IsChecked, IsCheckedInPart, IsCheckedSoFar, IsCheckOutcome}
 use Rattle.lost_check.proofs.RunLemmas.{Sums, AreCapped, IsCheckedRun, checked_run, sums_behind}
 
 -- nothing was counted
@@ -70,7 +73,7 @@ module _ (name : Text) (t : Instant) (says : ℕ → Bool → Type 0) (old new :
             (record { lines_answered = refl; long_lines = refl; memory = refl; faults = refl });
       }
 
-  pub checked : (unread before after : Option Text) (counts : Counts) (findings : Findings) → counts.lines ≤ 2 ^ 64 - 1 → Finds findings new → IsServed says Checks old new unread before after counts → IsChecked name t unread before after counts findings
+  checked : (unread before after : Option Text) (counts : Counts) (findings : Findings) → counts.lines ≤ 2 ^ 64 - 1 → Finds findings new → IsServed says Checks old new unread before after counts → IsChecked name t unread before after counts findings
   checked unread before after counts findings few finds s =
       let c = checked_lines s.lines s.replies s.run in
       let r = from_none name t says old.replayer new.replayer begins.name_is begins.moment_is begins.books_are s.lines c.replies c.run in
@@ -93,9 +96,31 @@ module _ (name : Text) (t : Instant) (says : ℕ → Bool → Type 0) (old new :
         };
       }
 
-  pub checked_in_part : (unread before after : Option Text) → IsCutOff says Checks old new unread before after → IsCheckedInPart name t unread before after
+  checked_in_part : (unread before after : Option Text) → IsCutOff says Checks old new unread before after → IsCheckedInPart name t unread before after
   checked_in_part unread before after s = record { lines = s.lines; said = text_of s.replies; judged = judged s.lines s.replies s.run; read = s.read; written = s.written }
 
-  pub checked_so_far : (most : ℕ) (unread left before after : Option Text) → IsWholeSoFar says Checks old new most unread left before after → IsCheckedSoFar name t most unread left before after
+  checked_so_far : (most : ℕ) (unread left before after : Option Text) → IsWholeSoFar says Checks old new most unread left before after → IsCheckedSoFar name t most unread left before after
   checked_so_far most unread left before after s =
       record { lines = s.lines; said = text_of s.replies; judged = judged s.lines s.replies s.run; consumed = s.consumed; read = s.read; ended = s.ended; written = s.written }
+
+  -- as many lines as the turns allow are a number of 64 bits
+  within_most : (n most : ℕ) → n ≤ most → most ≤ 2 ^ 64 - 1 → n ≤ 2 ^ 64 - 1
+  within_most n most within few = omega arith
+
+  -- two facts of what an outcome has
+  of_both : {T E : Type 0} (r : Result T E) (P Q R : T → Type 0) → ((x : T) → P x → Q x → R x) → IfOk r P → IfOk r Q → IfOk r R
+  of_both (Ok x) P Q R follows p q = follows x p q
+  of_both (Err e) P Q R follows p q = tt
+
+  -- what a fault leaves, whichever it is
+  of_fault : {T E : Type 0} (r : Result T E) (P : Type 0) (Q : E → Type 0) → ((e : E) → P → Q e) → OnErr r P → IfErr r Q
+  of_fault (Ok x) P Q follows left = tt
+  of_fault (Err e) P Q follows left = follows e left
+
+  pub check_outcome : (turns : Turns) (p : Passage) (findings : Findings) (result : Result Counts ServeError) → turns.lines ≤ 2 ^ 64 - 1 → Finds findings new → IsOutcome says Checks old new turns p result → IsCheckOutcome name t turns p findings result
+  check_outcome turns p findings result few finds o = record {
+    checked = of_both result _ _ _ (λ counts within s. checked p.unread p.before p.after counts findings (within_most counts.lines turns.lines within few) finds s) o.within o.served;
+    within = o.within;
+    in_part = of_fault result _ _ (λ e s other. checked_in_part p.unread p.before p.after s) o.cut_off;
+    so_far = λ is. checked_so_far turns.lines p.unread p.left p.before p.after (o.whole is);
+  }

@@ -1,12 +1,16 @@
 -- What a check of a stream of lines gives, up to its end or to a fault. (Own.)
-use Rattle.std.specs.Prelude.{◌≡◌, ℕ, List, [], ◌++◌, take, length, Option, Some, IfSome}
+use Rattle.std.specs.Prelude.{◌≡◌, ◌≢◌, ◌≤◌, ℕ, List, [], ◌++◌, take, length, Option, Some, IfSome, Result, IfOk, IfErr, IsErrOf}
 use Rattle.std.specs.Io.KnownBytes.{Appends, Consumes}
 use Rattle.lost_spec.specs.Text.{Text}
 use Rattle.lost_spec.specs.Moment.{Instant}
 use Rattle.lost_lines.specs.declared.counts.Counts.{Counts}
+use Rattle.lost_lines.specs.declared.fault.ServeError.{ServeError}
+use Rattle.lost_lines.specs.declared.fault.ServeError.TheVariants.{Read, Memory}
+use Rattle.lost_lines.specs.declared.turns.Turns.{Turns}
 use Rattle.lost_lines.specs.Cutting.{lines_of, ended_lines}
 use Rattle.lost_lines.specs.Run.{Reply, Run, text_of}
 use Rattle.lost_lines.specs.Stream.{AppendsFront}
+use Rattle.lost_lines.specs.Outcome.{Passage}
 use Rattle.lost_stream.specs.Stream.{Lists}
 use Rattle.lost_stream.specs.Step.{Step}
 use Rattle.lost_server.specs.Replay.{replay_terms, no_edits, IsReplayed}
@@ -50,3 +54,11 @@ pub record IsCheckedSoFar (name : Text) (t : Instant) (most : ℕ) (unread left 
   pub read : Consumes unread left consumed
   pub ended : lines ≡ take most (ended_lines consumed)
   pub written : Appends before after said
+
+-- what a check gives, whichever result it has: at Ok the whole stream was checked, in at most as many lines as the turns allow; at each fault of the stream a front of it;
+-- at `Read` all lines whose byte 10 was read, up to as many as the turns allow
+pub record IsCheckOutcome (name : Text) (t : Instant) (turns : Turns) (p : Passage) (findings : Findings) (result : Result Counts ServeError) : Type 0 where
+  pub checked : IfOk result (λ counts. IsChecked name t p.unread p.before p.after counts findings)
+  pub within : IfOk result (λ counts. counts.lines ≤ turns.lines)
+  pub in_part : IfErr result (λ e. e ≢ Memory → IsCheckedInPart name t p.unread p.before p.after)
+  pub so_far : IsErrOf result Read → IsCheckedSoFar name t turns.lines p.unread p.left p.before p.after

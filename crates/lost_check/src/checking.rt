@@ -1,8 +1,8 @@
 //! The check of a stream of lines.
-ghost use Rattle.std.specs.Prelude.{◌≡◌, ◌≢◌, ◌≤◌, ◌-◌, ◌^◌, false, true, IfOk, IfErr, OnOk, IsErrOf, Err};
-ghost use Rattle.std.specs.Io.KnownBytes.{IsAtEnd};
-ghost use Rattle.lost_lines.specs.Watched.{inner_of, has_failed, has_ended, is_unflushed, reads_of};
-ghost use Rattle.lost_check.specs.Check.{IsChecked, IsCheckedInPart, IsCheckedSoFar};
+ghost use Rattle.std.specs.Prelude.{◌≡◌, ◌≤◌, ◌-◌, ◌^◌, Err};
+ghost use Rattle.lost_lines.specs.Calls.{AreFresh, StreamFaults};
+ghost use Rattle.lost_lines.specs.Outcome.{passage_of};
+ghost use Rattle.lost_check.specs.Check.{IsCheckOutcome};
 
 use crate::checker::Checker;
 use crate::findings::Findings;
@@ -35,37 +35,14 @@ pub fn check_lines<R: Read, W: Write, G: Gate>(
     turns: Turns,
     found: &mut Findings,
 ) -> Result<Counts, ServeError>
-    requires no_read { reads_of input.old ≡ 0 }
-    requires not_ended { has_ended input.old ≡ false }
-    requires input_sound { has_failed input.old ≡ false }
-    requires output_sound { has_failed output.old ≡ false }
+    requires fresh { AreFresh input.old output.old }
 
     // Something is written of exactly the lines that a replay refuses or does not answer.
-    ensures checked { IfOk result (λ counts. IsChecked name.now moment.now
-        (R.remaining (inner_of input.old)) (W.contents (inner_of output.old)) (W.contents (inner_of output.new)) counts found.new) }
-    ensures within { IfOk result (λ counts. counts.lines ≤ turns.lines) }
-
-    // Ok comes only where the input ended and neither flag is set.
-    ensures ended { OnOk result (has_ended input.new ≡ true) }
-    ensures at_end { OnOk result (IsAtEnd (R.remaining (inner_of input.new))) }
-    ensures sound { OnOk result ((has_failed input.new ≡ false) × (has_failed output.new ≡ false)) }
-
-    // Each fault comes only for its cause, and leaves a front of what is said.
-    ensures in_part { IfErr result (λ e. e ≢ ServeError.Memory → IsCheckedInPart name.now moment.now
-        (R.remaining (inner_of input.old)) (W.contents (inner_of output.old)) (W.contents (inner_of output.new))) }
-    ensures read { IsErrOf result ServeError.Read → has_failed input.new ≡ true }
-    ensures write { IsErrOf result ServeError.Write → has_failed output.new ≡ true }
-    // A failed read always ends in `Read`, and a failed write in `Write`.
-    ensures only_read { result ≢ Err ServeError.Read → has_failed input.new ≡ false }
-    ensures only_write { result ≢ Err ServeError.Write → has_failed output.new ≡ false }
-    ensures so_far { IsErrOf result ServeError.Read → IsCheckedSoFar name.now moment.now turns.lines
-        (R.remaining (inner_of input.old)) (R.remaining (inner_of input.new)) (W.contents (inner_of output.old))
-        (W.contents (inner_of output.new)) }
+    ensures outcome { IsCheckOutcome name.now moment.now turns
+        (passage_of R.remaining W.contents input.old input.new output.old output.new) found.new result }
+    ensures faults { StreamFaults R.remaining turns input.new output.old output.new result }
     ensures unread { result ≡ Err ServeError.Memory → input.new ≡ input.old }
     ensures unwritten { result ≡ Err ServeError.Memory → output.new ≡ output.old }
-    // Nothing is left unflushed, but for a failed write or flush.
-    ensures flushed { result ≢ Err ServeError.Write → is_unflushed output.old ≡ false → is_unflushed output.new ≡ false }
-    ensures reads { reads_of input.new ≤ turns.reads }
 {
     let Ok(replayer) = Replayer::new(alloc, name, moment) else {
         return Err(ServeError::Memory);
