@@ -1,12 +1,13 @@
 -- What ends the program early, and the exit statuses.
-use Rattle.std.specs.Prelude.{ℕ, not, ◌∷◌, [], Option, Result, Ok, Err}
+use Rattle.std.specs.Prelude.{ℕ, Bool, not, ◌==◌, ◌&&◌, ◌∷◌, [], Option, Result, Ok, Err}
 use Rattle.lost_spec.specs.Text.{Text, first_fault}
 use Rattle.lost_spec.specs.Mapping.{is_source}
 use Rattle.lost_spec.specs.Moment.{is_stamp}
+use Rattle.lost_check.specs.declared.findings.Findings.{Findings}
 use Rattle.lostd.specs.declared.trouble.Trouble.{Trouble}
-use Rattle.lostd.specs.declared.trouble.Trouble.TheVariants.{Words, CommandLine, Name, Now, Address, Run, Serve}
+use Rattle.lostd.specs.declared.trouble.Trouble.TheVariants.{Words, CommandLine, Name, Now, Address, Run, Serve, Found}
 
--- 1 for a fault of the run, 2 for a mistake on the command line (own)
+-- 1 for a fault of the run, 2 for a mistake on the command line, 3 for what a check found (own)
 abbrev pub trouble_status : Trouble → ℕ
 trouble_status Words = 2
 trouble_status CommandLine = 2
@@ -15,6 +16,11 @@ trouble_status Now = 2
 trouble_status Address = 1
 trouble_status (Run _) = 1
 trouble_status (Serve _) = 1
+trouble_status Found = 3
+
+-- a check refused no line, and left none unanswered (own)
+abbrev pub finds_nothing : Findings → Bool
+finds_nothing found = found.refused == 0 && found.bad_requests == 0 && found.unjudged == 0
 
 -- 0 where all went well (own)
 abbrev pub status_of : Result (Unit {0}) Trouble → ℕ

@@ -7,16 +7,32 @@ const VERSION: &str = "0.1.0";
 
 const HELP: &str =
     "Examples:\n  lostd replay --name lost.example --now 2026-01-01T00:00:00Z < examples/one-mapping.jsonl\n  \
+lostd check --name lost.example --now 2026-01-01T00:00:00Z < examples/one-mapping.jsonl\n  \
 lostd serve --name lost.example --queries 127.0.0.1:5222 --desk 127.0.0.1:5223 --workers 4 --connections 1000\n\n\
-`lostd replay --help` and `lostd serve --help` explain the arguments and the exit status.";
+`lostd replay --help`, `lostd check --help` and `lostd serve --help` explain the arguments and the exit status.";
 
 const REPLAY_HELP: &str =
     "Each line of standard input is one JSON object. Desk lines (`publish`, `replace`, `withdraw`, \
 `commit`) change the mappings; any other line is a request (`findService`, `listServicesByLocation`, `listServices`, \
 `getServiceBoundary`). Each line gets one line of reply on standard output, as soon as it is answered.\n\n\
 Example:\n  lostd replay --name lost.example --now 2026-01-01T00:00:00Z < examples/one-mapping.jsonl\n\n\
-Exit status: 0 at the end of the input; 1 where standard input or output failed, the input was too long (more than \
-1,000,000 lines) or memory ran out at the start; 2 for a mistake on the command line.";
+With --summary, or where standard error is a terminal, it says there at the end how many lines were answered, how many \
+of them were refused, and how many edits are published.\n\n\
+Exit status: 0 at the end of the input; 1 where standard input or output failed, the input was too long (more lines \
+than --lines allows) or memory ran out at the start; 2 for a mistake on the command line.";
+
+const CHECK_HELP: &str =
+    "Each line of standard input is read as by `lostd replay`. For each line that would be refused or answered \
+`badRequest` it prints a line: the number of the line, from 1, the code and name of the refusal, and the cause with the \
+place in the line, where items of a list are counted from 0:\n  \
+line 12: 9 BadRegion: serviceBoundary[2].polygon: the last position is not the first\n\
+Of any other line nothing is printed. At the end it prints `done lines=L refused=R badRequest=B internalError=I \
+edition=E`: the lines, those of them that are refused, answered `badRequest`, and not judged since memory ran out, and \
+how many edits are published. Where standard error is a terminal, it says there after each 100,000 lines how far it is.\n\n\
+Example:\n  lostd check --name lost.example --now 2026-01-01T00:00:00Z < examples/one-mapping.jsonl\n\n\
+Exit status: 0 where nothing is said of a line; 1 where standard input or output failed, the input was too long (more \
+lines than --lines allows) or memory ran out at the start; 2 for a mistake on the command line; 3 where something is \
+said of a line.";
 
 const SERVE_HELP: &str =
     "It prints `ready` once both addresses are listened on. One connection to the desk's address gives desk lines \
@@ -44,6 +60,7 @@ pub(crate) fn command<'a>(alloc: Global) -> Result<Command<'a>, Error> {
         .after_help(HELP)
         .subcommand_required(true)
         .subcommand(replay_command(alloc)?)?
+        .subcommand(check_command(alloc)?)?
         .subcommand(serve_command(alloc)?)?;
     Ok(command)
 }
@@ -56,7 +73,31 @@ fn replay_command<'a>(alloc: Global) -> Result<Command<'a>, Error> {
         )
         .after_help(REPLAY_HELP)
         .arg(name_argument(alloc))?
-        .arg(now_argument(alloc))?;
+        .arg(now_argument(alloc))?
+        .arg(lines_argument(alloc))?
+        .arg(flag_argument(
+            alloc,
+            "summary",
+            "Says at the end on standard error how many lines were answered and refused",
+        ))?;
+    Ok(command)
+}
+
+/// `lostd check`.
+fn check_command<'a>(alloc: Global) -> Result<Command<'a>, Error> {
+    let command = Command::new(alloc, "check")
+        .about(
+            "Says which desk lines and request lines of standard input would be refused, and why",
+        )
+        .after_help(CHECK_HELP)
+        .arg(name_argument(alloc))?
+        .arg(now_argument(alloc))?
+        .arg(lines_argument(alloc))?
+        .arg(flag_argument(
+            alloc,
+            "quiet",
+            "Says nothing of the lines, and prints the counts alone",
+        ))?;
     Ok(command)
 }
 
@@ -104,12 +145,11 @@ fn serve_command<'a>(alloc: Global) -> Result<Command<'a>, Error> {
             .value_parser(value_parser!(u32).range(0..=86_400))
             .default_value("300"),
         )?
-        .arg(
-            Arg::new(alloc, "quiet")
-                .long("quiet")
-                .action(ArgAction::SetTrue)
-                .help("Says nothing of connections that end in a fault"),
-        )?;
+        .arg(flag_argument(
+            alloc,
+            "quiet",
+            "Says nothing of connections that end in a fault",
+        ))?;
     Ok(command)
 }
 
@@ -128,6 +168,23 @@ fn number_argument<'a>(alloc: Global, name: &'static str, help: &'static str) ->
         .value_name("NUMBER")
         .action(ArgAction::Set)
         .help(help)
+}
+
+fn flag_argument<'a>(alloc: Global, name: &'static str, help: &'static str) -> Arg<'a> {
+    Arg::new(alloc, name)
+        .long(name)
+        .action(ArgAction::SetTrue)
+        .help(help)
+}
+
+fn lines_argument<'a>(alloc: Global) -> Arg<'a> {
+    number_argument(
+        alloc,
+        "lines",
+        "How many lines are read at most: 1 to 4294967295",
+    )
+    .value_parser(value_parser!(u32).range(1..))
+    .default_value("1000000")
 }
 
 fn name_argument<'a>(alloc: Global) -> Arg<'a> {

@@ -1,5 +1,5 @@
-//! `lostd`: a LoST server (RFC 5222) of JSON lines. `lostd replay` answers standard input on standard output, and `lostd
-//! serve` answers connections.
+//! `lostd`: a LoST server (RFC 5222) of JSON lines. `lostd replay` answers standard input on standard output, `lostd
+//! check` says what of it would be refused, and `lostd serve` answers connections.
 #![tactic(auto)]
 
 ghost use Rattle.std.specs.Prelude.{◌≡◌};
@@ -7,12 +7,16 @@ ghost use Rattle.std.specs.Process.{exit_status};
 ghost use Rattle.lostd.specs.Trouble.{status_of};
 
 mod arguments;
+mod checking;
+mod progress;
 mod replaying;
 mod serving;
+mod summary;
 mod trouble;
 
 use serving::ServeOrder;
 use std::env;
+use std::io::IsTerminal;
 use std::net::{Net, TcpListener, TcpStream};
 use std::process::ExitCode;
 use std::random::RandomSource;
@@ -23,7 +27,7 @@ use std::time::Clock;
 use trouble::Trouble;
 
 fn main(rt: HostRuntime) -> ExitCode {
-    end(&rt, run(&rt))
+    end(&rt, run(&rt, rt.stderr().is_terminal()))
 }
 
 /// Says what went wrong, if anything did, and gives the exit status: 0 where all went well.
@@ -36,7 +40,7 @@ fn end<R: Eprint>(rt: &R, outcome: Result<(), Trouble>) -> ExitCode
     }
 }
 
-/// Reads the words of the command line, and does what they say.
+/// Reads the words of the command line, and does what they say. `is_terminal` says whether standard error is one.
 fn run<
     R: Env
         + Print
@@ -51,12 +55,12 @@ fn run<
         + Clone
         + Send
         + Sync,
->(rt: &R) -> Result<(), Trouble> {
+>(rt: &R, is_terminal: bool) -> Result<(), Trouble> {
     let mut words = Vec::new(rt.alloc());
     for word in env::args(rt).map_err(|error| Trouble::of_words(&error))? {
         words.push(word).map_err(|_| Trouble::MEMORY)?;
     }
-    match obey(rt, words.as_slice())? {
+    match obey(rt, words.as_slice(), is_terminal)? {
         Some(order) => serving::serve_addresses(rt, &order),
         None => Ok(()),
     }
@@ -66,6 +70,7 @@ fn run<
 fn obey<'a, R: Print + Eprint + Input + AllocGlobal>(
     rt: &R,
     words: &'a [String],
+    is_terminal: bool,
 ) -> Result<Option<ServeOrder<'a>>, Trouble> {
     let Ok(command) = arguments::command(rt.alloc()) else {
         return Err(Trouble::MEMORY);
@@ -73,7 +78,11 @@ fn obey<'a, R: Print + Eprint + Input + AllocGlobal>(
     match command.try_get_matches_from(words) {
         Ok(matches) => match matches.subcommand() {
             Some(("replay", given)) => {
-                replaying::replay_standard_streams(rt, given)?;
+                replaying::replay_standard_streams(rt, given, is_terminal)?;
+                Ok(None)
+            }
+            Some(("check", given)) => {
+                checking::check_standard_input(rt, given, is_terminal)?;
                 Ok(None)
             }
             Some(("serve", given)) => Ok(Some(serving::order_of(rt, given)?)),

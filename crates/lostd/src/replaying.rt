@@ -5,6 +5,7 @@ ghost use Rattle.lost_spec.specs.Mapping.{is_source};
 ghost use Rattle.lost_spec.specs.Moment.{is_stamp, read_stamp};
 ghost use Rattle.lostd.specs.Trouble.{begin_fault};
 
+use crate::summary::Summary;
 use crate::trouble::Trouble;
 use clap::ArgMatches;
 use lost_mapping::{Moment, Source, SourceError, Stamp, StampError};
@@ -12,27 +13,64 @@ use lost_server::{Counts, ServeError, Turns, Watched, replay};
 use std::alloc::Global;
 use std::io;
 
-/// Answers standard input on standard output, as the arguments say.
+/// Answers standard input on standard output, as the arguments say. Where it is wanted, or where `is_terminal` says that
+/// standard error is one, what was counted is said there at the end.
 pub(crate) fn replay_standard_streams<R: Print + Eprint + Input + AllocGlobal>(
     rt: &R,
     given: &ArgMatches<'_>,
+    is_terminal: bool,
 ) -> Result<(), Trouble> {
-    let name = given.get_str("name").unwrap_or("");
-    let now = given.get_str("now").unwrap_or("");
-    let (name, moment) = match begin(rt.alloc(), name, now) {
-        Ok(begun) => begun,
-        Err(trouble) => return Err(said_of(rt, trouble, name, now)),
-    };
+    let (name, moment) = begun(rt, given)?;
     let mut input = Watched::new(rt.reader());
-    let mut output = Watched::new(io::writer(rt));
-    outcome_of(replay(
+    let mut output = Watched::new(Summary::new(io::writer(rt)));
+    let replayed = replay(
         rt.alloc(),
         &mut input,
         &mut output,
         &name,
         &moment,
-        Turns::USUAL,
-    ))
+        turns_of(given),
+    );
+    if let Ok(counts) = replayed {
+        if is_terminal || given.get_flag("summary") {
+            say_summary(rt, counts.lines, output.inner());
+        }
+    }
+    outcome_of(replayed)
+}
+
+/// Says on standard error what was counted of a replay.
+fn say_summary<R: Eprint, W>(rt: &R, lines: u64, summary: &Summary<W>) {
+    // Where standard error fails, the status still tells.
+    let _said = eprintln!(rt;
+        "lostd: done lines={lines} refused={} edition={}",
+        summary.told.refused, summary.told.edition
+    );
+}
+
+/// The server's name and the moment of every answer that the arguments give. What is wrong with them is said.
+pub(crate) fn begun<R: Eprint + AllocGlobal>(
+    rt: &R,
+    given: &ArgMatches<'_>,
+) -> Result<(Source, Moment), Trouble> {
+    let name = given.get_str("name").unwrap_or("");
+    let now = given.get_str("now").unwrap_or("");
+    match begin(rt.alloc(), name, now) {
+        Ok(begun) => Ok(begun),
+        Err(trouble) => Err(said_of(rt, trouble, name, now)),
+    }
+}
+
+/// How many lines are read at most, as the arguments say, and how many reads are made: 100 for each of them, as
+/// [`Turns::USUAL`] has, and no fewer than that has.
+pub(crate) fn turns_of(given: &ArgMatches<'_>) -> Turns {
+    match given.get_one::<u32>("lines") {
+        Some(lines) => Turns {
+            lines: u64::from(lines),
+            reads: u64::from(lines).saturating_mul(100).max(Turns::USUAL.reads),
+        },
+        None => Turns::USUAL,
+    }
 }
 
 /// Says of a bad name or a bad moment which word it is, and gives the trouble of a mistake that was said already; any

@@ -13,6 +13,9 @@ use std::test::Fail;
 /// The words of a run.
 const GOOD: &str = "lostd replay --name lost.example --now 2026-01-01T00:00:00Z";
 
+/// The words of a check.
+const CHECK: &str = "lostd check --name lost.example --now 2026-01-01T00:00:00Z";
+
 /// The command of the example that help shows.
 const EXAMPLE: &str =
     "lostd replay --name lost.example --now 2026-01-01T00:00:00Z < examples/one-mapping.jsonl";
@@ -35,7 +38,7 @@ fn words(alloc: Global, line: &str) -> Result<Vec<String>, AllocError> {
 /// Does what a command line says, and gives the exit status as it is shown.
 fn ended(console: &Console, alloc: Global, line: &str) -> Result<String, Fail> {
     let words = words(alloc, line)?;
-    let outcome = match obey(console, words.as_slice()) {
+    let outcome = match obey(console, words.as_slice(), false) {
         Ok(_) => Ok(()),
         Err(trouble) => Err(trouble),
     };
@@ -47,6 +50,7 @@ fn shown(status: u8) -> &'static str {
     match status {
         0 => "ExitCode(unix_exit_status(0))",
         1 => "ExitCode(unix_exit_status(1))",
+        3 => "ExitCode(unix_exit_status(3))",
         _ => "ExitCode(unix_exit_status(2))",
     }
 }
@@ -65,7 +69,7 @@ type Row = (
 
 #[test]
 fn each_run_ends_with_its_status(rt: HostRuntime) -> Result<(), Fail> {
-    let rows: [Row; 13] = [
+    let rows: [Row; 19] = [
         (
             GOOD,
             "{}\n",
@@ -94,6 +98,60 @@ fn each_run_ends_with_its_status(rt: HostRuntime) -> Result<(), Fail> {
             "lostd: standard output could not be written\n",
         ),
         (
+            "lostd replay --name lost.example --now 2026-01-01T00:00:00Z --summary",
+            "{}\n{\"commit\":{}}\n{\"commit\":[]}\n",
+            NEVER,
+            false,
+            0,
+            "{\"errors\":{\"error\":\"badRequest\"}}\n{\"committed\":{\"edition\":0}}\n{\"refused\":{\"code\":1,\"name\":\"BadLine\"}}\n",
+            "lostd: done lines=3 refused=1 edition=0\n",
+        ),
+        (
+            "lostd replay --name lost.example --now 2026-01-01T00:00:00Z --lines 1",
+            "{}\n{}\n",
+            NEVER,
+            false,
+            1,
+            "{\"errors\":{\"error\":\"badRequest\"}}\n",
+            "lostd: the input is too long: it has more lines than --lines allows, 1,000,000 where that is left out\n",
+        ),
+        (
+            CHECK,
+            "{}\n{\"commit\":{}}\n{\"commit\":[]}\n",
+            NEVER,
+            false,
+            3,
+            "line 1: badRequest: an object with one member is wanted, and it has 0\nline 3: 1 BadLine: commit: an object is wanted\ndone lines=3 refused=1 badRequest=1 internalError=0 edition=0\n",
+            "",
+        ),
+        (
+            CHECK,
+            "{\"commit\":{}}\n",
+            NEVER,
+            false,
+            0,
+            "done lines=1 refused=0 badRequest=0 internalError=0 edition=0\n",
+            "",
+        ),
+        (
+            "lostd check --name lost.example --now 2026-01-01T00:00:00Z --quiet",
+            "{}\n",
+            NEVER,
+            false,
+            3,
+            "done lines=1 refused=0 badRequest=1 internalError=0 edition=0\n",
+            "",
+        ),
+        (
+            CHECK,
+            "{}\n",
+            1,
+            false,
+            1,
+            "",
+            "lostd: standard input could not be read\n",
+        ),
+        (
             "lostd replay --name a..b --now soon",
             "{}\n",
             NEVER,
@@ -118,7 +176,7 @@ fn each_run_ends_with_its_status(rt: HostRuntime) -> Result<(), Fail> {
             false,
             2,
             "",
-            "lostd: 'lostd' requires a subcommand but one was not provided [subcommands: replay, serve, help]; see `lostd --help`\n",
+            "lostd: 'lostd' requires a subcommand but one was not provided [subcommands: replay, check, serve, help]; see `lostd --help`\n",
         ),
         (
             "lostd answer",
@@ -218,7 +276,7 @@ fn each_trouble_is_one_line(rt: HostRuntime) {
         (Trouble::CommandLine, ""),
         (
             Trouble::Run(ServeError::TurnsSpent),
-            "lostd: the input is too long: at most 1,000,000 lines are answered\n",
+            "lostd: the input is too long: it has more lines than --lines allows, 1,000,000 where that is left out\n",
         ),
         (Trouble::Run(ServeError::Memory), "lostd: memory ran out\n"),
     ] {

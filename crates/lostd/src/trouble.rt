@@ -18,6 +18,9 @@ const RUN_FAULT: u8 = 1;
 /// The status of a mistake on the command line.
 const COMMAND_LINE: u8 = 2;
 
+/// The status of a check that said something of a line.
+const FOUND: u8 = 3;
+
 /// Why the program ends early.
 #[derive(Clone, Copy, PartialEq, Eq, Debug)]
 pub(crate) enum Trouble {
@@ -35,6 +38,8 @@ pub(crate) enum Trouble {
     Run(ServeError),
     /// The server ended in a fault.
     Serve(RunFault),
+    /// A check found lines that would be refused or not answered, which was said already.
+    Found,
 }
 
 impl Trouble {
@@ -56,7 +61,7 @@ impl Trouble {
     pub(crate) fn text(self) -> &'static str {
         match self {
             Trouble::Words => "the command line could not be read: is it UTF-8?",
-            Trouble::CommandLine | Trouble::Address => "",
+            Trouble::CommandLine | Trouble::Address | Trouble::Found => "",
             Trouble::Name => {
                 "is not a server name: it must have 1 to 253 characters, in labels of letters, digits and hyphens joined by single dots, as lost.example"
             }
@@ -66,7 +71,7 @@ impl Trouble {
             Trouble::Run(ServeError::Read) => "standard input could not be read",
             Trouble::Run(ServeError::Write) => "standard output could not be written",
             Trouble::Run(ServeError::TurnsSpent) => {
-                "the input is too long: at most 1,000,000 lines are answered"
+                "the input is too long: it has more lines than --lines allows, 1,000,000 where that is left out"
             }
             Trouble::Run(ServeError::Memory) | Trouble::Serve(RunFault::Memory) => "memory ran out",
             Trouble::Serve(RunFault::Workers) => "there must be 1 to 64 workers",
@@ -74,12 +79,13 @@ impl Trouble {
         }
     }
 
-    /// The exit status: 1 for a fault of the run, 2 for a mistake on the command line.
+    /// The exit status: 1 for a fault of the run, 2 for a mistake on the command line, 3 for what a check found.
     pub(crate) fn status(self) -> u8
         ensures { result ≡ trouble_status self }
     {
         match self {
             Trouble::Address | Trouble::Run(_) | Trouble::Serve(_) => RUN_FAULT,
+            Trouble::Found => FOUND,
             _ => COMMAND_LINE,
         }
     }
@@ -130,6 +136,7 @@ fn hint_of(command: Option<&str>, kind: ClapKind, line: &str) -> &'static str {
         (ClapKind::UnknownArgument, _) if !line.starts_with("unexpected argument '-") => {
             "standard input is read: use `< FILE`"
         }
+        (_, Some("check")) => "see `lostd check --help`",
         _ => "see `lostd replay --help`",
     }
 }

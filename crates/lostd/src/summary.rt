@@ -1,0 +1,99 @@
+//! What the replies of a replay say in sum.
+use std::io;
+use std::io::Write;
+
+/// How the reply to a refused line begins.
+const REFUSED: &[u8] = b"{\"refused\":";
+
+/// How the reply to a commit begins, before the number of the edits that are published.
+const COMMITTED: &[u8] = b"{\"committed\":{\"edition\":";
+
+/// The most bytes of a reply that are looked at: no reply to a desk line has more.
+const MOST_SEEN: usize = 64;
+
+/// A writer of replies that counts them: each byte is passed on, and each reply that is written whole is looked at.
+#[derive(Drop)]
+pub(crate) struct Summary<W> {
+    inner: W,
+    /// What the replies said so far.
+    pub(crate) told: Told,
+}
+
+/// What replies said so far.
+#[derive(Drop)]
+pub(crate) struct Told {
+    seen: [u8; MOST_SEEN],
+    len: usize,
+    /// How many replies refuse their line.
+    pub(crate) refused: u64,
+    /// How many edits the last commit said to be published.
+    pub(crate) edition: u64,
+}
+
+impl<W> Summary<W> {
+    /// Counts what is written to `inner` from here on.
+    pub(crate) fn new(inner: W) -> Summary<W> {
+        let told = Told {
+            seen: [0; MOST_SEEN],
+            len: 0,
+            refused: 0,
+            edition: 0,
+        };
+        Summary { inner, told }
+    }
+}
+
+impl Told {
+    /// Looks at bytes that were written.
+    fn notice(&mut self, bytes: &[u8]) {
+        for byte in bytes {
+            if *byte == b'\n' {
+                self.judge();
+                self.len = 0;
+            } else if self.len < MOST_SEEN {
+                self.seen[self.len] = *byte;
+                self.len += 1;
+            }
+        }
+    }
+
+    /// Looks at a reply that was written whole.
+    fn judge(&mut self) {
+        let reply = &self.seen[..self.len.min(MOST_SEEN)];
+        if reply.starts_with(REFUSED) {
+            self.refused = self.refused.saturating_add(1);
+        } else if let Some(rest) = reply.strip_prefix(COMMITTED) {
+            self.edition = leading_number(rest);
+        }
+    }
+}
+
+/// The number that digits spell at the front of a text.
+fn leading_number(text: &[u8]) -> u64 {
+    let mut number: u64 = 0;
+    for byte in text {
+        if !byte.is_ascii_digit() {
+            return number;
+        }
+        number = number
+            .saturating_mul(10)
+            .saturating_add(u64::from(byte.saturating_sub(b'0')));
+    }
+    number
+}
+
+impl<W: Write> Write for Summary<W> {
+    ghost contents = { λ w. W.contents w.inner };
+
+    fn write(&mut self, buf: &[u8]) -> io::Result<usize> {
+        let taken = self.inner.write(buf);
+        if let Ok(count) = &taken {
+            self.told.notice(&buf[..buf.len().min(*count)]);
+        }
+        taken
+    }
+
+    fn flush(&mut self) -> io::Result<()> {
+        self.inner.flush()
+    }
+}
