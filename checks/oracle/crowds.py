@@ -4,15 +4,12 @@ The rings share edges, have vertices on each other's edges, spikes, and position
 walked twice, and lie along the poles and the 180th meridian. The points that are asked lie on all that, beside it and between.
 """
 import functools
-import itertools
-import multiprocessing
-import os
-from collections import Counter
 
 import mappings
 from comparing import kinds_of, lostd
 from drawn_edits import Edits
 from grounds import Ground, bounded
+from many_lines import Judged, compare_many
 from oracle import LONGEST_LINE, Replay, cut
 from places import GREATEST_LATITUDE, GREATEST_LONGITUDE, inside
 from sessions import Session, Theme
@@ -21,7 +18,7 @@ from texts import moment_of
 FIRST = [150, 250, 400]
 LINES = 2_500
 RINGS = 70
-MOST_SHOWN, BATCH = 5, 16
+BATCH = 16
 SHAPES = {
     "box": 20, "triangle": 15, "slanted": 15, "spike": 8, "bow tie": 8, "star": 6, "twice": 4, "pole": 6, "meridian": 6,
     "keyhole": 6, "split": 12, "any": 14,
@@ -154,7 +151,7 @@ def remember():
 
 
 def judge(seed):
-    """Of the session of a seed: how many lines it has, how many mappings at most, the kinds of replies, whether they are the same."""
+    """What is judged of the session of a seed; the figure is how many mappings were held at most."""
     crowd = Crowd(seed)
     replay = Replay(crowd.name, crowd.now)
     most, replies = 0, []
@@ -162,42 +159,11 @@ def judge(seed):
         replies += replay.replies(line + b"\n")
         most = max(most, len(replay.published.mappings))
     is_same = lostd(crowd.given, crowd.name, crowd.now) == b"".join(replies)
-    return seed, len(replies), most, kinds_of(replies), is_same or replay.has_member_twice
-
-
-def judgements(first):
-    """What is judged of the sessions of all seeds from one on."""
-    with multiprocessing.Pool(os.cpu_count(), remember) as pool:
-        for batch in itertools.count(first, BATCH):
-            yield from pool.imap(judge, range(batch, batch + BATCH))
+    return Judged(seed, len(replies), kinds_of(replies), most, is_same or replay.has_member_twice)
 
 
 def compare_crowds(wanted, first):
     """Compares sessions until so many lines were compared; how many sessions are the same, how many not, and kinds."""
-    kinds, lines, most, results = Counter(), 0, 0, Counter()
-    for seed, count, held, seen, is_same in judgements(first):
-        lines, most, kinds = lines + count, max(most, held), kinds + seen
-        results[is_same] += 1
-        if not is_same:
-            print(f"session of seed {seed}: WRONG", flush=True)
-            if results[False] <= MOST_SHOWN:
-                show_first_difference(seed)
-        if lines >= wanted:
-            break
-    print(f"{sum(results.values())} sessions and {lines} lines were compared; {results[False]} sessions differ")
-    print(f"at most {most} mappings were held")
-    return results[True], results[False], kinds
-
-
-def show_first_difference(seed):
-    """Prints the first line of a session that is answered otherwise, with both replies."""
-    crowd = Crowd(seed)
-    of_oracle = cut(b"".join(Replay(crowd.name, crowd.now).replies(crowd.given)))
-    of_lostd = cut(lostd(crowd.given, crowd.name, crowd.now))
-    for number, (line, reply, other) in enumerate(zip(crowd.lines, of_lostd, of_oracle), 1):
-        if reply != other:
-            print(f"  line {number} of lostd replay --name {crowd.name} --now {crowd.now}")
-            print(f"  {line.decode(errors='backslashreplace')}")
-            print(f"    lostd:  {reply.decode(errors='backslashreplace')}")
-            print(f"    oracle: {other.decode()}", flush=True)
-            return
+    passed, failed, kinds, figures = compare_many(judge, Crowd, wanted, first, BATCH, remember)
+    print(f"at most {max(figures)} mappings were held")
+    return passed, failed, kinds
