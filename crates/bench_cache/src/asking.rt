@@ -1,5 +1,6 @@
 //! Who is asked, and what.
 use crate::stacks::{Stacks, question};
+use bench_parts::nanoseconds;
 use lost_mapping::{Moment, Source, Stamp};
 use lost_worker::Replier;
 use std::alloc::{AllocError, Global};
@@ -63,16 +64,15 @@ pub(crate) fn ask<P: Replier>(
     Ok(found)
 }
 
-/// How many nanoseconds it takes to ask each line so many times.
+/// How many nanoseconds it takes to ask each line once.
 pub(crate) fn spent<P: Replier, R: Clock>(
     rt: &R,
     alloc: Global,
     replier: &mut P,
     setting: &Setting,
     lines: &[String],
-    times: u32,
 ) -> io::Result<u64> {
     let start = Instant::now(rt)?;
-    ask(alloc, replier, setting, lines, times)?;
-    Ok(u64::try_from(start.elapsed(rt)?.as_nanos()).unwrap_or(u64::MAX))
+    ask(alloc, replier, setting, lines, 1)?;
+    Ok(nanoseconds(start.elapsed(rt)?))
 }

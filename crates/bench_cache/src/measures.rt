@@ -1,6 +1,7 @@
 //! What is measured, and how it is printed.
 use crate::asking::{Setting, ask, places, spent};
 use crate::stacks::{Opened, Stacks, open};
+use bench_parts::{Spans, share};
 use lost_desk::Reader;
 use lost_worker::CachedReader;
 use std::alloc::{AllocError, Global};
@@ -11,8 +12,11 @@ use std::sync::Wait;
 /// How many places a cache keeps.
 const PLACES: u32 = 1_024;
 
-/// How often each figure is taken; the least of them counts.
+/// How often all places of a plan are asked for, as often as the plan says each time.
 const ROUNDS: u32 = 5;
+
+/// How many lines are timed at once, by the one reader and then by the other.
+const TIMED: usize = 1_000;
 
 /// How many places are asked for once, for a tool that counts instructions.
 const COUNTED: u32 = 20_000;
@@ -172,16 +176,17 @@ fn print_plan<R: Print + Wait + Clock + AllocGlobal>(
     );
     desk.close(rt);
     let (plain, cached) = measured?;
-    let asked = u64::from(plan.places).saturating_mul(u64::from(plan.times));
     println!(rt;
         "{what}: {} nanoseconds a reply by a reader, {} with a cache, {} of a hundred",
-        plain.checked_div(asked).unwrap_or(0),
-        cached.checked_div(asked).unwrap_or(0),
-        cached.saturating_mul(100).checked_div(plain).unwrap_or(0)
+        plain / TIMED as u64,
+        cached / TIMED as u64,
+        share(cached, plain)
     )
 }
 
-/// The least time of a reader, and of one with a cache, in rounds of both in turn.
+/// What a reader, and one with a cache, take for so many lines that are timed at once, in nanoseconds: the mean of all but
+/// the tenth that took longest, since what else the machine does falls on few of them. Both are timed in turn, and each is
+/// first as often as the other.
 fn measured<R: Clock>(
     rt: &R,
     alloc: Global,
@@ -192,10 +197,23 @@ fn measured<R: Clock>(
     times: u32,
 ) -> io::Result<(u64, u64)> {
     let mut cache = cached(alloc, other)?;
-    let (mut plain, mut kept) = (u64::MAX, u64::MAX);
-    for _ in 0..ROUNDS {
-        plain = plain.min(spent(rt, alloc, &mut reader, setting, lines, times)?);
-        kept = kept.min(spent(rt, alloc, &mut cache, setting, lines, times)?);
+    let mut plain = Vec::new(alloc);
+    let mut kept = Vec::new(alloc);
+    let mut is_plain_first = false;
+    for _ in 0..times.saturating_mul(ROUNDS) {
+        for some in lines.chunks_exact(TIMED) {
+            is_plain_first = !is_plain_first;
+            if is_plain_first {
+                plain.push(spent(rt, alloc, &mut reader, setting, some)?)?;
+            }
+            kept.push(spent(rt, alloc, &mut cache, setting, some)?)?;
+            if !is_plain_first {
+                plain.push(spent(rt, alloc, &mut reader, setting, some)?)?;
+            }
+        }
     }
-    Ok((plain, kept))
+    Ok((
+        Spans::of(plain).trimmed_mean(),
+        Spans::of(kept).trimmed_mean(),
+    ))
 }

@@ -2,42 +2,103 @@
 
 use crate::edits::Place;
 use crate::map::Map;
-use crate::numbers::below;
+use bench_parts::{Flood, Spans, below, nanoseconds};
+use lost_book::Edit;
+use std::alloc::Global;
 use std::io;
 use std::rt::Clock;
 use std::sync::Wait;
-use std::time::Duration;
 
-/// Nanoseconds for an edit of each kind.
+/// Medians in nanoseconds of an edit of a kind: with its commit, and its commit alone.
+#[derive(Clone, Copy, Drop)]
+pub(crate) struct Cost {
+    pub(crate) whole: u64,
+    pub(crate) commit: u64,
+}
+
+/// What an edit of each kind costs.
 #[derive(Clone, Copy, Drop)]
 pub(crate) struct Costs {
-    pub(crate) publish: u64,
-    pub(crate) replace: u64,
-    pub(crate) withdraw: u64,
+    pub(crate) publish: Cost,
+    pub(crate) replace: Cost,
+    pub(crate) withdraw: Cost,
+}
+
+impl Cost {
+    /// The less of each.
+    fn least(self, other: Cost) -> Cost {
+        Cost {
+            whole: self.whole.min(other.whole),
+            commit: self.commit.min(other.commit),
+        }
+    }
 }
 
 impl Costs {
     /// The less of each.
     pub(crate) fn least(self, other: Costs) -> Costs {
         Costs {
-            publish: self.publish.min(other.publish),
-            replace: self.replace.min(other.replace),
-            withdraw: self.withdraw.min(other.withdraw),
+            publish: self.publish.least(other.publish),
+            replace: self.replace.least(other.replace),
+            withdraw: self.withdraw.least(other.withdraw),
+        }
+    }
+}
+
+/// How long edits of a kind took, each with its commit, and their commits alone.
+#[derive(Drop)]
+struct Taken {
+    wholes: Vec<u64>,
+    commits: Vec<u64>,
+}
+
+impl Taken {
+    /// None.
+    fn none(alloc: Global) -> Taken {
+        Taken {
+            wholes: Vec::new(alloc),
+            commits: Vec::new(alloc),
+        }
+    }
+
+    /// Makes an edit and commits it, after the caches were emptied where there is a flood for it.
+    fn take<R: Wait + Clock>(
+        &mut self,
+        rt: &R,
+        map: &mut Map,
+        edit: Edit,
+        flood: &mut Option<Flood>,
+    ) -> io::Result<()> {
+        if let Some(flood) = flood {
+            flood.walk();
+        }
+        let (whole, commit) = map.time_of(rt, edit)?;
+        self.wholes.push(nanoseconds(whole))?;
+        self.commits.push(nanoseconds(commit))?;
+        Ok(())
+    }
+
+    /// The medians.
+    fn cost(self) -> Cost {
+        Cost {
+            whole: Spans::of(self.wholes).at(50),
+            commit: Spans::of(self.commits).at(50),
         }
     }
 }
 
 /// Publishes a district beside the map, replaces one in it, and withdraws the first, so many times, each with a commit of
-/// its own. Gives the mean of each kind.
+/// its own. Where there is a flood, it empties the caches before each. Gives the medians of each kind.
 pub(crate) fn changed<R: Wait + Clock + AllocGlobal>(
     rt: &R,
     map: &mut Map,
     rounds: u32,
+    flood: &mut Option<Flood>,
 ) -> io::Result<Costs> {
     let alloc = rt.alloc();
-    let mut publish = 0;
-    let mut replace = 0;
-    let mut withdraw = 0;
+    let mut publish = Taken::none(alloc);
+    let mut replace = Taken::none(alloc);
+    let mut withdraw = Taken::none(alloc);
     for round in 0..rounds {
         let beside = Place {
             row: map.rows,
@@ -48,25 +109,15 @@ pub(crate) fn changed<R: Wait + Clock + AllocGlobal>(
             column: below(map.rows, round, 3),
         };
         let edit = beside.publish(alloc, map.next_time())?;
-        publish = u64::saturating_add(publish, nanoseconds(map.time_of(rt, edit)?));
+        publish.take(rt, map, edit, flood)?;
         let edit = within.replace(alloc, map.next_time())?;
-        replace = u64::saturating_add(replace, nanoseconds(map.time_of(rt, edit)?));
+        replace.take(rt, map, edit, flood)?;
         let edit = beside.withdraw(alloc, map.next_time())?;
-        withdraw = u64::saturating_add(withdraw, nanoseconds(map.time_of(rt, edit)?));
+        withdraw.take(rt, map, edit, flood)?;
     }
     Ok(Costs {
-        publish: each(publish, rounds),
-        replace: each(replace, rounds),
-        withdraw: each(withdraw, rounds),
+        publish: publish.cost(),
+        replace: replace.cost(),
+        withdraw: withdraw.cost(),
     })
-}
-
-/// So many nanoseconds.
-pub(crate) fn nanoseconds(spent: Duration) -> u64 {
-    u64::try_from(spent.as_nanos()).unwrap_or(u64::MAX)
-}
-
-/// So much for each of so many.
-pub(crate) fn each(whole: u64, count: u32) -> u64 {
-    whole.checked_div(u64::from(count)).unwrap_or(0)
 }

@@ -155,7 +155,7 @@ fn commit_often<R: Wait + Clock + AllocGlobal>(rt: &R, map: &mut Map) -> io::Res
     for _ in 0..map.commits {
         let time = map.next_time();
         let edit = Place { row: 0, column: 0 }.replace(rt.alloc(), time)?;
-        let spent = map.time_of(rt, edit)?;
+        let (spent, _commit) = map.time_of(rt, edit)?;
         thread::sleep(rt, Duration::from_millis(10).saturating_sub(spent));
     }
     Ok(())

@@ -1,6 +1,6 @@
 //! Edits of a map of districts: one mapping for each district.
 
-use crate::districts::district;
+use bench_parts::{ring, straight_ring};
 use lost_book::Edit;
 use lost_mapping::{Identity, Mapping, Parts, Region, Stamp};
 use std::alloc::{AllocError, Global};
@@ -41,10 +41,24 @@ impl Place {
         format!(in alloc; "D-{}-{}", self.row, self.column)
     }
 
+    /// The positions of its ring, each a latitude and a longitude in 1e-7 degrees.
+    fn positions(self, alloc: Global, is_straight: bool) -> Result<Vec<(i64, i64)>, AllocError> {
+        let ring = if is_straight {
+            straight_ring(alloc, self.row, self.column)?
+        } else {
+            ring(alloc, self.row, self.column)?
+        };
+        let mut positions = Vec::new(alloc);
+        for (lat, lon) in ring {
+            positions.push((i64::from(lat), i64::from(lon)))?;
+        }
+        Ok(positions)
+    }
+
     /// The mapping of the district, at a time.
     fn mapping(self, alloc: Global, time: u32, is_straight: bool) -> io::Result<Mapping> {
         let mut regions = Vec::new(alloc);
-        regions.push(Region::Ring(district(alloc, self.row, self.column, is_straight)?))?;
+        regions.push(Region::Ring(self.positions(alloc, is_straight)?))?;
         let mut uris = Vec::new(alloc);
         uris.push(format!(in alloc; "sip:{}.{}@map.example", self.row, self.column)?)?;
         let parts = Parts {

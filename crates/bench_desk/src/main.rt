@@ -5,11 +5,9 @@
 mod answering;
 mod changes;
 mod crowd;
-mod districts;
 mod edits;
 mod map;
 mod measures;
-mod numbers;
 mod questions;
 
 use std::rt::{Clock, Env};

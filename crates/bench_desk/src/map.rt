@@ -53,13 +53,21 @@ impl Map {
         self.time
     }
 
-    /// Stages an edit and commits it. Gives how long that took.
-    pub(crate) fn time_of<R: Wait + Clock>(&mut self, rt: &R, edit: Edit) -> io::Result<Duration> {
+    /// Stages an edit and commits it. Gives how long both took, and the commit alone.
+    pub(crate) fn time_of<R: Wait + Clock>(
+        &mut self,
+        rt: &R,
+        edit: Edit,
+    ) -> io::Result<(Duration, Duration)> {
         let start = Instant::now(rt)?;
-        if self.desk.stage(edit).is_err() || self.desk.commit(rt).is_err() {
+        let is_staged = self.desk.stage(edit).is_ok();
+        let middle = Instant::now(rt)?;
+        let is_published = self.desk.commit(rt).is_ok();
+        let end = Instant::now(rt)?;
+        if !is_staged || !is_published {
             return Err(io::Error::from(io::ErrorKind::Other));
         }
-        start.elapsed(rt)
+        Ok((end.duration_since(start), end.duration_since(middle)))
     }
 
     /// How many edits are published.

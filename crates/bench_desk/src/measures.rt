@@ -1,10 +1,11 @@
 //! What is measured, and how it is printed.
 
 use crate::answering::{Answering, ByTokens, ByTree, found};
-use crate::changes::{Costs, changed, each, nanoseconds};
+use crate::changes::{Cost, Costs, changed};
 use crate::crowd::{Answers, Crowd};
 use crate::map::{Map, book_of};
 use crate::questions::Questions;
+use bench_parts::{Flood, mean, nanoseconds, share};
 use lost_desk::{Reader, Readers};
 use std::io;
 use std::rt::Clock;
@@ -28,6 +29,9 @@ const CHANGES: u32 = 200;
 
 /// How many rounds there are. What else the machine does makes a round longer, never shorter.
 const ROUNDS: u32 = 5;
+
+/// How many there are in which the caches are emptied before each edit.
+const COLD_ROUNDS: u32 = 2;
 
 /// Asks and edits a small map, and prints how many questions were answered by a mapping.
 pub(crate) fn print_counts<R: Print + Clock + Threads + Wait + Sync + AllocGlobal>(
@@ -65,7 +69,7 @@ fn count<R: Print + Clock + Threads + Wait + Sync + AllocGlobal>(
         beside.found,
         map.edition()
     )?;
-    changed(rt, map, 2)?;
+    changed(rt, map, 2, &mut None)?;
     println!(rt;
         "2 publishes, replacements and withdrawals: edition {}",
         map.edition()
@@ -145,7 +149,7 @@ fn asked<A: Answering, R: Clock + AllocGlobal>(
 ) -> io::Result<u64> {
     let start = Instant::now(rt)?;
     found(rt.alloc(), answering, questions, 0, ASKED)?;
-    Ok(each(nanoseconds(start.elapsed(rt)?), ASKED))
+    Ok(mean(nanoseconds(start.elapsed(rt)?), ASKED))
 }
 
 /// Measures four readers beside one, while nothing is committed and while the desk commits 100 times a second.
@@ -177,32 +181,65 @@ fn spent_by(answers: Answers) -> u64 {
     nanoseconds(answers.spent)
 }
 
-/// Measures what it takes to stage an edit and commit it, in rounds of both maps in turn.
+/// Measures what it takes to stage an edit and commit it, in rounds of both maps in turn: as the caches are, and emptied
+/// before each edit.
 fn print_changes<R: Print + Clock + Wait + AllocGlobal>(
     rt: &R,
     small: &mut Map,
     large: &mut Map,
 ) -> io::Result<()> {
-    let mut few = changed(rt, small, CHANGES)?;
-    let mut many = changed(rt, large, CHANGES)?;
-    for _ in 1..ROUNDS {
-        few = few.least(changed(rt, small, CHANGES)?);
-        many = many.least(changed(rt, large, CHANGES)?);
+    let mut none = None;
+    let (few, many) = least(rt, small, large, ROUNDS, &mut none)?;
+    print_costs_of(rt, "one edit after another", few, many)?;
+    let mut flood = Some(Flood::new(rt.alloc())?);
+    let (few, many) = least(rt, small, large, COLD_ROUNDS, &mut flood)?;
+    print_costs_of(rt, "the caches emptied before each edit", few, many)
+}
+
+/// The least medians of both maps in so many rounds.
+fn least<R: Clock + Wait + AllocGlobal>(
+    rt: &R,
+    small: &mut Map,
+    large: &mut Map,
+    rounds: u32,
+    flood: &mut Option<Flood>,
+) -> io::Result<(Costs, Costs)> {
+    let mut few = changed(rt, small, CHANGES, flood)?;
+    let mut many = changed(rt, large, CHANGES, flood)?;
+    for _ in 1..rounds {
+        few = few.least(changed(rt, small, CHANGES, flood)?);
+        many = many.least(changed(rt, large, CHANGES, flood)?);
     }
-    print_kind(rt, "publish", few.publish, many.publish)?;
-    print_kind(rt, "replacement", few.replace, many.replace)?;
-    print_kind(rt, "withdrawal", few.withdraw, many.withdraw)
+    Ok((few, many))
+}
+
+/// Prints what the edits take at both maps.
+fn print_costs_of<R: Print + AllocGlobal>(
+    rt: &R,
+    how: &str,
+    few: Costs,
+    many: Costs,
+) -> io::Result<()> {
+    print_kind(rt, how, "publish", few.publish, many.publish)?;
+    print_kind(rt, how, "replacement", few.replace, many.replace)?;
+    print_kind(rt, how, "withdrawal", few.withdraw, many.withdraw)
 }
 
 /// Prints what an edit of a kind takes.
-fn print_kind<R: Print + AllocGlobal>(rt: &R, kind: &str, few: u64, many: u64) -> io::Result<()> {
+fn print_kind<R: Print + AllocGlobal>(
+    rt: &R,
+    how: &str,
+    kind: &str,
+    few: Cost,
+    many: Cost,
+) -> io::Result<()> {
     println!(rt;
-        "a {kind} and its commit: {few} and {many} nanoseconds at 1,024 and 60,025 mappings, {} of a hundred, the least of {ROUNDS} rounds",
-        share(many, few)
+        "{how}, a {kind} with its commit: {} and {} nanoseconds at 1,024 and 60,025 mappings, {} of a hundred; its commit alone: {} and {}, {} of a hundred",
+        few.whole,
+        many.whole,
+        share(many.whole, few.whole),
+        few.commit,
+        many.commit,
+        share(many.commit, few.commit)
     )
-}
-
-/// So many of a hundred.
-fn share(part: u64, whole: u64) -> u64 {
-    part.saturating_mul(100).checked_div(whole).unwrap_or(0)
 }

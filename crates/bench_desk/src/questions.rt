@@ -1,7 +1,6 @@
 //! The lines that are asked, and who asks them.
 
-use crate::districts::SIDE;
-use crate::numbers::below;
+use bench_parts::{SIDE, below};
 use lost_mapping::{Moment, Source};
 use std::alloc::{AllocError, Global};
 use std::io;

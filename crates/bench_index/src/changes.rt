@@ -1,12 +1,11 @@
 //! What a cut and a take cost, each alone.
 
-use crate::districts::district;
 use crate::map::Map;
-use crate::measures::{LARGE, SMALL, share};
-use crate::numbers::below;
+use crate::measures::{LARGE, SMALL};
+use crate::shapes::district;
+use bench_parts::{below, mean, nanoseconds, share};
 use std::io;
 use std::rt::Clock;
-use std::time::Duration;
 
 /// How many rounds there are: both maps in turn. What else the machine does makes a round longer, never shorter.
 const ROUNDS: u32 = 5;
@@ -69,12 +68,7 @@ fn changed<R: Clock + AllocGlobal>(rt: &R, map: &mut Map, rows: u32) -> io::Resu
         take = u64::saturating_add(take, nanoseconds(spent));
     }
     Ok(Costs {
-        cut: cut / u64::from(CHANGES),
-        take: take / u64::from(CHANGES),
+        cut: mean(cut, CHANGES),
+        take: mean(take, CHANGES),
     })
-}
-
-/// So many nanoseconds.
-fn nanoseconds(spent: Duration) -> u64 {
-    u64::try_from(spent.as_nanos()).unwrap_or(u64::MAX)
 }

@@ -3,10 +3,9 @@
 #![tactic(auto)]
 
 mod changes;
-mod districts;
+mod cold;
 mod map;
 mod measures;
-mod numbers;
 mod shapes;
 
 use std::rt::{Clock, Env};

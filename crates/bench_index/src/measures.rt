@@ -1,15 +1,15 @@
 //! What is measured, and how it is printed.
 
 use crate::changes::print_changes;
-use crate::districts::{SIDE, district};
+use crate::cold::print_cold;
 use crate::map::Map;
-use crate::numbers::below;
-use crate::shapes::{place, position, sliver, square};
+use crate::shapes::{district, place, position, sliver, square};
+use bench_parts::{SIDE, STRAY, below, mean, nanoseconds, share};
 use lost_geo::{GeoPoint, Polygon};
 use std::alloc::Global;
 use std::io;
 use std::rt::Clock;
-use std::time::{Duration, Instant};
+use std::time::Instant;
 
 /// The rows and the columns of the small map and of the large one: 1,024 and 60,025 districts.
 pub(crate) const SMALL: u32 = 32;
@@ -67,6 +67,7 @@ pub(crate) fn print_costs<R: Print + Clock + AllocGlobal>(rt: &R) -> io::Result<
     for _ in 0..3 {
         print_asked(rt, &small, &large)?;
     }
+    print_cold(rt, &small, &large)?;
     print_changes(rt, &mut small, &mut large)?;
     print_worst(rt)
 }
@@ -94,14 +95,14 @@ fn print_worst<R: Print + Clock + AllocGlobal>(rt: &R) -> io::Result<()> {
     for _ in 0..20 {
         pile.count(&place(0, 0)?)?;
     }
-    let spent = each(start.elapsed(rt)?, PILED.saturating_mul(20));
+    let spent = mean(nanoseconds(start.elapsed(rt)?), PILED.saturating_mul(20));
     println!(rt; "10,000 rings over one place: {spent} nanoseconds for each")?;
     let slivers = slivers_of(alloc, SLIVERS)?;
     let start = Instant::now(rt)?;
     for _ in 0..20 {
         slivers.count(&place(0, 700)?)?;
     }
-    let spent = each(start.elapsed(rt)?, SLIVERS.saturating_mul(20));
+    let spent = mean(nanoseconds(start.elapsed(rt)?), SLIVERS.saturating_mul(20));
     println!(rt; "200 slivers of 4,096 positions over the earth: {spent} nanoseconds for each")
 }
 
@@ -133,7 +134,7 @@ fn print_walks<R: Print + Clock + AllocGlobal>(rt: &R, alloc: Global) -> io::Res
 
 /// How long one point takes in the ring of its district, over points all over a map.
 fn walked<R: Clock + AllocGlobal>(rt: &R, rings: &[Polygon], rows: u32) -> io::Result<u64> {
-    let points = points(rt.alloc(), rows)?;
+    let points = points(rt.alloc(), rows, ASKED)?;
     let start = Instant::now(rt)?;
     let mut inside: usize = 0;
     for point in &points {
@@ -143,7 +144,7 @@ fn walked<R: Clock + AllocGlobal>(rt: &R, rings: &[Polygon], rows: u32) -> io::R
     if inside == 0 {
         return Ok(0);
     }
-    Ok(each(spent, ASKED))
+    Ok(mean(nanoseconds(spent), ASKED))
 }
 
 /// Whether a point is inside the ring of its district.
@@ -204,35 +205,24 @@ fn slivers_of(alloc: Global, rings: u32) -> io::Result<Map> {
     Ok(map)
 }
 
-/// How long one point takes, over points all over a map and a little beside it.
+/// How long one point takes, over points all over so many rows and columns of districts.
 fn asked<R: Clock + AllocGlobal>(rt: &R, map: &Map, rows: u32) -> io::Result<u64> {
-    let points = points(rt.alloc(), rows)?;
+    let points = points(rt.alloc(), rows, ASKED)?;
     let start = Instant::now(rt)?;
     for point in &points {
         map.count(point)?;
     }
-    Ok(each(start.elapsed(rt)?, ASKED))
+    Ok(mean(nanoseconds(start.elapsed(rt)?), ASKED))
 }
 
-/// The points that are asked for.
-fn points(alloc: Global, rows: u32) -> io::Result<Vec<GeoPoint>> {
-    let end = rows.saturating_mul(SIDE / 8 * 9);
+/// So many points all over so many rows and columns of districts: a district holds each, however its sides stray.
+pub(crate) fn points(alloc: Global, rows: u32, count: u32) -> io::Result<Vec<GeoPoint>> {
+    let width = rows.saturating_mul(SIDE).saturating_sub(STRAY);
     let mut points = Vec::new(alloc);
-    for number in 0..ASKED {
-        points.push(position(below(end, number, 1), below(end, number, 2))?)?;
+    for number in 0..count {
+        let lat = below(width, number, 1).saturating_add(STRAY);
+        let lon = below(width, number, 2).saturating_add(STRAY);
+        points.push(position(lat, lon)?)?;
     }
     Ok(points)
-}
-
-/// So many nanoseconds for each of so many.
-fn each(spent: Duration, count: u32) -> u64 {
-    u64::try_from(spent.as_nanos())
-        .unwrap_or(u64::MAX)
-        .checked_div(u64::from(count))
-        .unwrap_or(0)
-}
-
-/// So many of a hundred.
-pub(crate) fn share(part: u64, whole: u64) -> u64 {
-    part.saturating_mul(100).checked_div(whole).unwrap_or(0)
 }

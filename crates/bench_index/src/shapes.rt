@@ -1,5 +1,6 @@
-//! Rings that cost most: many over one place, and the longest and thinnest that are accepted.
+//! The ring of a district, and rings that cost most: many over one place, and the longest and thinnest that are accepted.
 
+use bench_parts::ring;
 use lost_geo::{GeoPoint, Polygon};
 use std::alloc::Global;
 use std::io;
@@ -15,6 +16,15 @@ pub(crate) fn position(lat: u32, lon: u32) -> io::Result<GeoPoint> {
 /// The position at a latitude and a longitude.
 pub(crate) fn place(lat: i64, lon: i64) -> io::Result<GeoPoint> {
     GeoPoint::new(lat, lon).map_err(|_| io::Error::from(io::ErrorKind::InvalidInput))
+}
+
+/// The district at a row and a column.
+pub(crate) fn district(alloc: Global, row: u32, column: u32) -> io::Result<Polygon> {
+    let mut positions = Vec::new(alloc);
+    for (lat, lon) in ring(alloc, row, column)? {
+        positions.push(position(lat, lon)?)?;
+    }
+    Polygon::new(positions).map_err(|_| io::Error::from(io::ErrorKind::InvalidInput))
 }
 
 /// A square around the middle of the place that is asked for.

@@ -1,7 +1,6 @@
 //! The lines that are replayed. A district's mapping is of the police; one default of the fire brigade stands beside all.
-use crate::districts::{SIDE, STRAY, ring};
 use crate::maps::Map;
-use crate::numbers::below;
+use bench_parts::{SIDE, STRAY, below, ring};
 use std::alloc::{AllocError, Global};
 use std::fmt::Write;
 

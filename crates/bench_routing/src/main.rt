@@ -3,16 +3,13 @@
 //! argument small maps are replayed, and the kinds of the replies are printed, so that the gate runs the same code.
 #![tactic(auto)]
 
-mod districts;
 mod lines;
 mod maps;
 mod measures;
-mod numbers;
 mod parts;
 mod plans;
 mod replies;
 mod script;
-mod stopwatch;
 
 use std::process::ExitCode;
 use std::rt::{Clock, Env};

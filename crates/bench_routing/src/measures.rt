@@ -1,13 +1,14 @@
 //! What is measured, and how it is printed.
 use crate::maps::{LARGE, Map, SMALL};
 use crate::parts::{Part, Task};
-use crate::plans::{FEW, MANY, districts, load, roads, settled};
+use crate::plans::{COLD, FEW, MANY, Scale, districts, load, roads, settled};
 use crate::replies::Reply;
 use crate::script::{Pen, Script};
-use crate::stopwatch::{each, nanoseconds, share};
+use bench_parts::{Flood, Spans, mean, nanoseconds, share};
 use lost_lines::{Turns, Watched};
 use lost_mapping::{Moment, Source};
 use lost_server::replay;
+use std::alloc::{AllocError, Global};
 use std::cell::Cell;
 use std::io;
 use std::rt::Clock;
@@ -66,20 +67,31 @@ pub(crate) fn print_load<R: Print + Clock + AllocGlobal + Drop>(rt: &R) -> io::R
     are_answered(rt, parts.as_slice())
 }
 
-/// Measures, and prints the ratios. Says whether all replies are as they should be.
+/// Measures, and prints the ratios: of lines one after another, and of lines before each of which the caches are emptied.
+/// Says whether all replies are as they should be.
 pub(crate) fn print_ratios<R: Print + Clock + AllocGlobal + Drop>(rt: &R) -> io::Result<bool> {
-    let alloc = rt.alloc();
     print_loads(rt)?;
-    let few = replayed(rt, SMALL, districts(alloc, SMALL, MANY)?)?;
-    let many = replayed(rt, LARGE, districts(alloc, LARGE, MANY)?)?;
+    println!(rt; "one line after another:")?;
+    if !print_scale(rt, MANY)? {
+        return Ok(false);
+    }
+    println!(rt; "the caches emptied before each line:")?;
+    print_scale(rt, COLD)
+}
+
+/// Measures at a scale, and prints the ratios. Says whether all replies are as they should be.
+fn print_scale<R: Print + Clock + AllocGlobal + Drop>(rt: &R, scale: Scale) -> io::Result<bool> {
+    let alloc = rt.alloc();
+    let few = replayed(rt, SMALL, districts(alloc, SMALL, scale)?)?;
+    let many = replayed(rt, LARGE, districts(alloc, LARGE, scale)?)?;
     for task in COMPARED {
         print_least(rt, task, few.as_slice(), many.as_slice())?;
     }
     if !are_answered(rt, few.as_slice())? || !are_answered(rt, many.as_slice())? {
         return Ok(false);
     }
-    let few = replayed(rt, SMALL, roads(alloc, SMALL, MANY)?)?;
-    let many = replayed(rt, LARGE, roads(alloc, LARGE, MANY)?)?;
+    let few = replayed(rt, SMALL, roads(alloc, SMALL, scale)?)?;
+    let many = replayed(rt, LARGE, roads(alloc, LARGE, scale)?)?;
     print_least(rt, Task::Validations, few.as_slice(), many.as_slice())?;
     Ok(are_answered(rt, few.as_slice())? && are_answered(rt, many.as_slice())?)
 }
@@ -124,7 +136,8 @@ fn print_least<R: Print + AllocGlobal>(
     few: &[Part],
     many: &[Part],
 ) -> io::Result<()> {
-    let (few, many) = (least(few, task), least(many, task));
+    let alloc = rt.alloc();
+    let (few, many) = (least(alloc, few, task)?, least(alloc, many, task)?);
     println!(rt;
         "{}: {few} and {many} nanoseconds a line at 1,000 and 60,000, {} of a hundred",
         task.words(),
@@ -133,14 +146,25 @@ fn print_least<R: Print + AllocGlobal>(
 }
 
 /// What a line of a task costs at least, in nanoseconds.
-fn least(parts: &[Part], task: Task) -> u64 {
+fn least(alloc: Global, parts: &[Part], task: Task) -> Result<u64, AllocError> {
     let mut least = u64::MAX;
     for part in parts {
         if part.task == task {
-            least = least.min(each(part.spent, part.lines));
+            least = least.min(cost(alloc, part)?);
         }
     }
-    least
+    Ok(least)
+}
+
+/// What a line of a part costs, in nanoseconds: the mean of all, or, where each was answered alone, of all but the tenth
+/// that took longest, since what else the machine does falls on few of them.
+fn cost(alloc: Global, part: &Part) -> Result<u64, AllocError> {
+    if !part.is_cold {
+        return Ok(mean(nanoseconds(part.spent), part.lines));
+    }
+    let mut spans = Vec::new(alloc);
+    spans.extend_from_slice(part.spans.as_slice())?;
+    Ok(Spans::of(spans).trimmed_mean())
 }
 
 /// Prints how many replies of each kind a part has.
@@ -181,7 +205,12 @@ fn replayed<R: Clock + AllocGlobal + Drop>(
         return Err(io::Error::from(io::ErrorKind::OutOfMemory));
     };
     let page = Cell::new(Vec::new(alloc));
-    let mut input = Watched::new(Script::new(rt, alloc, map, parts, &page));
+    let flood = if parts.iter().any(|part| part.is_cold) {
+        Some(Flood::new(alloc)?)
+    } else {
+        None
+    };
+    let mut input = Watched::new(Script::new(rt, alloc, map, parts, &page, flood));
     let mut output = Watched::new(Pen { alloc, page: &page });
     match replay(alloc, &mut input, &mut output, &name, &moment, Turns::USUAL) {
         Ok(_) => Ok(input.into_inner().into_parts()),

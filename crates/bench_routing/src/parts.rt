@@ -1,8 +1,8 @@
 //! The parts of a stream of lines, each timed alone.
 use crate::lines;
 use crate::maps::Map;
-use crate::numbers::below;
 use crate::replies::Reply;
+use bench_parts::below;
 use std::alloc::{AllocError, Global};
 use std::time::Duration;
 
@@ -54,6 +54,9 @@ pub(crate) struct Part {
     pub(crate) bytes: u64,
     /// How long it took to answer them.
     pub(crate) spent: Duration,
+    /// Whether each is answered alone, after the caches were emptied, and how many nanoseconds each then took.
+    pub(crate) is_cold: bool,
+    pub(crate) spans: Vec<u64>,
     /// The kind of each reply.
     pub(crate) replies: Vec<Reply>,
 }
@@ -131,7 +134,17 @@ impl Part {
             given: 0,
             bytes: 0,
             spent: Duration::ZERO,
+            is_cold: false,
+            spans: Vec::new(alloc),
             replies: Vec::new(alloc),
+        }
+    }
+
+    /// The same part, of which each line is answered alone, after the caches were emptied.
+    pub(crate) fn cold(self) -> Part {
+        Part {
+            is_cold: true,
+            ..self
         }
     }
 

@@ -15,6 +15,8 @@ pub(crate) struct Scale {
     pub(crate) services: u32,
     /// How many lines of edits and commits a round has.
     pub(crate) edits: u32,
+    /// Whether each line is answered alone, after the caches were emptied.
+    pub(crate) is_cold: bool,
 }
 
 /// The scale at which only the kinds of the replies are looked at.
@@ -24,6 +26,7 @@ pub(crate) const FEW: Scale = Scale {
     boundaries: 3,
     services: 2,
     edits: 8,
+    is_cold: false,
 };
 
 /// The scale of a measurement.
@@ -33,7 +36,26 @@ pub(crate) const MANY: Scale = Scale {
     boundaries: 2_000,
     services: 100,
     edits: 2_000,
+    is_cold: false,
 };
+
+/// The scale of a measurement in which the caches are emptied before each line.
+pub(crate) const COLD: Scale = Scale {
+    rounds: 2,
+    asked: 300,
+    boundaries: 300,
+    services: 100,
+    edits: 400,
+    is_cold: true,
+};
+
+impl Scale {
+    /// A part with so many lines, from the one of a number on.
+    fn part(self, alloc: Global, task: Task, first: u32, lines: u32) -> Part {
+        let part = Part::new(alloc, task, first, lines);
+        if self.is_cold { part.cold() } else { part }
+    }
+}
 
 /// Loads the districts and the default.
 pub(crate) fn load(alloc: Global, map: Map) -> Result<Vec<Part>, AllocError> {
@@ -64,13 +86,13 @@ pub(crate) fn districts(alloc: Global, map: Map, scale: Scale) -> Result<Vec<Par
             (Task::ServicesAt, scale.asked),
             (Task::Boundaries, scale.boundaries),
         ] {
-            parts.push(Part::new(alloc, task, round.saturating_mul(lines), lines))?;
+            parts.push(scale.part(alloc, task, round.saturating_mul(lines), lines))?;
         }
     }
     for task in [Task::Replacements, Task::Turnover] {
         for round in 0..scale.rounds {
             let first = round.saturating_mul(scale.edits);
-            parts.push(Part::new(alloc, task, first, scale.edits))?;
+            parts.push(scale.part(alloc, task, first, scale.edits))?;
         }
     }
     Ok(parts)
@@ -83,7 +105,7 @@ pub(crate) fn roads(alloc: Global, map: Map, scale: Scale) -> Result<Vec<Part>, 
     parts.push(Part::new(alloc, Task::Commit, 0, 1))?;
     for round in 0..scale.rounds {
         let first = round.saturating_mul(scale.asked);
-        parts.push(Part::new(alloc, Task::Validations, first, scale.asked))?;
+        parts.push(scale.part(alloc, Task::Validations, first, scale.asked))?;
     }
     Ok(parts)
 }

@@ -3,7 +3,7 @@
 use crate::maps::Map;
 use crate::parts::Part;
 use crate::replies::Reply;
-use crate::stopwatch::nanoseconds;
+use bench_parts::{Flood, nanoseconds};
 use std::alloc::Global;
 use std::cell::Cell;
 use std::io;
@@ -11,7 +11,7 @@ use std::io::{Read, Write};
 use std::rt::Clock;
 use std::time::{Duration, Instant};
 
-/// How many bytes are made at once, but for the end of a line.
+/// How many bytes are made at once, but for the end of a line; where each line is answered alone, one line.
 const CHUNK: usize = 262_144;
 
 /// What was written since it was last looked at.
@@ -32,6 +32,8 @@ pub(crate) struct Script<'a, R> {
     /// Since when they are answered.
     since: Option<Instant>,
     page: &'a Page,
+    /// What empties the caches before a line that is answered alone.
+    flood: Option<Flood>,
 }
 
 impl<'a, R: Clock> Script<'a, R> {
@@ -42,6 +44,7 @@ impl<'a, R: Clock> Script<'a, R> {
         map: Map,
         parts: Vec<Part>,
         page: &'a Page,
+        flood: Option<Flood>,
     ) -> Script<'a, R> {
         Script {
             rt,
@@ -53,6 +56,7 @@ impl<'a, R: Clock> Script<'a, R> {
             given: 0,
             since: None,
             page,
+            flood,
         }
     }
 
@@ -67,7 +71,11 @@ impl<'a, R: Clock> Script<'a, R> {
         let mut page = self.page.replace(Vec::new(self.alloc));
         if let Some(part) = self.parts.get_mut(self.place) {
             if let Some(since) = self.since {
-                part.spent = part.spent.saturating_add(now.duration_since(since));
+                let spent = now.duration_since(since);
+                part.spent = part.spent.saturating_add(spent);
+                if part.is_cold {
+                    part.spans.push(nanoseconds(spent))?;
+                }
             }
             take_down(part, page.as_slice())?;
         }
@@ -76,8 +84,18 @@ impl<'a, R: Clock> Script<'a, R> {
         self.chunk.clear();
         self.given = 0;
         self.make()?;
+        self.empty_caches();
         self.since = Some(Instant::now(self.rt)?);
         Ok(())
+    }
+
+    /// Empties the caches where the lines that were made are to be answered so.
+    fn empty_caches(&mut self) {
+        if let (Some(part), Some(flood)) = (self.parts.get(self.place), &mut self.flood)
+            && part.is_cold
+        {
+            flood.walk();
+        }
     }
 
     /// Makes the next lines of the part, or of the next part that has some.
@@ -111,8 +129,9 @@ impl<R: Clock> Read for Script<'_, R> {
 
 /// Adds lines of a part, until there are enough bytes or no line is left.
 fn fill(chunk: &mut Vec<u8>, part: &mut Part, alloc: Global, map: Map) -> io::Result<()> {
+    let enough = if part.is_cold { 1 } else { CHUNK };
     for _ in 0..part.lines {
-        if chunk.len() >= CHUNK {
+        if chunk.len() >= enough {
             return Ok(());
         }
         match part.next_line(alloc, map)? {

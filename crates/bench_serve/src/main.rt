@@ -9,7 +9,6 @@ mod echo;
 mod measures;
 mod replays;
 mod scenes;
-mod spans;
 
 use std::rt::{Clock, Env};
 use std::{env, io};

@@ -1,7 +1,7 @@
 //! What is measured, and how it is printed.
 use crate::replays::replayed;
 use crate::scenes::{Outcome, Plan, echoed, served};
-use crate::spans::a_second;
+use bench_parts::{a_second, share};
 use lost_mapping::{Moment, Source, Stamp};
 use std::alloc::{AllocError, Global};
 use std::io;
@@ -244,9 +244,4 @@ fn print_beside<
         beside.commits.at(99),
         beside.commits.longest()
     )
-}
-
-/// So many of a hundred.
-fn share(part: u64, whole: u64) -> u64 {
-    part.saturating_mul(100).checked_div(whole).unwrap_or(0)
 }

@@ -1,6 +1,6 @@
 //! The same lines through `replay`, in memory.
 use crate::districts::{COMMIT, publish, question};
-use crate::spans::nanoseconds;
+use bench_parts::nanoseconds;
 use lost_mapping::{Moment, Source};
 use lost_server::{Turns, Watched, replay};
 use std::alloc::Global;

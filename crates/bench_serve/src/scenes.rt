@@ -2,7 +2,7 @@
 use crate::client::{Client, found_in};
 use crate::districts::{COMMIT, publish, question};
 use crate::echo::send_back;
-use crate::spans::{Spans, nanoseconds};
+use bench_parts::{Spans, nanoseconds};
 use lost_mapping::Source;
 use lost_server::{Manners, NoGate, serve};
 use std::alloc::{AllocError, Global};

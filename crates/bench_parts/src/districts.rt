@@ -5,10 +5,10 @@ use crate::numbers::below;
 use std::alloc::{AllocError, Global};
 
 /// How far two corners of a district are apart, in 1e-7 degrees.
-pub(crate) const SIDE: u32 = 500_000;
+pub const SIDE: u32 = 500_000;
 
-/// How far a side strays from the straight line, upwards or to the right.
-pub(crate) const STRAY: u32 = 60_000;
+/// How far a side strays from the straight line, upwards or to the right, in 1e-7 degrees.
+pub const STRAY: u32 = 60_000;
 
 /// The least number of positions within a side, and by how many it may have more.
 const LEAST: u32 = 4;
@@ -23,42 +23,29 @@ struct Side {
     column: u32,
     /// Whether it leads to the corner above, and not to the one to the right.
     is_upwards: bool,
+    /// Whether it has no positions but its corners.
+    is_straight: bool,
 }
 
 impl Side {
-    /// The side that begins at a corner and leads to the right.
-    fn across(row: u32, column: u32) -> Side {
-        Side {
-            row,
-            column,
-            is_upwards: false,
-        }
-    }
-
-    /// The side that begins at a corner and leads upwards.
-    fn upwards(row: u32, column: u32) -> Side {
-        Side {
-            row,
-            column,
-            is_upwards: true,
-        }
-    }
-
     /// How many positions it has within.
     fn len(self) -> u32 {
+        if self.is_straight {
+            return 0;
+        }
         LEAST.saturating_add(below(MORE, self.seed(), 0))
     }
 
-    /// The latitude and the longitude of a position of it, by its place: 0 is the corner that it begins at.
-    fn at(self, place: u32) -> (u32, u32) {
-        let way = place
+    /// The latitude and the longitude of a position of it, by its number: 0 is the corner that it begins at.
+    fn at(self, number: u32) -> (u32, u32) {
+        let way = number
             .saturating_mul(SIDE)
             .checked_div(self.len().saturating_add(1))
             .unwrap_or(0);
-        let stray = if place == 0 {
+        let stray = if number == 0 {
             0
         } else {
-            below(STRAY, self.seed(), place)
+            below(STRAY, self.seed(), number)
         };
         let lat = self.row.saturating_mul(SIDE);
         let lon = self.column.saturating_mul(SIDE);
@@ -78,31 +65,58 @@ impl Side {
     }
 }
 
-/// The latitudes and longitudes of the ring of the district at a row and a column.
-pub(crate) fn ring(alloc: Global, row: u32, column: u32) -> Result<Vec<(u32, u32)>, AllocError> {
+/// The ring of the district at a row and a column: latitudes and longitudes in 1e-7 degrees, the first at the end again.
+///
+/// # Errors
+/// `AllocError` where memory runs out.
+pub fn ring(alloc: Global, row: u32, column: u32) -> Result<Vec<(u32, u32)>, AllocError> {
+    drawn(alloc, row, column, false)
+}
+
+/// The ring of a district that is drawn anew, with straight sides between its four corners.
+///
+/// # Errors
+/// `AllocError` where memory runs out.
+pub fn straight_ring(alloc: Global, row: u32, column: u32) -> Result<Vec<(u32, u32)>, AllocError> {
+    drawn(alloc, row, column, true)
+}
+
+/// The ring of a district.
+fn drawn(
+    alloc: Global,
+    row: u32,
+    column: u32,
+    is_straight: bool,
+) -> Result<Vec<(u32, u32)>, AllocError> {
+    let side = |row: u32, column: u32, is_upwards: bool| Side {
+        row,
+        column,
+        is_upwards,
+        is_straight,
+    };
     let above = row.saturating_add(1);
     let right = column.saturating_add(1);
     let mut ring = Vec::new(alloc);
-    push_forth(&mut ring, Side::across(row, column))?;
-    push_forth(&mut ring, Side::upwards(row, right))?;
+    push_forth(&mut ring, side(row, column, false))?;
+    push_forth(&mut ring, side(row, right, true))?;
     push_back(
         &mut ring,
-        Side::across(above, column),
-        Side::across(above, right),
+        side(above, column, false),
+        side(above, right, false),
     )?;
     push_back(
         &mut ring,
-        Side::upwards(row, column),
-        Side::upwards(above, column),
+        side(row, column, true),
+        side(above, column, true),
     )?;
-    ring.push(Side::across(row, column).at(0))?;
+    ring.push(side(row, column, false).at(0))?;
     Ok(ring)
 }
 
 /// Adds the corner that a side begins at, and the positions within.
 fn push_forth(ring: &mut Vec<(u32, u32)>, side: Side) -> Result<(), AllocError> {
-    for place in 0..side.len().saturating_add(1) {
-        ring.push(side.at(place))?;
+    for number in 0..side.len().saturating_add(1) {
+        ring.push(side.at(number))?;
     }
     Ok(())
 }
@@ -110,8 +124,8 @@ fn push_forth(ring: &mut Vec<(u32, u32)>, side: Side) -> Result<(), AllocError> 
 /// Adds the corner that a side leads to, at which `next` begins, and the positions within, from the last to the first.
 fn push_back(ring: &mut Vec<(u32, u32)>, side: Side, next: Side) -> Result<(), AllocError> {
     ring.push(next.at(0))?;
-    for place in 0..side.len() {
-        ring.push(side.at(side.len().saturating_sub(place)))?;
+    for number in 0..side.len() {
+        ring.push(side.at(side.len().saturating_sub(number)))?;
     }
     Ok(())
 }
