@@ -82,7 +82,7 @@ fn answer_request<S: PlaceSets>(
 }
 
 /// The reply to a request that is answered at this place, or want of memory. The place's set is looked for among those
-/// that are kept, and is kept where it was not found.
+/// that are kept, and is kept where it was not found and is wanted.
 fn answer_at_place<S: PlaceSets>(
     alloc: Global,
     sets: &mut S,
@@ -100,6 +100,9 @@ fn answer_at_place<S: PlaceSets>(
     let edition = book.edition();
     if let Some(holders) = sets.find(edition, &place) {
         return answer_from_set(alloc, book, name, moment, request, &place, holders);
+    }
+    if !sets.is_wanted() {
+        return reply_request(alloc, book, name, moment, request);
     }
     let holders = book.holders(&place)?;
     let reply = answer_from_set(alloc, book, name, moment, request, &place, &holders)?;

@@ -20,6 +20,14 @@ pub trait PlaceSets {
             (λ n. (e : Entry) → keeps n e → keeps self.old e)) }
         ensures kept { IfSome result (λ set. keeps self.old (entry edition (place_of place.now) set.now)) };
 
+    /// Whether the set of the place that was looked for last, and not found, is wanted. Where it is not, the line is
+    /// answered without making it. The entries stay.
+    fn is_wanted(&mut self) -> bool
+        ensures { (e : Entry) → keeps self.new e → keeps self.old e }
+    {
+        true
+    }
+
     /// Keeps the set of this edition and place, and may drop any entry. Where memory is refused it drops this one.
     fn keep(&mut self, edition: u64, place: Place, set: Vec<usize>)
         ensures { (e : Entry) → keeps self.new e → keeps self.old e ⊎ (e ≡ entry edition (place_of place) set.items) };

@@ -66,14 +66,6 @@ impl<S: BuildHasher + Drop> PlaceCache<S> {
             None
         }
     }
-
-    /// Whether the place that was looked for last is to be kept: where a set of it is kept of another edition, where there
-    /// is room, or where its mark stands. Where it is not, it leaves its mark.
-    fn is_to_keep(&mut self) -> bool
-        ensures { self.new.cache ≡ self.old.cache }
-    {
-        self.is_held || self.cache.len() < self.cache.cap().get() || self.marks.has_met(self.asked)
-    }
 }
 
 impl<S: BuildHasher + Drop> PlaceSets for PlaceCache<S> {
@@ -93,14 +85,18 @@ impl<S: BuildHasher + Drop> PlaceSets for PlaceCache<S> {
         self.set_of(edition, place)
     }
 
+    /// Whether the place that was looked for last is to be kept: where a set of it is kept of another edition, where there
+    /// is room, or where its mark stands. Where it is not, it leaves its mark.
+    fn is_wanted(&mut self) -> bool {
+        self.is_held || self.cache.len() < self.cache.cap().get() || self.marks.has_met(self.asked)
+    }
+
     fn keep(&mut self, edition: u64, place: Place, set: Vec<usize>) {
-        if self.is_to_keep() {
-            let kept = Kept {
-                edition,
-                place,
-                set,
-            };
-            let _dropped = self.cache.put(self.asked, kept);
-        }
+        let kept = Kept {
+            edition,
+            place,
+            set,
+        };
+        let _dropped = self.cache.put(self.asked, kept);
     }
 }
