@@ -68,7 +68,7 @@ fn answered<R: Print + AllocGlobal, H: Held>(rt: &R, held: &H) -> io::Result<Str
 }
 
 /// The edit of a desk line; read again where memory was refused for it.
-pub(crate) fn edit_of(alloc: Global, line: &[u8]) -> Result<Edit, AllocError> {
+fn edit_of(alloc: Global, line: &[u8]) -> Result<Edit, AllocError> {
     for _ in 0..2u8 {
         if let Ok(Some(DeskLine::Edit(edit))) = read_desk(alloc, line) {
             return Ok(edit);

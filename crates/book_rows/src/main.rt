@@ -1,20 +1,16 @@
 //! Applies the desk lines of its input, which are edits, to a plain book and to an indexed one, and prints what each answers
 //! then; the line `next` begins both anew. Where memory is refused for an edit, it prints what the book answers then, and
-//! applies the edit again; a question that memory was refused for is asked again. With the argument `full`, it fills both in
-//! the end, until a mapping is refused.
+//! applies the edit again; a question that memory was refused for is asked again.
 #![tactic(auto)]
 
 mod asking;
 mod editing;
-mod filling;
 
-use editing::edit_both;
-use filling::fill;
+use editing::{Held, edit_both};
 use lost_book::{Book, Limits};
 use lost_routing::Routing;
 use std::alloc::{AllocError, Global};
-use std::rt::Env;
-use std::{env, io};
+use std::io;
 
 fn main(rt: HostRuntime) -> io::Result<()> {
     let (mut book, mut routing) = empty(rt.alloc())?;
@@ -31,21 +27,7 @@ fn main(rt: HostRuntime) -> io::Result<()> {
             edit_both(&rt, &mut book, &mut routing, line.trim_end().as_bytes())?;
         }
     }
-    println!(rt; "{} and {} edits", book.edition(), routing.edition())?;
-    if is_filling(&rt)? {
-        (book, routing) = empty(rt.alloc())?;
-        fill(&rt, &mut book)?;
-        fill(&rt, &mut routing)?;
-    }
-    Ok(())
-}
-
-/// Whether the first argument is `full`.
-fn is_filling<R: Env + AllocGlobal>(rt: &R) -> io::Result<bool> {
-    for word in env::args(rt)?.skip(1) {
-        return Ok(word.as_str() == "full");
-    }
-    Ok(false)
+    println!(rt; "{} and {} edits", book.edition(), routing.edition())
 }
 
 /// A plain book and an indexed one, without mappings.
