@@ -1,2 +1,2 @@
 pub mod ChainLemmas
-pub mod PlaceLemmas
+pub mod PositionLemmas

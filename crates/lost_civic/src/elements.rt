@@ -108,9 +108,9 @@ impl Element {
         Element::AddCode,
     ];
 
-    /// The place of the element in the table, from 0 to 30.
+    /// The position of the element in the table, from 0 to 30.
     pub fn index(self) -> usize
-        ensures place { result ≡ element_index self }
+        ensures position { result ≡ element_index self }
         ensures within { result < 31 }
     {
         self as usize

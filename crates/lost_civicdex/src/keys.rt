@@ -14,7 +14,7 @@ use std::hash::{Hash, Hasher};
 use std::marker::Model;
 
 /// An element with the comparison text of a value: what an index finds civic patterns by. Contracts see a key as the
-/// pair of both. Keys are ordered by their elements' places in the table, and then by the bytes of their texts.
+/// pair of both. Keys are ordered by their elements' positions in the table, and then by the bytes of their texts.
 #[derive(Drop)]
 pub struct ElementKey {
     element: Element,

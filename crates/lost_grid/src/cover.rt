@@ -8,14 +8,14 @@ ghost use Rattle.lost_grid.specs.Lines.{rows, columns};
 ghost use Rattle.lost_grid.specs.Stretch.{numbers, IsStretch};
 
 use crate::cell::Cell;
-use crate::lines::{LEVEL_MAX, Lines};
+use crate::lines::{MAX_LEVEL, Lines};
 use lost_geo::Bounds;
 use std::alloc::{AllocError, Global};
 
 /// The greatest number of cells of a cover.
-const CELLS_MAX: u32 = 64;
+pub(crate) const MAX_CELLS: u32 = 64;
 
-/// The cells that bounds meet at the least level at which they are at most [`CELLS_MAX`], by row and then by column.
+/// The cells that bounds meet at the least level at which they are at most [`MAX_CELLS`], by row and then by column.
 pub(crate) fn cells_of(alloc: Global, bounds: &Bounds) -> Result<Vec<Cell>, AllocError>
     requires { AreInRange bounds.now }
     ensures { IfOk result (λ cells. cells.items ≡ cells_within (level_of bounds.now) bounds.now) }
@@ -29,27 +29,27 @@ pub(crate) fn cells_of(alloc: Global, bounds: &Bounds) -> Result<Vec<Cell>, Allo
     )
 }
 
-/// The least level at which bounds meet at most [`CELLS_MAX`] cells.
+/// The least level at which bounds meet at most [`MAX_CELLS`] cells.
 fn level_of(bounds: &Bounds) -> u8
     requires { AreInRange bounds.now }
     ensures level { result ≡ level_of bounds.now }
     ensures in_range { result ≤ 6 }
 {
-    for level in 0..LEVEL_MAX {
+    for level in 0..MAX_LEVEL {
         if are_few(bounds, level) {
             return level;
         }
     }
-    LEVEL_MAX
+    MAX_LEVEL
 }
 
-/// Whether bounds meet at most [`CELLS_MAX`] cells of a level.
+/// Whether bounds meet at most [`MAX_CELLS`] cells of a level.
 fn are_few(bounds: &Bounds, level: u8) -> bool
     requires bounds { AreInRange bounds.now }
     requires level { level ≤ 6 }
     ensures { result ≡ are_few bounds.now level }
 {
-    Lines::rows(level, bounds).count() * Lines::columns(level, bounds).count() <= CELLS_MAX
+    Lines::rows(level, bounds).count() * Lines::columns(level, bounds).count() <= MAX_CELLS
 }
 
 /// The cells of a level in some rows and columns, by row and then by column.

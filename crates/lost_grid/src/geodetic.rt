@@ -11,7 +11,7 @@ ghost use Rattle.lost_grid.specs.CellsApart.{same_cell, same_cell_tells};
 ghost use Rattle.lost_grid.specs.CoverLaws.{cover_meets_probes, cover_is_distinct, cover_is_bounded, holder_is_near};
 
 use crate::cell::Cell;
-use crate::cover::cells_of;
+use crate::cover::{MAX_CELLS, cells_of};
 use crate::probe::cells_at;
 use lost_geo::{Bounds, GeoPoint, Polygon};
 use lost_profile::Profile;
@@ -35,7 +35,7 @@ impl Profile for Geodetic2d {
 
     const NAME: &'static str = "geodetic-2d";
 
-    const COVER_MAX: usize = 64;
+    const COVER_MAX: usize = MAX_CELLS as usize;
 
     ghost is_region = { IsArea };
 

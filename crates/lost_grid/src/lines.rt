@@ -7,7 +7,7 @@ ghost use Rattle.lost_grid.specs.Lines.{line_of, IsOnEarth, IsLine, rows, column
 use lost_geo::Bounds;
 
 /// The level of the largest cells.
-pub(crate) const LEVEL_MAX: u8 = 6;
+pub(crate) const MAX_LEVEL: u8 = 6;
 
 /// The row of a latitude, or the column of a longitude, at a level: by the side of its cells, rounded down.
 pub(crate) fn line_of(level: u8, degrees: i64) -> i16

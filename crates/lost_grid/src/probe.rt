@@ -4,7 +4,7 @@ ghost use Rattle.std.specs.Prelude.{◌≡◌, IfOk, map};
 ghost use Rattle.lost_grid.specs.Grid.{cell_of, levels};
 
 use crate::cell::Cell;
-use crate::lines::LEVEL_MAX;
+use crate::lines::MAX_LEVEL;
 use lost_geo::GeoPoint;
 use std::alloc::{AllocError, Global};
 
@@ -12,8 +12,8 @@ use std::alloc::{AllocError, Global};
 pub(crate) fn cells_at(alloc: Global, place: &GeoPoint) -> Result<Vec<Cell>, AllocError>
     ensures { IfOk result (λ cells. cells.items ≡ map (λ level. cell_of level place.now) levels) }
 {
-    let mut cells = Vec::with_capacity(alloc, usize::from(LEVEL_MAX) + 1)?;
-    for level in 0..LEVEL_MAX + 1 {
+    let mut cells = Vec::with_capacity(alloc, usize::from(MAX_LEVEL) + 1)?;
+    for level in 0..MAX_LEVEL + 1 {
         cells.push(Cell::of(level, place))?;
     }
     Ok(cells)

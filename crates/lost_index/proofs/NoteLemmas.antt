@@ -63,7 +63,7 @@ module _ {O : Type 0} (same : O → O → Bool) where
   pub is_itself : ((o : O) → same o o ≡ true) → (note : Note O) → is_note same note.number note.outline note ≡ true
   is_itself refl_same note = both (nat_eq note.number note.number) (same note.outline note.outline) (same_itself note.number) (refl_same note.outline)
 
-  -- a note that is found at a place stands there
+  -- a note that is found at a position stands there
   pub has_at : (number : ℕ) (outline : O) (notes : List (Note O)) (i : ℕ) (note : Note O) → i < length notes → note ≡ get_or notes i note
       → nat_eq number note.number ≡ true → same outline note.outline ≡ true → has_note same number outline notes ≡ true
   has_at number outline notes i note within is here alike =

@@ -61,8 +61,8 @@ impl<P: Profile> Cell<P> {
         if self.has(&note) {
             return Ok(());
         }
-        let place = self.end_of(note.number);
-        self.notes.insert(place, note)?;
+        let position = self.end_of(note.number);
+        self.notes.insert(position, note)?;
         Ok(())
     }
 
@@ -74,24 +74,24 @@ impl<P: Profile> Cell<P> {
             → has_note P.Outline.eq other (P.outline_of region) self.old ≡ true
             → has_note P.Outline.eq other (P.outline_of region) self.new ≡ true }
     {
-        for place in (self.start_of(number)..self.end_of(number)).rev() {
-            self.remove_at(place, number, key, still);
+        for position in (self.start_of(number)..self.end_of(number)).rev() {
+            self.remove_at(position, number, key, still);
         }
     }
 
-    /// Takes the note at a place out, if it is of the number and of none of those regions in whose cover the key is.
-    fn remove_at(&mut self, place: usize, number: u64, key: &P::Key, still: &[Kept<P>])
+    /// Takes the note at a position out, if it is of the number and of none of those regions in whose cover the key is.
+    fn remove_at(&mut self, position: usize, number: u64, key: &P::Key, still: &[Kept<P>])
         ensures others { (other : _) (outline : _) → nat_eq number other ≡ false → has_note P.Outline.eq other outline self.old ≡ true
             → has_note P.Outline.eq other outline self.new ≡ true }
         ensures still { (other : _) (region : _) → Contains still.now region → list_any (P.Key.eq key.now) (P.cover_of region) ≡ true
             → has_note P.Outline.eq other (P.outline_of region) self.old ≡ true
             → has_note P.Outline.eq other (P.outline_of region) self.new ≡ true }
     {
-        let Some(note) = self.notes.get(place) else {
+        let Some(note) = self.notes.get(position) else {
             return;
         };
         if note.number == number && !entry::is_noted(still, key, &note.outline) {
-            self.notes.remove(place);
+            self.notes.remove(position);
         }
     }
 
@@ -99,19 +99,19 @@ impl<P: Profile> Cell<P> {
     fn has(&self, note: &Note<P::Outline>) -> bool
         ensures { IsTrue result → has_note P.Outline.eq note.now.number note.now.outline self.now ≡ true }
     {
-        for place in self.start_of(note.number)..self.end_of(note.number) {
-            if self.has_at(place, note) {
+        for position in self.start_of(note.number)..self.end_of(note.number) {
+            if self.has_at(position, note) {
                 return true;
             }
         }
         false
     }
 
-    /// Whether the note at a place is of the same number, with an equal outline.
-    fn has_at(&self, place: usize, note: &Note<P::Outline>) -> bool
+    /// Whether the note at a position is of the same number, with an equal outline.
+    fn has_at(&self, position: usize, note: &Note<P::Outline>) -> bool
         ensures { IsTrue result → has_note P.Outline.eq note.now.number note.now.outline self.now ≡ true }
     {
-        let Some(here) = self.notes.get(place) else {
+        let Some(here) = self.notes.get(position) else {
             return false;
         };
         note.number == here.number && note.outline == here.outline

@@ -15,7 +15,7 @@ pub(crate) fn digits_value(digits: &[u8]) -> u64
     value
 }
 
-/// The number that stands in a text from one place up to another.
+/// The number that stands in a text from one position up to another.
 pub(crate) fn number_at(text: &[u8], from: usize, to: usize) -> u64
     requires ordered { from ≤ to }
     requires within { to ≤ length text.now }

@@ -35,7 +35,7 @@ pub(crate) fn read_moment(text: &[u8]) -> Option<Moment>
 
 // ---- the date and the time of day
 
-/// Whether the text begins with digits and signs in the places of a stamp's.
+/// Whether the text begins with digits and signs in the positions of a stamp's.
 fn has_shape(text: &[u8]) -> bool
     ensures value { result ≡ has_shape text.now }
     ensures long { IsTrue result → 19 ≤ length text.now }

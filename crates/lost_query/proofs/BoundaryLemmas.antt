@@ -1,7 +1,7 @@
 -- The mapping of a key, from the place that a search gives.
 use Rattle.std.specs.Prelude.{◌≡◌, ℕ, List, Option, Some, None, position, slice_get}
 use Rattle.std.proofs.Common.{refl, sym, ◌∙◌}
-use Rattle.lost_book.proofs.PlaceLemmas.{find_at_position}
+use Rattle.lost_book.proofs.PositionLemmas.{find_at_position}
 use Rattle.lost_spec.specs.Text.{Text}
 use Rattle.lost_spec.specs.Moment.{Instant}
 use Rattle.lost_spec.specs.Mapping.{Mapping}

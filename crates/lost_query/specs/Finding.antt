@@ -8,7 +8,7 @@ use Rattle.lost_query.specs.declared.finding.Finding.TheVariants.{Holders, Defau
 
 -- what stands at these positions of a list, in their order (own)
 abbrev pub at_positions : {Thing : Type 0} → List Thing → List ℕ → List Thing
-at_positions xs places = filter_map (slice_get xs) places
+at_positions xs positions = filter_map (slice_get xs) positions
 
 -- the first service that has mappings, with them
 abbrev pub first_of : {A : Type 0} → Option (Service × Vec Mapping A) → Option (Service × List Mapping)

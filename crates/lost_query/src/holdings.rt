@@ -43,8 +43,8 @@ pub trait Holdings {
 
     /// The mappings that are live, are no defaults and hold the place (RFC 5222, section 11), or want of memory.
     fn holding(&self, moment: &Moment, place: &Place) -> Result<Vec<usize>, AllocError>
-        ensures { IfOk result (λ places.
-            places.items ≡ positions (is_holding moment.now (place_of place.now)) (book self.now).mappings) };
+        ensures { IfOk result (λ found.
+            found.items ≡ positions (is_holding moment.now (place_of place.now)) (book self.now).mappings) };
 
     /// The mappings that are live, are no defaults, have this service and hold the place (RFC 5222, section 8), or want
     /// of memory.
@@ -54,18 +54,18 @@ pub trait Holdings {
         place: &Place,
         service: &ServiceUrn,
     ) -> Result<Vec<usize>, AllocError>
-        ensures { IfOk result (λ places.
-            places.items ≡ positions (is_holder moment.now (place_of place.now) service.now) (book self.now).mappings) };
+        ensures { IfOk result (λ found.
+            found.items ≡ positions (is_holder moment.now (place_of place.now) service.now) (book self.now).mappings) };
 
     /// The live defaults of this service, or want of memory.
     fn defaults(&self, moment: &Moment, service: &ServiceUrn) -> Result<Vec<usize>, AllocError>
-        ensures { IfOk result (λ places.
-            places.items ≡ positions (is_standby moment.now service.now) (book self.now).mappings) };
+        ensures { IfOk result (λ found.
+            found.items ≡ positions (is_standby moment.now service.now) (book self.now).mappings) };
 
     /// The live mappings of this service, defaults too (RFC 5222, section 8.4.2; own policy), or want of memory.
     fn of_service(&self, moment: &Moment, service: &ServiceUrn) -> Result<Vec<usize>, AllocError>
-        ensures { IfOk result (λ places.
-            places.items ≡ positions (λ m. serves m moment.now service.now) (book self.now).mappings) };
+        ensures { IfOk result (λ found.
+            found.items ≡ positions (λ m. serves m moment.now service.now) (book self.now).mappings) };
 
     /// The live mappings of this service, defaults too, with some pattern that names each of these elements with the
     /// address's comparison text (RFC 5222, section 8.4.2; own policy), or want of memory.
@@ -76,8 +76,8 @@ pub trait Holdings {
         address: &CivicAddress,
         elements: &[Element],
     ) -> Result<Vec<usize>, AllocError>
-        ensures { IfOk result (λ places.
-            places.items ≡ positions (is_referring moment.now service.now address.now elements.now) (book self.now).mappings) };
+        ensures { IfOk result (λ found.
+            found.items ≡ positions (is_referring moment.now service.now address.now elements.now) (book self.now).mappings) };
 
     /// The services just below one, or the topmost, of all live mappings, defaults too, in the order of their texts,
     /// each once (RFC 5222, section 10; own order), or want of memory.

@@ -15,7 +15,7 @@ pub(crate) fn standing_at<H: Holdings>(
     holdings: &H,
     positions: &[usize],
 ) -> Result<Vec<Mapping>, AllocError>
-    requires { All (λ place. place < length (H.book holdings.now).mappings) positions.now }
+    requires { All (λ position. position < length (H.book holdings.now).mappings) positions.now }
     ensures { IfOk result (λ mappings.
         mappings.items ≡ at_positions (H.book holdings.now).mappings positions.now) }
 {
@@ -33,7 +33,7 @@ pub(crate) fn of_service_at<H: Holdings>(
     positions: &[usize],
     service: &ServiceUrn,
 ) -> Result<Vec<Mapping>, AllocError>
-    requires { All (λ place. place < length (H.book holdings.now).mappings) positions.now }
+    requires { All (λ position. position < length (H.book holdings.now).mappings) positions.now }
     ensures { IfOk result (λ mappings. mappings.items
         ≡ filter (λ m. same_service m.service service.now) (at_positions (H.book holdings.now).mappings positions.now)) }
 {

@@ -22,7 +22,7 @@ use Rattle.lost_tables.specs.Notes.{service_rows, is_row_with, ServicesAreWalked
 use Rattle.lost_tables.proofs.PickLemmas.{there_if, some_passes, first_passes, none_given}
 use Rattle.lost_regions.specs.Regions.{Regions}
 use Rattle.lost_routing.specs.Held.{IsKept}
-use Rattle.lost_routing.specs.Walk.{is_live_of, live_place}
+use Rattle.lost_routing.specs.Walk.{is_live_of, live_position}
 use Rattle.lost_routing.proofs.CoverLemmas.{noted_at}
 
 -- it as a test of mappings
@@ -35,8 +35,8 @@ pub record IsWalked (q : Option Service) (t : Instant) (ns : List ℕ) (ms : Lis
   pub found : children ≡ record { above = q; found = children_to q added }
   pub services : AreServices added
   pub served : AllByRecursion (λ s. IsTrue (list_any (λ m. serves m t s) ms)) added
-  pub each : (j : ℕ) (row : Text × List ℕ) (place n : ℕ) (m : Mapping) → j < done → slice_get rows j ≡ Some row
-      → slice_get ms place ≡ Some m → slice_get ns place ≡ Some n → Stands n row.1 → is_live_of m t row.0 ≡ true
+  pub each : (j : ℕ) (row : Text × List ℕ) (position n : ℕ) (m : Mapping) → j < done → slice_get rows j ≡ Some row
+      → slice_get ms position ≡ Some m → slice_get ns position ≡ Some n → Stands n row.1 → is_live_of m t row.0 ≡ true
       → IsTrue (is_among_services added m.service)
 
 -- ---- tests
@@ -67,9 +67,9 @@ any_at {X} p (x ∷ xs) some = by (p x) refl some (any_at p xs)
     by true is here later = (zero, x, refl, is)
     by false is here later = let found = later here in (suc found.0, found.1, found.2, found.3)
 
-all_at : (P : Mapping → Type 0) (ms : List Mapping) → ((place : ℕ) (m : Mapping) → slice_get ms place ≡ Some m → P m) → AllByRecursion P ms
+all_at : (P : Mapping → Type 0) (ms : List Mapping) → ((position : ℕ) (m : Mapping) → slice_get ms position ≡ Some m → P m) → AllByRecursion P ms
 all_at P [] at = tt
-all_at P (m ∷ ms) at = (at zero m refl, all_at P ms (λ place. at (suc place)))
+all_at P (m ∷ ms) at = (at zero m refl, all_at P ms (λ position. at (suc position)))
 
 -- ---- before the first row
 
@@ -80,30 +80,30 @@ none_walked q t ns ms rows children none = record {
   found = none;
   services = tt;
   served = tt;
-  each = λ j row place n m below. absurd (omega (arith, below));
+  each = λ j row position n m below. absurd (omega (arith, below));
 }
 
 -- ---- what was chosen
 
-pub chosen_seen : (ns ns' : List ℕ) (ms ms' : List Mapping) (t : Instant) (row : Text × List ℕ) (place : Option ℕ) → ns' ≡ ns → ms' ≡ ms
-    → place ≡ live_place ns' ms' t row.0 row.1 → place ≡ live_place ns ms t row.0 row.1
-chosen_seen ns ns' ms ms' t row place numbers mappings is =
-    is ∙ ap (λ l. live_place l ms' t row.0 row.1) numbers ∙ ap (λ l. live_place ns l t row.0 row.1) mappings
+pub chosen_seen : (ns ns' : List ℕ) (ms ms' : List Mapping) (t : Instant) (row : Text × List ℕ) (position : Option ℕ) → ns' ≡ ns → ms' ≡ ms
+    → position ≡ live_position ns' ms' t row.0 row.1 → position ≡ live_position ns ms t row.0 row.1
+chosen_seen ns ns' ms ms' t row position numbers mappings is =
+    is ∙ ap (λ l. live_position l ms' t row.0 row.1) numbers ∙ ap (λ l. live_position ns l t row.0 row.1) mappings
 
 module _ (ns : List ℕ) (ms : List Mapping) (tables : Tables) (regions : Regions) (kept : IsKept ns ms tables regions) (q : Option Service) (t : Instant) where
-  is_well_formed : (place n : ℕ) (m : Mapping) → slice_get ms place ≡ Some m → slice_get ns place ≡ Some n → IsTrue (is_service m.service)
-  is_well_formed place n m at_m at_n = (noted_at ns ms tables regions kept place n m at_m at_n).well_formed
+  is_well_formed : (position n : ℕ) (m : Mapping) → slice_get ms position ≡ Some m → slice_get ns position ≡ Some n → IsTrue (is_service m.service)
+  is_well_formed position n m at_m at_n = (noted_at ns ms tables regions kept position n m at_m at_n).well_formed
 
   -- ---- one row more
 
   module _ (row : Text × List ℕ) where
     abbrev chosen : Option ℕ
-    chosen = live_place ns ms t row.0 row.1
+    chosen = live_position ns ms t row.0 row.1
 
-    pub chosen_within : (place : ℕ) → Some place ≡ chosen → place < length ms
-    chosen_within place is_chosen =
-        let there = there_if (live_of t row.0) (slice_get ms place) (first_passes (live_of t row.0) ns ms kept.rising kept.paired row.1 place is_chosen) in
-        slice_get_within ms place there.0 there.1
+    pub chosen_within : (position : ℕ) → Some position ≡ chosen → position < length ms
+    chosen_within position is_chosen =
+        let there = there_if (live_of t row.0) (slice_get ms position) (first_passes (live_of t row.0) ns ms kept.rising kept.paired row.1 position is_chosen) in
+        slice_get_within ms position there.0 there.1
 
     module _ (i : ℕ) (at : slice_get (service_rows tables) i ≡ Some row) (old : Children)
         (walked : IsWalked q t ns ms (service_rows tables) i old) where
@@ -114,26 +114,26 @@ module _ (ns : List ℕ) (ms : List Mapping) (tables : Tables) (regions : Region
         found = walked.found;
         services = walked.services;
         served = walked.served;
-        each = λ j r place n m below at_r at_m at_n stands live. by (nat_lt j i) j r place n m refl below at_r at_m at_n stands live;
+        each = λ j r position n m below at_r at_m at_n stands live. by (nat_lt j i) j r position n m refl below at_r at_m at_n stands live;
       }
         where
-          by : (b : Bool) (j : ℕ) (r : Text × List ℕ) (place n : ℕ) (m : Mapping) → nat_lt j i ≡ b → j < i + 1 → slice_get (service_rows tables) j ≡ Some r
-              → slice_get ms place ≡ Some m → slice_get ns place ≡ Some n → Stands n r.1 → is_live_of m t r.0 ≡ true
+          by : (b : Bool) (j : ℕ) (r : Text × List ℕ) (position n : ℕ) (m : Mapping) → nat_lt j i ≡ b → j < i + 1 → slice_get (service_rows tables) j ≡ Some r
+              → slice_get ms position ≡ Some m → slice_get ns position ≡ Some n → Stands n r.1 → is_live_of m t r.0 ≡ true
               → IsTrue (is_among_services walked.added m.service)
-          by true j r place n m is below at_r at_m at_n stands live = walked.each j r place n m (before j i is) at_r at_m at_n stands live
-          by false j r place n m is below at_r at_m at_n stands live =
+          by true j r position n m is below at_r at_m at_n stands live = walked.each j r position n m (before j i is) at_r at_m at_n stands live
+          by false j r position n m is below at_r at_m at_n stands live =
               let same : r ≡ row = some_same r row (sym at_r ∙ ap (slice_get (service_rows tables)) (last j i is below) ∙ at) in
-              let fails = none_given (live_of t row.0) ns ms kept.rising kept.paired row.1 none place n at_n (ap (λ (x : Text × List ℕ). list_any (nat_eq n) x.1) (sym same) ∙ stands) in
+              let fails = none_given (live_of t row.0) ns ms kept.rising kept.paired row.1 none position n at_n (ap (λ (x : Text × List ℕ). list_any (nat_eq n) x.1) (sym same) ∙ stands) in
               absurd (false≢true (sym fails ∙ ap (λ o. option_map_or (live_of t row.0) o false) at_m
               ∙ ap (λ (x : Text × List ℕ). is_live_of m t x.0) (sym same) ∙ live))
 
       -- and where one was found, its service is that of the row
-      module _ (place : ℕ) (x : Mapping) (is_chosen : Some place ≡ chosen) (at_x : slice_get ms place ≡ Some x) (s : Service) (own : s ≡ x.service)
+      module _ (position : ℕ) (x : Mapping) (is_chosen : Some position ≡ chosen) (at_x : slice_get ms position ≡ Some x) (s : Service) (own : s ≡ x.service)
           (well_formed : IsTrue (is_service s)) (new : Children) (added : new ≡ with_child_to s old) where
         lives : is_live_of x t row.0 ≡ true
         lives =
             sym (ap (λ o. option_map_or (live_of t row.0) o false) at_x)
-            ∙ first_passes (live_of t row.0) ns ms kept.rising kept.paired row.1 place is_chosen
+            ∙ first_passes (live_of t row.0) ns ms kept.rising kept.paired row.1 position is_chosen
 
         lives_here : (is_live x t ≡ true) × (same_text (service_text x.service) row.0 ≡ true)
         lives_here = and_parts (is_live x t) (same_text (service_text x.service) row.0) lives
@@ -148,7 +148,7 @@ module _ (ns : List ℕ) (ms : List Mapping) (tables : Tables) (regions : Region
 
         served_here : IsTrue (list_any (λ m. serves m t s) ms)
         served_here =
-            some_passes (λ m. serves m t s) ms place
+            some_passes (λ m. serves m t s) ms position
             (ap (λ o. option_map_or (λ m. serves m t s) o false) at_x
             ∙ both (is_live x t) (same_service x.service s) lives_here.0 (ap (same_service x.service) own ∙ same_service-itself x.service))
 
@@ -187,14 +187,14 @@ module _ (ns : List ℕ) (ms : List Mapping) (tables : Tables) (regions : Region
       ap (λ (c : Children). c.found) walked.found
       ∙ living-added ms t q walked.added walked.services walked.served (all_at (λ m. IsTrue (is_live m t) → IsTrue (is_among_services walked.added m.service)) ms each)
     where
-      each : (place : ℕ) (m : Mapping) → slice_get ms place ≡ Some m → IsTrue (is_live m t) → IsTrue (is_among_services walked.added m.service)
-      each place m at_m live =
-          let within = slice_get_within ms place m at_m in
-          let at_n = slice_get-get_or ns place 0 (omega (arith, within, kept.paired)) in
-          let there = any_at (is_row_with m.service (get_or ns place 0)) (service_rows tables)
-          (listed tables m.service (get_or ns place 0) (noted_at ns ms tables regions kept place (get_or ns place 0) m at_m at_n).by_service) in
+      each : (position : ℕ) (m : Mapping) → slice_get ms position ≡ Some m → IsTrue (is_live m t) → IsTrue (is_among_services walked.added m.service)
+      each position m at_m live =
+          let within = slice_get_within ms position m at_m in
+          let at_n = slice_get-get_or ns position 0 (omega (arith, within, kept.paired)) in
+          let there = any_at (is_row_with m.service (get_or ns position 0)) (service_rows tables)
+          (listed tables m.service (get_or ns position 0) (noted_at ns ms tables regions kept position (get_or ns position 0) m at_m at_n).by_service) in
           let row = there.1 in
-          let parts = and_parts (same_text (service_text m.service) row.0) (list_any (nat_eq (get_or ns place 0)) row.1) there.3 in
+          let parts = and_parts (same_text (service_text m.service) row.0) (list_any (nat_eq (get_or ns position 0)) row.1) there.3 in
           let before_end = slice_get_within (service_rows tables) there.0 row there.2 in
-          walked.each there.0 row place (get_or ns place 0) m (omega (arith, before_end, past)) there.2 at_m at_n parts.1
+          walked.each there.0 row position (get_or ns position 0) m (omega (arith, before_end, past)) there.2 at_m at_n parts.1
           (both (is_live m t) (same_text (service_text m.service) row.0) live parts.0)

@@ -10,6 +10,6 @@ use Rattle.lost_tables.specs.Picks.{passing}
 abbrev pub is_live_of : Mapping → Instant → Text → Bool
 is_live_of m t text = is_live m t && same_text (service_text m.service) text
 
--- the place of the first of these candidates whose mapping is live and has the service of this text (own)
-abbrev pub live_place : List ℕ → List Mapping → Instant → Text → List ℕ → Option ℕ
-live_place numbers mappings t text candidates = slice_get (filter_map (passing (λ m. is_live_of m t text) numbers mappings) candidates) 0
+-- the position of the first of these candidates whose mapping is live and has the service of this text (own)
+abbrev pub live_position : List ℕ → List Mapping → Instant → Text → List ℕ → Option ℕ
+live_position numbers mappings t text candidates = slice_get (filter_map (passing (λ m. is_live_of m t text) numbers mappings) candidates) 0

@@ -26,7 +26,7 @@ impl Held {
         requires callable { F.IsAlwaysCallable passes }
         ensures { (test : spec.Mapping → Bool) → ((m : spec.Mapping) (r : Bool) → FnReturnsAt F.Fn passes m r → r ≡ test m)
             → ((m : spec.Mapping) → test m ≡ true → holds m (AtPoint point.now) ≡ true)
-            → IfOk result (λ places. places.items ≡ positions test self.now.mappings) }
+            → IfOk result (λ found. found.items ≡ positions test self.now.mappings) }
     {
         let candidates = self.regions.at_point(point)?;
         picks::select(
@@ -40,8 +40,8 @@ impl Held {
 
     /// The mappings that hold the point, live or not, or want of memory.
     pub(crate) fn holders_of_point(&self, point: &GeoPoint) -> Result<Vec<usize>, AllocError>
-        ensures { IfOk result (λ places.
-            places.items ≡ positions (λ m. holds m (AtPoint point.now)) self.now.mappings) }
+        ensures { IfOk result (λ found.
+            found.items ≡ positions (λ m. holds m (AtPoint point.now)) self.now.mappings) }
     {
         self.selected_at_point(point, |mapping| holds_point(mapping, point))
     }
@@ -55,7 +55,7 @@ impl Held {
         requires callable { F.IsAlwaysCallable passes }
         ensures { (test : spec.Mapping → Bool) → ((m : spec.Mapping) (r : Bool) → FnReturnsAt F.Fn passes m r → r ≡ test m)
             → ((m : spec.Mapping) → test m ≡ true → holds m (AtAddress address.now) ≡ true)
-            → IfOk result (λ places. places.items ≡ positions test self.now.mappings) }
+            → IfOk result (λ found. found.items ≡ positions test self.now.mappings) }
     {
         let candidates = self.regions.at_address(address)?;
         picks::select(
@@ -72,8 +72,8 @@ impl Held {
         &self,
         address: &CivicAddress,
     ) -> Result<Vec<usize>, AllocError>
-        ensures { IfOk result (λ places.
-            places.items ≡ positions (λ m. holds m (AtAddress address.now)) self.now.mappings) }
+        ensures { IfOk result (λ found.
+            found.items ≡ positions (λ m. holds m (AtAddress address.now)) self.now.mappings) }
     {
         self.selected_at_address(address, |mapping| holds_address(mapping, address))
     }
@@ -84,8 +84,8 @@ impl Held {
         moment: &Moment,
         point: &GeoPoint,
     ) -> Result<Vec<usize>, AllocError>
-        ensures { IfOk result (λ places.
-            places.items ≡ positions (is_holding moment.now (AtPoint point.now)) self.now.mappings) }
+        ensures { IfOk result (λ found.
+            found.items ≡ positions (is_holding moment.now (AtPoint point.now)) self.now.mappings) }
     {
         self.selected_at_point(point, |mapping| {
             mapping.is_live(moment) && !mapping.is_default() && holds_point(mapping, point)
@@ -98,8 +98,8 @@ impl Held {
         moment: &Moment,
         address: &CivicAddress,
     ) -> Result<Vec<usize>, AllocError>
-        ensures { IfOk result (λ places.
-            places.items ≡ positions (is_holding moment.now (AtAddress address.now)) self.now.mappings) }
+        ensures { IfOk result (λ found.
+            found.items ≡ positions (is_holding moment.now (AtAddress address.now)) self.now.mappings) }
     {
         self.selected_at_address(address, |mapping| {
             mapping.is_live(moment) && !mapping.is_default() && holds_address(mapping, address)
@@ -113,8 +113,8 @@ impl Held {
         point: &GeoPoint,
         service: &ServiceUrn,
     ) -> Result<Vec<usize>, AllocError>
-        ensures { IfOk result (λ places.
-            places.items ≡ positions (is_holder moment.now (AtPoint point.now) service.now) self.now.mappings) }
+        ensures { IfOk result (λ found.
+            found.items ≡ positions (is_holder moment.now (AtPoint point.now) service.now) self.now.mappings) }
     {
         self.selected_at_point(point, |mapping| {
             serves(mapping, moment, service) && !mapping.is_default() && holds_point(mapping, point)
@@ -128,8 +128,8 @@ impl Held {
         address: &CivicAddress,
         service: &ServiceUrn,
     ) -> Result<Vec<usize>, AllocError>
-        ensures { IfOk result (λ places.
-            places.items ≡ positions (is_holder moment.now (AtAddress address.now) service.now) self.now.mappings) }
+        ensures { IfOk result (λ found.
+            found.items ≡ positions (is_holder moment.now (AtAddress address.now) service.now) self.now.mappings) }
     {
         self.selected_at_address(address, |mapping| {
             serves(mapping, moment, service)

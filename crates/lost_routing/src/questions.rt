@@ -76,8 +76,8 @@ impl Held {
         moment: &Moment,
         service: &ServiceUrn,
     ) -> Result<Vec<usize>, AllocError>
-        ensures { IfOk result (λ places.
-            places.items ≡ positions (is_standby moment.now service.now) self.now.mappings) }
+        ensures { IfOk result (λ found.
+            found.items ≡ positions (is_standby moment.now service.now) self.now.mappings) }
     {
         let candidates = self.tables.of_default(service.text());
         picks::select(
@@ -96,8 +96,8 @@ impl Held {
         moment: &Moment,
         service: &ServiceUrn,
     ) -> Result<Vec<usize>, AllocError>
-        ensures { IfOk result (λ places.
-            places.items ≡ positions (λ m. serves m moment.now service.now) self.now.mappings) }
+        ensures { IfOk result (λ found.
+            found.items ≡ positions (λ m. serves m moment.now service.now) self.now.mappings) }
     {
         let candidates = self.tables.of_service(service.text());
         picks::select(

@@ -5,7 +5,7 @@ ghost use Rattle.std.specs.Option.{option_copied};
 ghost use Rattle.std.specs.Ordering.{nat_cmp};
 ghost use Rattle.lost_spec.specs.Mapping.{is_live};
 ghost use Rattle.lost_spec.specs.Services.{children_in};
-ghost use Rattle.lost_routing.specs.Walk.{is_live_of, live_place};
+ghost use Rattle.lost_routing.specs.Walk.{is_live_of, live_position};
 
 use crate::held::Held;
 use lost_mapping::{Mapping, Moment};
@@ -28,9 +28,9 @@ impl Held {
         let mut children = Children::new(self.alloc, above);
         for row in 0..self.tables.service_count() {
             let (text, candidates) = self.tables.service_at(row);
-            let place = live_place(&self.numbers, &self.mappings, moment, text, candidates);
-            if let Some(place) = place {
-                children.add(self.mappings[place].service())?;
+            let position = live_position(&self.numbers, &self.mappings, moment, text, candidates);
+            if let Some(position) = position {
+                children.add(self.mappings[position].service())?;
             }
         }
 
@@ -40,9 +40,9 @@ impl Held {
     }
 }
 
-/// The place of the first of these candidates whose mapping is live and has the service of this text. The numbers of the
+/// The position of the first of these candidates whose mapping is live and has the service of this text. The numbers of the
 /// mappings rise.
-fn live_place(
+fn live_position(
     numbers: &[u64],
     mappings: &[Mapping],
     moment: &Moment,
@@ -51,7 +51,7 @@ fn live_place(
 ) -> Option<usize>
     requires rising { IsStrictlySortedBy nat_cmp numbers.now }
     requires paired { length numbers.now ≡ length mappings.now }
-    ensures { result ≡ live_place numbers.now mappings.now moment.now text.now candidates.now }
+    ensures { result ≡ live_position numbers.now mappings.now moment.now text.now candidates.now }
 {
     picks::one(numbers, mappings, candidates, |mapping| {
         is_live_of(mapping, moment, text)

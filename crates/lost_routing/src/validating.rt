@@ -26,8 +26,8 @@ impl Held {
         address: &CivicAddress,
         elements: &[Element],
     ) -> Result<Vec<usize>, AllocError>
-        ensures { IfOk result (λ places.
-            places.items ≡ positions (is_referring moment.now service.now address.now elements.now) self.now.mappings) }
+        ensures { IfOk result (λ found.
+            found.items ≡ positions (is_referring moment.now service.now address.now elements.now) self.now.mappings) }
     {
         if elements.is_empty() {
             return self.referring_of_service(moment, service, address, elements);
@@ -51,8 +51,8 @@ impl Held {
         required: &RequiredElements,
     ) -> Result<Vec<usize>, AllocError>
         requires { required.now ≡ filter_map (key_of address.now) elements.now }
-        ensures { IfOk result (λ places.
-            places.items ≡ positions (is_referring moment.now service.now address.now elements.now) self.now.mappings) }
+        ensures { IfOk result (λ found.
+            found.items ≡ positions (is_referring moment.now service.now address.now elements.now) self.now.mappings) }
     {
         let candidates = self.regions.naming(required)?;
         picks::select(
@@ -72,8 +72,8 @@ impl Held {
         address: &CivicAddress,
         elements: &[Element],
     ) -> Result<Vec<usize>, AllocError>
-        ensures { IfOk result (λ places.
-            places.items ≡ positions (is_referring moment.now service.now address.now elements.now) self.now.mappings) }
+        ensures { IfOk result (λ found.
+            found.items ≡ positions (is_referring moment.now service.now address.now elements.now) self.now.mappings) }
     {
         let candidates = self.tables.of_service(service.text());
         picks::select(

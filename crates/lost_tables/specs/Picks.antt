@@ -6,18 +6,18 @@ use Rattle.std.specs.List.{list_any}
 -- each thing that passes the test has its number among the candidates (own)
 abbrev pub Covers : {Thing : Type 0} → (Thing → Bool) → List ℕ → List Thing → List ℕ → Type 0
 Covers {Thing} test numbers things candidates =
-    (place number : ℕ) (thing : Thing) → slice_get things place ≡ Some thing → slice_get numbers place ≡ Some number
+    (i number : ℕ) (thing : Thing) → slice_get things i ≡ Some thing → slice_get numbers i ≡ Some number
     → test thing ≡ true → list_any (nat_eq number) candidates ≡ true
 
--- the place, where its thing passes the test
+-- the position, where its thing passes the test
 abbrev pub if_passes : {Thing : Type 0} → (Thing → Bool) → List Thing → ℕ → Option ℕ
-if_passes test things place = if option_map_or test (slice_get things place) false then Some place else None
+if_passes test things i = if option_map_or test (slice_get things i) false then Some i else None
 
--- the place of the thing with a number, where the thing passes the test
+-- the position of the thing with a number, where the thing passes the test
 abbrev pub passing : {Thing : Type 0} → (Thing → Bool) → List ℕ → List Thing → ℕ → Option ℕ
 passing test numbers things number = option_and_then (if_passes test things) (position (nat_eq number) numbers)
 
--- the lesser of two places, where there are any
+-- the lesser of two positions, where there are any
 abbrev pub lesser : Option ℕ → Option ℕ → Option ℕ
 lesser None other = other
 lesser (Some one) None = Some one

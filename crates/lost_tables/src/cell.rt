@@ -49,8 +49,8 @@ impl Cell {
         ensures keeps { (other : _) → list_any (nat_eq other) self.old ≡ true → list_any (nat_eq other) self.new ≡ true }
         ensures refused { OnErr result (self.new ≡ self.old) }
     {
-        if let Err(place) = self.numbers.binary_search(&number) {
-            self.numbers.insert(place, number)?;
+        if let Err(position) = self.numbers.binary_search(&number) {
+            self.numbers.insert(position, number)?;
         }
         Ok(())
     }
@@ -59,8 +59,8 @@ impl Cell {
     pub(crate) fn remove(&mut self, number: u64)
         ensures { (other : _) → nat_eq number other ≡ false → list_any (nat_eq other) self.old ≡ true → list_any (nat_eq other) self.new ≡ true }
     {
-        if let Ok(place) = self.numbers.binary_search(&number) {
-            self.numbers.remove(place);
+        if let Ok(position) = self.numbers.binary_search(&number) {
+            self.numbers.remove(position);
         }
     }
 }

@@ -11,15 +11,37 @@ ghost use Rattle.lost_tables.specs.Picks.{Covers, passing, lesser as lesser_of};
 use lost_mapping::Mapping;
 use std::alloc::{AllocError, Global};
 
+/// How far below itself a number is looked for, step by step.
+const REACHES: [usize; 5] = [1, 8, 64, 512, 4_096];
+
 /// Where a number stands among rising numbers. It takes no memory.
 pub fn position_of(numbers: &[u64], number: u64) -> Option<usize>
     requires rising { IsStrictlySortedBy nat_cmp numbers.now }
     ensures { result ≡ position (nat_eq number) numbers.now }
 {
-    numbers.binary_search(&number).ok()
+    let likely = likely_position(numbers, number);
+    match numbers.get(likely) {
+        Some(there) if *there == number => Some(likely),
+        _ => numbers.binary_search(&number).ok(),
+    }
 }
 
-/// The places, rising, of the things that pass a test, or want of memory. The numbers of the things rise, and the
+/// Where a number may stand among rising numbers; the caller looks whether it does. It stands no higher than at itself,
+/// and lower by as many as were left out below it: few, mostly. So the search begins there and reaches down, which takes
+/// fewer looks at far parts of a long list than halving it does.
+fn likely_position(numbers: &[u64], number: u64) -> usize {
+    let end = numbers.len().min((number as usize).saturating_add(1));
+    for reach in REACHES {
+        let start = end.saturating_sub(reach);
+        let stretch = &numbers[start..end];
+        if stretch.first().is_some_and(|first| *first <= number) {
+            return start + stretch.binary_search(&number).unwrap_or(0);
+        }
+    }
+    end
+}
+
+/// The positions, rising, of the things that pass a test, or want of memory. The numbers of the things rise, and the
 /// candidates are the numbers of all that pass, in any order, with others among them.
 pub fn select<F: Fn(&Mapping) -> bool>(
     alloc: Global,
@@ -33,20 +55,20 @@ pub fn select<F: Fn(&Mapping) -> bool>(
     requires paired { length numbers.now ≡ length things.now }
     ensures { (test : spec.Mapping → Bool) → ((m : spec.Mapping) (r : Bool) → FnReturnsAt F.Fn passes m r → r ≡ test m)
         → Covers test numbers.now things.now candidates.now
-        → IfOk result (λ places. places.items ≡ positions test things.now) }
+        → IfOk result (λ found. found.items ≡ positions test things.now) }
 {
-    let mut places = Vec::new(alloc);
+    let mut found = Vec::new(alloc);
     for candidate in candidates {
-        if let Some(place) = passing_place(numbers, things, *candidate, &passes) {
-            places.push(place)?;
+        if let Some(position) = passing_position(numbers, things, *candidate, &passes) {
+            found.push(position)?;
         }
     }
-    places.sort_unstable();
-    places.dedup();
-    Ok(places)
+    found.sort_unstable();
+    found.dedup();
+    Ok(found)
 }
 
-/// The place of the first thing that passes a test. The numbers of the things rise, and the candidates are the numbers
+/// The position of the first thing that passes a test. The numbers of the things rise, and the candidates are the numbers
 /// of all that pass, in any order, with others among them. It takes no memory.
 pub fn first<F: Fn(&Mapping) -> bool>(
     numbers: &[u64],
@@ -63,12 +85,12 @@ pub fn first<F: Fn(&Mapping) -> bool>(
 {
     let mut least = None;
     for candidate in candidates {
-        least = lesser(least, passing_place(numbers, things, *candidate, &passes));
+        least = lesser(least, passing_position(numbers, things, *candidate, &passes));
     }
     least
 }
 
-/// The place of a thing that passes a test and has its number among candidates: that of the first candidate whose thing
+/// The position of a thing that passes a test and has its number among candidates: that of the first candidate whose thing
 /// passes. The numbers of the things rise. It takes no memory.
 pub fn one<F: Fn(&Mapping) -> bool>(
     numbers: &[u64],
@@ -83,9 +105,9 @@ pub fn one<F: Fn(&Mapping) -> bool>(
         → result ≡ slice_get (filter_map (passing test numbers.now things.now) candidates.now) 0 }
 {
     for candidate in candidates {
-        let place = passing_place(numbers, things, *candidate, &passes);
-        if place.is_some() {
-            return place;
+        let position = passing_position(numbers, things, *candidate, &passes);
+        if position.is_some() {
+            return position;
         }
     }
     None
@@ -107,15 +129,15 @@ pub fn any<F: Fn(&Mapping) -> bool>(
         → result ≡ list_any test things.now }
 {
     for candidate in candidates {
-        if passing_place(numbers, things, *candidate, &passes).is_some() {
+        if passing_position(numbers, things, *candidate, &passes).is_some() {
             return true;
         }
     }
     false
 }
 
-/// The place of the thing with a number, where it passes a test.
-fn passing_place<F: Fn(&Mapping) -> bool>(
+/// The position of the thing with a number, where it passes a test.
+fn passing_position<F: Fn(&Mapping) -> bool>(
     numbers: &[u64],
     things: &[Mapping],
     number: u64,
@@ -127,15 +149,15 @@ fn passing_place<F: Fn(&Mapping) -> bool>(
     ensures { (test : spec.Mapping → Bool) → ((m : spec.Mapping) (r : Bool) → FnReturnsAt F.Fn passes.now m r → r ≡ test m)
         → result ≡ passing test numbers.now things.now number }
 {
-    let place = position_of(numbers, number)?;
-    if passes(&things[place]) {
-        Some(place)
+    let position = position_of(numbers, number)?;
+    if passes(&things[position]) {
+        Some(position)
     } else {
         None
     }
 }
 
-/// The lesser of two places, where there are any.
+/// The lesser of two positions, where there are any.
 fn lesser(one: Option<usize>, other: Option<usize>) -> Option<usize>
     ensures { result ≡ lesser_of one other }
 {

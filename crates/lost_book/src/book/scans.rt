@@ -25,10 +25,10 @@ impl Book {
         point: &GeoPoint,
         service: &ServiceUrn,
     ) -> Result<Vec<usize>, AllocError>
-        ensures { IfOk result (λ places.
-            places.items ≡ positions (is_holder moment.now (AtPoint point.now) service.now) self.now.mappings) }
+        ensures { IfOk result (λ found.
+            found.items ≡ positions (is_holder moment.now (AtPoint point.now) service.now) self.now.mappings) }
     {
-        places_of(self.mappings(), self.alloc(), |mapping| {
+        positions_of(self.mappings(), self.alloc(), |mapping| {
             serves(mapping, moment, service) && !mapping.is_default() && holds_point(mapping, point)
         })
     }
@@ -41,10 +41,10 @@ impl Book {
         address: &CivicAddress,
         service: &ServiceUrn,
     ) -> Result<Vec<usize>, AllocError>
-        ensures { IfOk result (λ places.
-            places.items ≡ positions (is_holder moment.now (AtAddress address.now) service.now) self.now.mappings) }
+        ensures { IfOk result (λ found.
+            found.items ≡ positions (is_holder moment.now (AtAddress address.now) service.now) self.now.mappings) }
     {
-        places_of(self.mappings(), self.alloc(), |mapping| {
+        positions_of(self.mappings(), self.alloc(), |mapping| {
             serves(mapping, moment, service)
                 && !mapping.is_default()
                 && holds_address(mapping, address)
@@ -53,10 +53,10 @@ impl Book {
 
     /// The mappings that are live, are no defaults and hold the point (RFC 5222, section 11), or want of memory.
     pub fn holding_point(&self, moment: &Moment, point: &GeoPoint) -> Result<Vec<usize>, AllocError>
-        ensures { IfOk result (λ places.
-            places.items ≡ positions (is_holding moment.now (AtPoint point.now)) self.now.mappings) }
+        ensures { IfOk result (λ found.
+            found.items ≡ positions (is_holding moment.now (AtPoint point.now)) self.now.mappings) }
     {
-        places_of(self.mappings(), self.alloc(), |mapping| {
+        positions_of(self.mappings(), self.alloc(), |mapping| {
             mapping.is_live(moment) && !mapping.is_default() && holds_point(mapping, point)
         })
     }
@@ -67,20 +67,20 @@ impl Book {
         moment: &Moment,
         address: &CivicAddress,
     ) -> Result<Vec<usize>, AllocError>
-        ensures { IfOk result (λ places.
-            places.items ≡ positions (is_holding moment.now (AtAddress address.now)) self.now.mappings) }
+        ensures { IfOk result (λ found.
+            found.items ≡ positions (is_holding moment.now (AtAddress address.now)) self.now.mappings) }
     {
-        places_of(self.mappings(), self.alloc(), |mapping| {
+        positions_of(self.mappings(), self.alloc(), |mapping| {
             mapping.is_live(moment) && !mapping.is_default() && holds_address(mapping, address)
         })
     }
 
     /// The defaults that are live and have this service, or want of memory.
     pub fn defaults(&self, moment: &Moment, service: &ServiceUrn) -> Result<Vec<usize>, AllocError>
-        ensures { IfOk result (λ places.
-            places.items ≡ positions (is_standby moment.now service.now) self.now.mappings) }
+        ensures { IfOk result (λ found.
+            found.items ≡ positions (is_standby moment.now service.now) self.now.mappings) }
     {
-        places_of(self.mappings(), self.alloc(), |mapping| {
+        positions_of(self.mappings(), self.alloc(), |mapping| {
             serves(mapping, moment, service) && mapping.is_default()
         })
     }
@@ -92,10 +92,10 @@ impl Book {
         moment: &Moment,
         service: &ServiceUrn,
     ) -> Result<Vec<usize>, AllocError>
-        ensures { IfOk result (λ places.
-            places.items ≡ positions (λ m. serves m moment.now service.now) self.now.mappings) }
+        ensures { IfOk result (λ found.
+            found.items ≡ positions (λ m. serves m moment.now service.now) self.now.mappings) }
     {
-        places_of(
+        positions_of(
             self.mappings(),
             self.alloc(),
             |mapping| serves(mapping, moment, service),
@@ -106,16 +106,16 @@ impl Book {
     pub fn positions<F: Fn(&Mapping) -> bool>(&self, passes: F) -> Result<Vec<usize>, AllocError>
         requires { F.IsAlwaysCallable passes }
         ensures { (test : spec.Mapping → Bool) → ((m : spec.Mapping) (r : Bool) → FnReturnsAt F.Fn passes m r → r ≡ test m)
-            → IfOk result (λ places. places.items ≡ positions test self.now.mappings) }
+            → IfOk result (λ found. found.items ≡ positions test self.now.mappings) }
     {
-        places_of(self.mappings(), self.alloc(), passes)
+        positions_of(self.mappings(), self.alloc(), passes)
     }
 
     /// The first mapping that is live and has this key (RFC 5222, section 9; keys are an own rule).
     pub fn by_key(&self, moment: &Moment, key: &str) -> Option<usize>
         ensures position { result ≡ position (has_live_key moment.now key.now) self.now.mappings }
         ensures mapping { MatchOption result (by_key self.now moment.now key.now ≡ None)
-            (λ place. by_key self.now moment.now key.now ≡ slice_get self.now.mappings place) }
+            (λ position. by_key self.now moment.now key.now ≡ slice_get self.now.mappings position) }
     {
         position_of_live_key(self.mappings(), moment, key)
     }
@@ -132,20 +132,20 @@ impl Book {
 }
 
 /// Where the mappings stand that pass a test, or want of memory.
-fn places_of<F: Fn(&Mapping) -> bool>(
+fn positions_of<F: Fn(&Mapping) -> bool>(
     mappings: &[Mapping],
     alloc: Global,
     passes: F,
 ) -> Result<Vec<usize>, AllocError>
     requires { F.IsAlwaysCallable passes }
     ensures { (test : spec.Mapping → Bool) → ((m : spec.Mapping) (r : Bool) → FnReturnsAt F.Fn passes m r → r ≡ test m)
-        → IfOk result (λ places. places.items ≡ positions test mappings.now) }
+        → IfOk result (λ found. found.items ≡ positions test mappings.now) }
 {
-    let mut places = Vec::new(alloc);
-    for (place, mapping) in mappings.iter().enumerate() {
+    let mut found = Vec::new(alloc);
+    for (position, mapping) in mappings.iter().enumerate() {
         if passes(mapping) {
-            places.push(place)?;
+            found.push(position)?;
         }
     }
-    Ok(places)
+    Ok(found)
 }

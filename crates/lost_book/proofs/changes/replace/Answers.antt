@@ -1,4 +1,4 @@
-use Rattle.lost_book.proofs.PlaceLemmas.{replaced-at, replaced-none}
+use Rattle.lost_book.proofs.PositionLemmas.{replaced-at, replaced-none}
 use Rattle.lost_book.proofs.changes.replace.Goals as goal
 
 pub returns-in-Some : goal.returns-in-Some

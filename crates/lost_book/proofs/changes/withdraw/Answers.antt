@@ -1,5 +1,5 @@
 use Rattle.std.proofs.Common.{◌∙◌}
-use Rattle.lost_book.proofs.PlaceLemmas.{without-at, without-none}
+use Rattle.lost_book.proofs.PositionLemmas.{without-at, without-none}
 use Rattle.lost_book.proofs.changes.withdraw.Goals as goal
 
 pub returns-in-Some : goal.returns-in-Some

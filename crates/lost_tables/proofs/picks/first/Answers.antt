@@ -1,4 +1,4 @@
--- The least place that a candidate gives is the first that passes.
+-- The least position that a candidate gives is the first that passes.
 use Rattle.std.proofs.Common.{◌≤◌, length, subst, arith}
 use Rattle.lost_tables.specs.Picks.{passing}
 use Rattle.lost_tables.proofs.PickLemmas.{IsLeast, least_more, all_given, least_is_first}
@@ -7,7 +7,7 @@ use Rattle.lost_tables.proofs.picks.first.Goals as goal
 pub loop-candidate-preserved : goal.loop-candidate-preserved
 loop-candidate-preserved g c = λ test is.
     least_more (passing test c.args.numbers.now c.args.things.now) c.args.candidates.now c.loop-candidate.candidate-index
-    c.loop-candidate.least c.passing_place.result c.lesser-least.result c.loop-candidate-test.true (c.passing_place.ensures test is)
+    c.loop-candidate.least c.passing_position.result c.lesser-least.result c.loop-candidate-test.true (c.passing_position.ensures test is)
     c.lesser-least.ensures (c.loop-candidate.invariant test is)
 
 pub returns : goal.returns

@@ -1,4 +1,4 @@
--- The places that the candidates give, sorted and each once, are those of what passes.
+-- The positions that the candidates give, sorted and each once, are those of what passes.
 use Rattle.std.proofs.Common.{◌≤◌, length, nat_eq, arith, ◌∙◌}
 use Rattle.std.proofs.lemmas.List.Filters.{dedup_is}
 use Rattle.lost_tables.specs.Picks.{passing}
@@ -10,18 +10,18 @@ pub loop-candidate-preserved : goal.loop-candidate-preserved
 loop-candidate-preserved g c = λ test is.
     let give = passing test c.args.numbers.now c.args.things.now in
     let so_far = c.loop-candidate.invariant test is in
-    elim c.match-passing_place.branch [
-      | in-Some+in_ok-push w ↦ rw w.places-is (w.in_ok-push.ensures.items ∙ more_given give c.args.candidates.now c.loop-candidate.candidate-index
-          _ c.loop-candidate.places.items c.loop-candidate-test.true (w.in-Some.ensures test is) so_far)
-      | in_default w ↦ rw w.places-is (none_more give c.args.candidates.now c.loop-candidate.candidate-index
-          c.loop-candidate.places.items c.loop-candidate-test.true (w.in_default.ensures test is) so_far)
+    elim c.match-passing_position.branch [
+      | in-Some+in_ok-push w ↦ rw w.found-is (w.in_ok-push.ensures.items ∙ more_given give c.args.candidates.now c.loop-candidate.candidate-index
+          _ c.loop-candidate.found.items c.loop-candidate-test.true (w.in-Some.ensures test is) so_far)
+      | in_default w ↦ rw w.found-is (none_more give c.args.candidates.now c.loop-candidate.candidate-index
+          c.loop-candidate.found.items c.loop-candidate-test.true (w.in_default.ensures test is) so_far)
     ]
 
 pub returns : goal.returns
 returns g c = λ test is covers.
     let past : length c.args.candidates.now ≤ c.loop-candidate.candidate-index = omega arith in
     given_are test c.args.numbers.now c.args.things.now c.requires.rising c.requires.paired c.args.candidates.now covers
-    c.loop-candidate.places.items c.sort_unstable.new.self.items c.dedup.new.self.items
+    c.loop-candidate.found.items c.sort_unstable.new.self.items c.dedup.new.self.items
     (c.loop-candidate.invariant test is
     ∙ all_given (passing test c.args.numbers.now c.args.things.now) c.args.candidates.now c.loop-candidate.candidate-index past)
     c.sort_unstable.ensures.permutation c.sort_unstable.ensures.sorted

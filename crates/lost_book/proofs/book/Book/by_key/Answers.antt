@@ -1,5 +1,5 @@
 use Rattle.lost_spec.specs.Services.{has_live_key, by_key}
-use Rattle.lost_book.proofs.PlaceLemmas.{find_at_position}
+use Rattle.lost_book.proofs.PositionLemmas.{find_at_position}
 use Rattle.lost_book.proofs.book.Book.by_key.Goals as goal
 
 pub returns-clause-mapping : goal.returns-clause-mapping

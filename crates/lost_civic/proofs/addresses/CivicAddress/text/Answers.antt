@@ -14,7 +14,7 @@ returns-in-Some c =
     let texts = c.self.inside.texts.items in
     let found = c.index-2.result.now in
     let within : element_index c.args.element < 31 = omega arith in
-    let kept = text_of-at texts (seen_pairs c.self.inside.pairs.items) c.args.element found within c.self.invariant.1 (c.index-2.ensures ∙ ap (λ place. get_or texts place found) c.index.ensures.place) in
+    let kept = text_of-at texts (seen_pairs c.self.inside.pairs.items) c.args.element found within c.self.invariant.1 (c.index-2.ensures ∙ ap (λ i. get_or texts i found) c.index.ensures.position) in
     ap Some c.as_str.ensures.value ∙ (ap (option_map string_bytes) (sym c.in-Some.is) ∙ (kept ∙ ap (text_of c.args.element) c.self.view_is))
 
 pub returns-in-None : goal.returns-in-None
@@ -22,5 +22,5 @@ returns-in-None c =
     let texts = c.self.inside.texts.items in
     let found = c.index-2.result.now in
     let within : element_index c.args.element < 31 = omega arith in
-    let kept = text_of-at texts (seen_pairs c.self.inside.pairs.items) c.args.element found within c.self.invariant.1 (c.index-2.ensures ∙ ap (λ place. get_or texts place found) c.index.ensures.place) in
+    let kept = text_of-at texts (seen_pairs c.self.inside.pairs.items) c.args.element found within c.self.invariant.1 (c.index-2.ensures ∙ ap (λ i. get_or texts i found) c.index.ensures.position) in
     ap (option_map string_bytes) (sym c.in-None.is) ∙ (kept ∙ ap (text_of c.args.element) c.self.view_is)

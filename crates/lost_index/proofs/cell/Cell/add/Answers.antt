@@ -6,4 +6,4 @@ use Rattle.lost_index.proofs.cell.Cell.add.Goals as goal
 pub returns-clause-keeps : goal.returns-clause-keeps
 returns-clause-keeps g c = λ number outline stands.
     rw c.in_ok-insert.ensures.items
-    (stands-insert (is_note g.P.Outline.PartialEq.eq number outline) c.self.inside.notes.items c.end_of-place.result c.args.note (rw c.self.view_is stands))
+    (stands-insert (is_note g.P.Outline.PartialEq.eq number outline) c.self.inside.notes.items c.end_of-position.result c.args.note (rw c.self.view_is stands))

@@ -10,7 +10,7 @@ returns-then-not-is_noted-clause-others g c = λ other outline apart stands.
     let same = g.P.Outline.PartialEq.eq in
     let note = c.in-Some.note.now in
     rw (c.remove.ensures.items, ← c.deref.ensures.value)
-    (stands-remove (is_note same other outline) c.deref.result.now c.args.place note c.in-Some.ensures.lookup.3.0 c.in-Some.ensures.lookup.1
+    (stands-remove (is_note same other outline) c.deref.result.now c.args.position note c.in-Some.ensures.lookup.3.0 c.in-Some.ensures.lookup.1
     (other_fails same c.args.number other outline note c.if-note-number.true apart)
     (rw (c.deref.ensures.value, c.self.view_is) stands))
 
@@ -19,7 +19,7 @@ returns-then-not-is_noted-clause-still g c = λ other region among covered stand
     let same = g.P.Outline.PartialEq.eq in
     let note = c.in-Some.note.now in
     rw (c.remove.ensures.items, ← c.deref.ensures.value)
-    (stands-remove (is_note same other (g.P.Profile.outline_of region)) c.deref.result.now c.args.place note
+    (stands-remove (is_note same other (g.P.Profile.outline_of region)) c.deref.result.now c.args.position note
     c.in-Some.ensures.lookup.3.0 c.in-Some.ensures.lookup.1
     (still_fails same g.P.Profile.outline_of (λ r. list_any (g.P.Key.PartialEq.eq c.args.key.now) (g.P.Profile.cover_of r))
     c.args.still.now region other note (sym c.is_noted.ensures ∙ c.if-not-is_noted.true) among covered)

@@ -8,7 +8,7 @@ use Rattle.lost_routing.proofs.held.Held.of_service.Goals as goal
 
 pub returns : goal.returns
 returns c =
-    subst (λ l. IfOk c.select.result (λ places. places.items ≡ positions (λ m. serves m c.args.moment.now c.args.service.now) l)) (c.deref-2.ensures.value ∙ ap (λ k. k.mappings) c.self.view_is)
+    subst (λ l. IfOk c.select.result (λ found. found.items ≡ positions (λ m. serves m c.args.moment.now c.args.service.now) l)) (c.deref-2.ensures.value ∙ ap (λ k. k.mappings) c.self.view_is)
     (c.select.ensures (λ m. serves m c.args.moment.now c.args.service.now) (λ m r says. search rules)
     (covers_seen (λ m. serves m c.args.moment.now c.args.service.now) c.self.inside.numbers.items c.self.inside.mappings.items c.deref.result.now c.deref-2.result.now c.of_service-candidates.result.now
     c.deref.ensures.value c.deref-2.ensures.value

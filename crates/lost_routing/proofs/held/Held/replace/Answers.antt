@@ -1,5 +1,5 @@
 use Rattle.std.proofs.Common.{refl}
-use Rattle.lost_book.proofs.PlaceLemmas.{replaced-at, replaced-none}
+use Rattle.lost_book.proofs.PositionLemmas.{replaced-at, replaced-none}
 use Rattle.lost_routing.proofs.ApplyLemmas.{ok_replaced}
 use Rattle.lost_routing.proofs.held.Held.replace.Goals as goal
 

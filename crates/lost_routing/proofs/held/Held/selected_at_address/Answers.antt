@@ -7,7 +7,7 @@ use Rattle.lost_routing.proofs.held.Held.selected_at_address.Goals as goal
 
 pub returns : goal.returns
 returns g c = λ test says tells.
-    subst (λ l. IfOk c.select.result (λ places. places.items ≡ positions test l)) (c.deref-2.ensures.value ∙ ap (λ k. k.mappings) c.self.view_is)
+    subst (λ l. IfOk c.select.result (λ found. found.items ≡ positions test l)) (c.deref-2.ensures.value ∙ ap (λ k. k.mappings) c.self.view_is)
     (c.select.ensures test says
     (covers_seen test c.self.inside.numbers.items c.self.inside.mappings.items c.deref.result.now c.deref-2.result.now c.as_slice.result.now
     c.deref.ensures.value c.deref-2.ensures.value

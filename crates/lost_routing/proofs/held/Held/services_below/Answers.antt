@@ -5,7 +5,7 @@ use Rattle.lost_spec.specs.Text.{Text}
 use Rattle.lost_spec.specs.Mapping.{Mapping, is_live}
 use Rattle.lost_spec.specs.Services.{children_in}
 use Rattle.lost_tables.specs.Notes.{service_rows}
-use Rattle.lost_routing.specs.Walk.{live_place}
+use Rattle.lost_routing.specs.Walk.{live_position}
 use Rattle.lost_routing.proofs.QuestionLemmas.{seen_at}
 use Rattle.lost_routing.proofs.ServiceLemmas.{chosen_seen, chosen_within, no_more, one_more, all_walked}
 use Rattle.lost_routing.proofs.held.Held.services_below.Goals as goal
@@ -15,28 +15,28 @@ pub index-requires : goal.index-requires
 index-requires c =
     let row : Text × List ℕ = (c.service_at.result.0.now, c.service_at.result.1.now) in
     let held = c.self.inside in
-    let within : c.in-Some.place < length held.mappings.items =
+    let within : c.in-Some.position < length held.mappings.items =
     chosen_within held.numbers.items held.mappings.items held.tables held.regions c.self.invariant (option_copied c.args.above) c.args.moment.now
-    row c.in-Some.place
+    row c.in-Some.position
     (chosen_seen held.numbers.items c.deref.result.now held.mappings.items c.deref-in-loop-row.result.now c.args.moment.now row
-    (Some c.in-Some.place) c.deref.ensures.value c.deref-in-loop-row.ensures.value c.in-Some.ensures) in
+    (Some c.in-Some.position) c.deref.ensures.value c.deref-in-loop-row.ensures.value c.in-Some.ensures) in
     search rules
 
 pub loop-row-preserved : goal.loop-row-preserved
 loop-row-preserved c =
     let row : Text × List ℕ = (c.service_at.result.0.now, c.service_at.result.1.now) in
     let held = c.self.inside in
-    let chosen = λ (place : Option ℕ) (is : place ≡ live_place c.deref.result.now c.deref-in-loop-row.result.now c.args.moment.now row.0 row.1).
+    let chosen = λ (position : Option ℕ) (is : position ≡ live_position c.deref.result.now c.deref-in-loop-row.result.now c.args.moment.now row.0 row.1).
     chosen_seen held.numbers.items c.deref.result.now held.mappings.items c.deref-in-loop-row.result.now c.args.moment.now row
-    place c.deref.ensures.value c.deref-in-loop-row.ensures.value is in
-    elim c.match-place.branch [
+    position c.deref.ensures.value c.deref-in-loop-row.ensures.value is in
+    elim c.match-position.branch [
       | in-Some+in_ok-add w ↦ rw w.children-is
           (one_more held.numbers.items held.mappings.items held.tables held.regions c.self.invariant (option_copied c.args.above) c.args.moment.now
-          row c.loop-row.row c.service_at.ensures c.loop-row.children c.loop-row.invariant w.in-Some.place w.index.result.now
-          (chosen (Some w.in-Some.place) w.in-Some.ensures)
-          (seen_at held.mappings.items w.in-Some.place w.index.result.now
+          row c.loop-row.row c.service_at.ensures c.loop-row.children c.loop-row.invariant w.in-Some.position w.index.result.now
+          (chosen (Some w.in-Some.position) w.in-Some.ensures)
+          (seen_at held.mappings.items w.in-Some.position w.index.result.now
           (chosen_within held.numbers.items held.mappings.items held.tables held.regions c.self.invariant (option_copied c.args.above) c.args.moment.now
-          row w.in-Some.place (chosen (Some w.in-Some.place) w.in-Some.ensures))
+          row w.in-Some.position (chosen (Some w.in-Some.position) w.in-Some.ensures))
           w.index.ensures)
           w.service.result.now w.service.ensures w.in_ok-add.ensures.well_formed w.add.new.self w.in_ok-add.ensures.child)
       | in_default w ↦ rw w.children-is

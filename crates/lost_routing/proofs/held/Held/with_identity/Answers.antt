@@ -2,7 +2,7 @@
 use Rattle.std.proofs.Common.{◌≡◌, ◌∙◌, find, slice_get, Some, None, rules, sym, ap}
 use Rattle.lost_spec.specs.Mapping.{Mapping}
 use Rattle.lost_spec.specs.Book.{has_identity}
-use Rattle.lost_book.proofs.PlaceLemmas.{find_at_position}
+use Rattle.lost_book.proofs.PositionLemmas.{find_at_position}
 use Rattle.lost_routing.proofs.QuestionLemmas.{copied_item}
 use Rattle.lost_routing.proofs.held.Held.with_identity.Goals as goal
 

@@ -1,5 +1,5 @@
 use Rattle.std.proofs.Common.{refl, sym, ap, subst, ◌∙◌}
-use Rattle.lost_book.proofs.PlaceLemmas.{without-at, without-none}
+use Rattle.lost_book.proofs.PositionLemmas.{without-at, without-none}
 use Rattle.lost_routing.specs.Held.{IsNew}
 use Rattle.lost_routing.proofs.ApplyLemmas.{new_removed}
 use Rattle.lost_routing.proofs.held.Held.withdraw.Goals as goal

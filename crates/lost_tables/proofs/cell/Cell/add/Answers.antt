@@ -6,7 +6,7 @@ use Rattle.lost_tables.proofs.cell.Cell.add.Goals as goal
 pub returns-in_ok-insert-clause-keeps : goal.returns-in_ok-insert-clause-keeps
 returns-in_ok-insert-clause-keeps c = λ other stands.
     rw c.in_ok-insert.ensures.items
-    (stands-insert (nat_eq other) c.self.inside.numbers.items c.in-Err.place c.args.number (rw c.self.view_is stands))
+    (stands-insert (nat_eq other) c.self.inside.numbers.items c.in-Err.position c.args.number (rw c.self.view_is stands))
 
 pub returns-in_default-clause-added : goal.returns-in_default-clause-added
 returns-in_default-clause-added c =

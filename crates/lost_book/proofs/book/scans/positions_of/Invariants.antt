@@ -2,9 +2,9 @@ use Rattle.std.proofs.Common.{◌≡◌, Bool, take}
 use Rattle.std.specs.Fn.{FnReturnsAt}
 use Rattle.lost_spec.specs.Mapping as spec
 use Rattle.lost_spec.specs.Positions.{positions}
-use Rattle.lost_book.proofs.book.scans.places_of.Given as goal
+use Rattle.lost_book.proofs.book.scans.positions_of.Given as goal
 
-abbrev pub invariant-loop-place : goal.invariant-loop-place
-invariant-loop-place g l =
+abbrev pub invariant-loop-position : goal.invariant-loop-position
+invariant-loop-position g l =
     (test : spec.Mapping → Bool) → ((m : spec.Mapping) (r : Bool) → FnReturnsAt g.F.Fn l.passes m r → r ≡ test m)
-    → l.places.items ≡ positions test (take l.place l.mappings)
+    → l.found.items ≡ positions test (take l.position l.mappings)

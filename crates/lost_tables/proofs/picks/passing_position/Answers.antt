@@ -1,0 +1,15 @@
+-- What the closure answers of the thing there decides.
+use Rattle.std.proofs.Common.{refl, sym, ◌∙◌}
+use Rattle.std.proofs.lemmas.Fn.{says_at}
+use Rattle.lost_tables.proofs.PickLemmas.{passing_is}
+use Rattle.lost_tables.proofs.picks.passing_position.Goals as goal
+
+pub returns-then-passes : goal.returns-then-passes
+returns-then-passes g c = λ test is.
+    sym (passing_is test c.args.numbers.now c.args.things.now c.args.number c.in_ok-position.position c.index-things-position.result _
+    c.requires.paired c.in_ok-position.ensures c.index-things-position.is (sym c.if-passes.true ∙ is _ _ (says_at g.F.Fn c.passes.ensures refl)))
+
+pub returns-else-passes : goal.returns-else-passes
+returns-else-passes g c = λ test is.
+    sym (passing_is test c.args.numbers.now c.args.things.now c.args.number c.in_ok-position.position c.index-things-position.result _
+    c.requires.paired c.in_ok-position.ensures c.index-things-position.is (sym c.if-passes.false ∙ is _ _ (says_at g.F.Fn c.passes.ensures refl)))
