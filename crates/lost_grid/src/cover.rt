@@ -8,7 +8,7 @@ ghost use Rattle.lost_grid.specs.Lines.{rows, columns};
 ghost use Rattle.lost_grid.specs.Stretch.{numbers, IsStretch};
 
 use crate::cell::Cell;
-use crate::lines::{MAX_LEVEL, Lines};
+use crate::lines::{Lines, MAX_LEVEL};
 use lost_geo::Bounds;
 use std::alloc::{AllocError, Global};
 

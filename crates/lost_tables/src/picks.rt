@@ -85,7 +85,10 @@ pub fn first<F: Fn(&Mapping) -> bool>(
 {
     let mut least = None;
     for candidate in candidates {
-        least = lesser(least, passing_position(numbers, things, *candidate, &passes));
+        least = lesser(
+            least,
+            passing_position(numbers, things, *candidate, &passes),
+        );
     }
     least
 }
