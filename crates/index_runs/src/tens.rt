@@ -17,6 +17,8 @@ impl Profile for Tens {
 
     type Key = u32;
 
+    type Probes = [u32; 1];
+
     type Outline = (u32, u32);
 
     ghost COVER_MAX = { 2 };
@@ -57,10 +59,8 @@ impl Profile for Tens {
     }
 
     /// The tens of the number.
-    fn probes(alloc: Global, location: &u32) -> Result<Vec<u32>, AllocError> {
-        let mut keys = Vec::with_capacity(alloc, 1)?;
-        keys.push(*location / 10)?;
-        Ok(keys)
+    fn probes(_alloc: Global, location: &u32) -> Result<[u32; 1], AllocError> {
+        Ok([*location / 10])
     }
 
     /// The ends.

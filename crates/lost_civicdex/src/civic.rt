@@ -24,6 +24,8 @@ impl Profile for Civic {
 
     type Key = ElementKey;
 
+    type Probes = Vec<ElementKey>;
+
     type Outline = ();
 
     ghost COVER_MAX = { 1 };

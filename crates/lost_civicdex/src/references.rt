@@ -36,6 +36,8 @@ impl Profile for References {
 
     type Key = ElementKey;
 
+    type Probes = Vec<ElementKey>;
+
     type Outline = ();
 
     ghost COVER_MAX = { 31 };

@@ -1,9 +1,8 @@
 -- The cells of one column, or one row, more.
-use Rattle.std.proofs.Common.{◌≡◌, sym, ap, ◌∙◌, ℕ, ◌+◌, arith, List, [], ◌∷◌, ◌++◌, map, append_assoc, ℤ, pos, neg_ℤ, ◌+ℤ◌, ◌≤ℤ◌, ◌<ℤ◌, SFits, w16, rules, Result, Ok, Err, IfOk, Vec, Global}
+use Rattle.std.proofs.Common.{◌≡◌, sym, ap, ◌∙◌, ℕ, List, [], ◌∷◌, ◌++◌, map, append_assoc, ℤ, pos, neg_ℤ, ◌+ℤ◌, ◌≤ℤ◌, ◌<ℤ◌, SFits, w16, rules, Result, Ok, Err, IfOk, Vec, Global}
 use Rattle.lost_geo.specs.declared.bounds.Bounds.{Bounds}
 use Rattle.std.proofs.lemmas.Int.{ints}
-use Rattle.std.specs.List.{flat_map, range_with_len}
-use Rattle.std.proofs.lemmas.List.FromFn.{map-range_with_len_more}
+use Rattle.std.specs.List.{flat_map}
 use Rattle.std.proofs.lemmas.List.{map-append, append-nil}
 use Rattle.std.proofs.lemmas.List.Concat.{flat_map-append}
 use Rattle.lost_grid.specs.declared.cell.Cell.{Cell}
@@ -43,12 +42,3 @@ at_level level bounds rs cs (Ok cells) at_least of_rows of_columns found =
     ∙ ap (λ (ns : List ℤ). flat_map (λ row. cells_in_row level row ns) (rows level bounds)) of_columns
     ∙ ap (λ (k : ℕ). cells_within k bounds) at_least
 at_level level bounds rs cs (Err e) at_least of_rows of_columns found = tt
-
--- the cell of one more level
-pub level_more : (f : ℕ → Cell) (n : ℕ) (cells new : List Cell) (cell : Cell) → cells ≡ map f (range_with_len 0 n) → cell ≡ f n → new ≡ cells ++ cell ∷ [] →
-    new ≡ map f (range_with_len 0 (n + 1))
-level_more f n cells new cell before at after =
-    after
-    ∙ ap (λ (front : List Cell). front ++ cell ∷ []) before
-    ∙ ap (λ (last : Cell). map f (range_with_len 0 n) ++ last ∷ []) at
-    ∙ sym (map-range_with_len_more f 0 n n (omega arith))

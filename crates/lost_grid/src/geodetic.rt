@@ -29,6 +29,8 @@ impl Profile for Geodetic2d {
 
     type Key = Cell;
 
+    type Probes = [Cell; 7];
+
     type Outline = Bounds;
 
     ghost COVER_MAX = { 64 };
@@ -61,9 +63,9 @@ impl Profile for Geodetic2d {
         cells_of(alloc, &region.bounds())
     }
 
-    /// The cells of the point's normal form at the levels from 0 to 6.
-    fn probes(alloc: Global, location: &GeoPoint) -> Result<Vec<Cell>, AllocError> {
-        cells_at(alloc, &location.normal())
+    /// The cells of the point's normal form at the levels from 0 to 6. It takes no memory.
+    fn probes(_alloc: Global, location: &GeoPoint) -> Result<[Cell; 7], AllocError> {
+        Ok(cells_at(&location.normal()))
     }
 
     /// The bounds of the ring.

@@ -10,6 +10,7 @@ use crate::note::Note;
 use lost_profile::Profile;
 use std::alloc::{AllocError, Global};
 use std::collections::{BTreeMap, HashMap};
+use std::convert::AsSlice;
 
 /// The numbers that are noted under the probes and have a region that contains the location, in the order of the
 /// probes; one may come twice. Or want of memory.
@@ -25,8 +26,9 @@ pub(crate) fn found<P: Profile>(
     ensures is_location { P.is_location location.now }
 {
     let mut found = Vec::new(alloc);
-    for key in P::probes(alloc, location)? {
-        if let Some(cell) = cells.get(&key) {
+    let keys = P::probes(alloc, location)?;
+    for key in keys.as_slice() {
+        if let Some(cell) = cells.get(key) {
             collect(held, cell.notes(), location, &mut found)?;
         }
     }
@@ -64,19 +66,10 @@ fn is_holder<P: Profile>(
     requires { P.is_location location.now }
     ensures { result ≡ (P.may_hold note.now.outline location.now && is_among_holders P.holds location.now held.now note.now.number) }
 {
-    P::is_near(&note.outline, location) && is_held_by(held, note.number, location)
-}
-
-/// Whether the number is held, with a region that contains the location.
-fn is_held_by<P: Profile>(
-    held: &BTreeMap<u64, Entry<P>>,
-    number: u64,
-    location: &P::Location,
-) -> bool
-    requires { P.is_location location.now }
-    ensures { result ≡ is_among_holders P.holds location.now held.now number }
-{
-    match held.get(&number) {
+    if !P::is_near(&note.outline, location) {
+        return false;
+    }
+    match held.get(&note.number) {
         Some(entry) => entry.contains(location),
         None => false,
     }

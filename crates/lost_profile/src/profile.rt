@@ -4,6 +4,7 @@ ghost use Rattle.std.specs.List.{IsDistinct};
 ghost use Rattle.lost_profile.specs.Keys.{SharesKey};
 
 use std::alloc::{AllocError, Global};
+use std::convert::AsSlice;
 use std::hash::Hash;
 
 /// A kind of location, and of the regions that contain such locations (RFC 5222, section 12). A region is kept under
@@ -18,6 +19,9 @@ pub trait Profile {
 
     /// What regions are kept under.
     type Key: Ord + Hash + Drop;
+
+    /// The keys under which a location is looked up, as a list: an array where their number is fixed.
+    type Probes: AsSlice<Self::Key> + Drop;
 
     /// What is cheap to copy and to compare, and tells that a region does not contain a location.
     type Outline: Copy + Eq;
@@ -62,8 +66,8 @@ pub trait Profile {
         ensures is_region { is_region region.now };
 
     /// The keys under which the location is looked up; or want of memory.
-    fn probes(alloc: Global, location: &Self::Location) -> Result<Vec<Self::Key>, AllocError>
-        ensures keys { IfOk result (λ keys. keys.items ≡ probes_of location.now) }
+    fn probes(alloc: Global, location: &Self::Location) -> Result<Self::Probes, AllocError>
+        ensures keys { IfOk result (λ keys. Self.Probes.items keys ≡ probes_of location.now) }
         ensures is_location { is_location location.now };
 
     /// The outline of the region. It takes no memory.
