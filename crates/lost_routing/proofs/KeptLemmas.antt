@@ -1,5 +1,5 @@
 -- That what is held stays kept, edit by edit.
-use Rattle.std.proofs.Common.{◌≡◌, ℕ, suc, ◌<◌, false, List, [], ◌∷◌, ◌++◌, Option, None, Some, IfSome, length, take, drop, slice_set, slice_index_or, nat_eq, sym, ap, subst, arith, ◌∙◌}
+use Rattle.std.proofs.Common.{◌≡◌, ℕ, suc, ◌<◌, false, List, [], ◌∷◌, ◌++◌, Option, None, Some, IfSome, length, take, drop, slice_set, slice_index_or, nat_eq, refl, sym, ap, subst, arith, ◌∙◌}
 use Rattle.std.specs.List.{zip, remove}
 use Rattle.std.proofs.lemmas.List.{length-append, length-take-le}
 use Rattle.lost_spec.specs.Text.{Text}
@@ -173,3 +173,13 @@ module _ (ns : List ℕ) (ms : List Mapping) (t : Tables) (r : Regions) (kept : 
   pub at_taken : (t' : Tables) (r' : Regions) → KeepsOthers n t t' → r' ≡ without_number n r → IsKept (remove ns i) (remove ms i) t' r'
   at_taken t' r' others taken =
       split_taken (take i ns) (drop (suc i) ns) (take i ms) (drop (suc i) ms) n o t r kept_split even_fronts t' r' others taken
+
+-- ---- what is put behind all, and taken away again
+
+pub last_there : {X : Type 0} (xs : List X) (x d : X) → slice_index_or (xs ++ x ∷ []) (length xs) d ≡ x
+last_there [] x d = refl
+last_there (y ∷ xs) x d = last_there xs x d
+
+pub last_gone : {X : Type 0} (xs : List X) (x : X) → remove (xs ++ x ∷ []) (length xs) ≡ xs
+last_gone [] x = refl
+last_gone (y ∷ xs) x = ap (λ l. y ∷ l) (last_gone xs x)

@@ -1,21 +1,10 @@
--- What covers is seen through a slice; and a chain that is asked one service after the other, the longest first.
-use Rattle.std.proofs.Common.{◌≡◌, ℕ, zero, suc, ◌+◌, ◌-◌, ◌<◌, ◌≤◌, Option, None, Some, is_some, IfSome, Bor, nat_lt, slice_get, slice_index_or, Bool, true, false, ◌&&◌, ◌||◌, List, [], ◌∷◌, length, take, refl, sym, ap, subst, ◌∙◌, arith}
+-- What stands at a position; and a chain that is asked one service after the other, the longest first.
+use Rattle.std.proofs.Common.{◌≡◌, ℕ, zero, suc, ◌+◌, ◌-◌, ◌<◌, ◌≤◌, Some, slice_get, slice_index_or, Bool, true, false, ◌&&◌, ◌||◌, List, [], ◌∷◌, length, take, refl, sym, ap, ◌∙◌, arith}
 use Rattle.std.specs.List.{list_any}
-use Rattle.std.specs.Option.{option_copied}
-use Rattle.std.proofs.lemmas.Bool.Decides.{nat_tests}
-use Rattle.std.proofs.lemmas.Option.{slice_get_past}
 use Rattle.lost_spec.specs.Service.{Service, same_service, cuts}
 use Rattle.lost_spec.specs.Moment.{Instant}
 use Rattle.lost_spec.specs.Mapping.{Mapping, is_live}
 use Rattle.lost_spec.specs.Find.{serves}
-use Rattle.lost_tables.specs.Picks.{Covers}
-
--- ---- covers of the same lists
-
-pub covers_seen : (test : Mapping → Bool) (ns : List ℕ) (ms : List Mapping) (ns' : List ℕ) (ms' : List Mapping) (candidates : List ℕ)
-    → ns' ≡ ns → ms' ≡ ms → Covers test ns ms candidates → Covers test ns' ms' candidates
-covers_seen test ns ms ns' ms' candidates numbers mappings covers =
-    subst (λ l. Covers test l ms' candidates) (sym numbers) (subst (λ l. Covers test ns l candidates) (sym mappings) covers)
 
 -- ---- what stands at a position
 
@@ -23,17 +12,6 @@ pub seen_at : {X : Type 0} (xs : List X) (i : ℕ) (x : X) → i < length xs →
 seen_at [] i x within is = absurd (omega arith)
 seen_at (y ∷ xs) zero x within is = ap Some (sym is)
 seen_at (y ∷ xs) (suc i) x within is = seen_at xs i x (omega arith) is
-
-past : (i n : ℕ) → false ≡ nat_lt i n → n ≤ i
-past i n h = grind (arith, nat_tests)
-
-before : (i n : ℕ) → true ≡ nat_lt i n → i < n
-before i n h = grind (arith, nat_tests)
-
-pub copied_item : {X : Type 0} (xs : List X) (i : ℕ) (r : Option (Bor X)) → is_some r ≡ nat_lt i (length xs)
-    → IfSome r (λ x. x.now ≡ slice_index_or xs i x.now) → option_copied r ≡ slice_get xs i
-copied_item xs i None there is = sym (slice_get_past xs i (past i (length xs) there))
-copied_item xs i (Some x) there is = sym (seen_at xs i x.now (before i (length xs) there) is)
 
 -- ---- chains
 

@@ -83,13 +83,6 @@ none_walked q t ns ms rows children none = record {
   each = λ j row position n m below. absurd (omega (arith, below));
 }
 
--- ---- what was chosen
-
-pub chosen_seen : (ns ns' : List ℕ) (ms ms' : List Mapping) (t : Instant) (row : Text × List ℕ) (position : Option ℕ) → ns' ≡ ns → ms' ≡ ms
-    → position ≡ live_position ns' ms' t row.0 row.1 → position ≡ live_position ns ms t row.0 row.1
-chosen_seen ns ns' ms ms' t row position numbers mappings is =
-    is ∙ ap (λ l. live_position l ms' t row.0 row.1) numbers ∙ ap (λ l. live_position ns l t row.0 row.1) mappings
-
 module _ (ns : List ℕ) (ms : List Mapping) (tables : Tables) (regions : Regions) (kept : IsKept ns ms tables regions) (q : Option Service) (t : Instant) where
   is_well_formed : (position n : ℕ) (m : Mapping) → slice_get ms position ≡ Some m → slice_get ns position ≡ Some n → IsTrue (is_service m.service)
   is_well_formed position n m at_m at_n = (noted_at ns ms tables regions kept position n m at_m at_n).well_formed

@@ -7,6 +7,7 @@ use crate::entering::{enter, exchange, leave};
 use lost_mapping::Mapping;
 use lost_regions::Regions;
 use lost_tables::Tables;
+use lost_tiered::TieredVec;
 use std::alloc::{AllocError, Global};
 use std::marker::Model;
 
@@ -14,8 +15,8 @@ use std::marker::Model;
 #[derive(Drop)]
 pub(crate) struct Held {
     pub(crate) alloc: Global,
-    pub(crate) numbers: Vec<u64>,
-    pub(crate) mappings: Vec<Mapping>,
+    pub(crate) numbers: TieredVec<u64>,
+    pub(crate) mappings: TieredVec<Mapping>,
     pub(crate) tables: Tables,
     pub(crate) regions: Regions,
 }
@@ -26,9 +27,9 @@ impl Model for Held {
 
     ghost Value = { spec.Kept };
 
-    ghost view = { λ h. record { numbers = h.numbers.items; mappings = h.mappings.items } };
+    ghost view = { λ h. record { numbers = h.numbers; mappings = h.mappings } };
 
-    ghost invariant = { λ h. IsKept h.numbers.items h.mappings.items h.tables h.regions };
+    ghost invariant = { λ h. IsKept h.numbers h.mappings h.tables h.regions };
 }
 
 impl Held {
@@ -38,18 +39,26 @@ impl Held {
     {
         Held {
             alloc,
-            numbers: Vec::new(alloc),
-            mappings: Vec::new(alloc),
+            numbers: TieredVec::new(alloc),
+            mappings: TieredVec::new(alloc),
             tables: Tables::new(alloc),
             regions: Regions::new(alloc),
         }
     }
 
-    /// The mappings, in order.
-    pub(crate) fn mappings(&self) -> &[Mapping]
-        ensures { result.now ≡ self.now.mappings }
+    /// How many mappings there are.
+    pub(crate) fn len(&self) -> usize
+        ensures { result ≡ length self.now.mappings }
     {
-        self.mappings.as_slice()
+        self.mappings.len()
+    }
+
+    /// The mapping at a position.
+    pub(crate) fn mapping(&self, position: usize) -> &Mapping
+        requires { position < length self.now.mappings }
+        ensures { slice_get self.now.mappings position ≡ Some result.now }
+    {
+        self.mappings.at(position)
     }
 
     /// Puts a mapping behind all, under a number that is above all. Or want of memory, which changes nothing.
@@ -58,11 +67,18 @@ impl Held {
         ensures put { OnOk result (self.new ≡ with_last number mapping self.old) }
         ensures refused { OnErr result (self.new ≡ self.old) }
     {
-        self.numbers.reserve(1)?;
-        self.mappings.reserve(1)?;
-        enter(&mut self.tables, &mut self.regions, &mapping, number)?;
-        self.numbers.push_reserved(number);
-        self.mappings.push_reserved(mapping);
+        let position = self.numbers.len();
+        self.numbers.push(number)?;
+        if self.mappings.push(mapping).is_err() {
+            self.numbers.remove(position);
+            return Err(AllocError);
+        }
+        let mapping = self.mappings.at(position);
+        if enter(&mut self.tables, &mut self.regions, mapping, number).is_err() {
+            self.numbers.remove(position);
+            self.mappings.remove(position);
+            return Err(AllocError);
+        }
         Ok(())
     }
 
@@ -72,15 +88,15 @@ impl Held {
         ensures changed { OnOk result (self.new ≡ with_mapping_at position mapping self.old) }
         ensures refused { OnErr result (self.new ≡ self.old) }
     {
-        let number = self.numbers[position];
+        let number = *self.numbers.at(position);
         exchange(
             &mut self.tables,
             &mut self.regions,
-            &self.mappings[position],
+            self.mappings.at(position),
             &mapping,
             number,
         )?;
-        self.mappings[position] = mapping;
+        self.mappings.set(position, mapping);
         Ok(())
     }
 
@@ -100,7 +116,8 @@ impl Held {
     {
         let mut copy = Held::new(self.alloc);
         for position in 0..self.mappings.len() {
-            copy.put(self.numbers[position], self.mappings[position].clone()?)?;
+            let mapping = self.mappings.at(position).clone()?;
+            copy.put(*self.numbers.at(position), mapping)?;
         }
         Ok(copy)
     }

@@ -56,7 +56,7 @@ impl Routing {
     pub fn len(&self) -> usize
         ensures { result ≡ length self.now.mappings }
     {
-        self.held.mappings().len()
+        self.held.len()
     }
 
     /// The mapping at a position, which is below `len`.
@@ -64,7 +64,7 @@ impl Routing {
         requires { position < length self.now.mappings }
         ensures { slice_get self.now.mappings position ≡ Some result.now }
     {
-        &self.held.mappings()[position]
+        self.held.mapping(position)
     }
 
     /// The set of a place: the mappings that hold it, live or not, in rising positions (own rule), or want of memory.

@@ -11,6 +11,7 @@ use crate::held::Held;
 use lost_mapping::{Mapping, Moment};
 use lost_query::Children;
 use lost_tables::{laws, picks};
+use lost_tiered::TieredVec;
 use lost_urn::ServiceUrn;
 use std::alloc::AllocError;
 
@@ -30,7 +31,7 @@ impl Held {
             let (text, candidates) = self.tables.service_at(row);
             let position = live_position(&self.numbers, &self.mappings, moment, text, candidates);
             if let Some(position) = position {
-                children.add(self.mappings[position].service())?;
+                children.add(self.mappings.at(position).service())?;
             }
         }
 
@@ -43,8 +44,8 @@ impl Held {
 /// The position of the first of these candidates whose mapping is live and has the service of this text. The numbers of the
 /// mappings rise.
 fn live_position(
-    numbers: &[u64],
-    mappings: &[Mapping],
+    numbers: &TieredVec<u64>,
+    mappings: &TieredVec<Mapping>,
     moment: &Moment,
     text: &str,
     candidates: &[u64],

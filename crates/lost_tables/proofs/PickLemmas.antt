@@ -24,7 +24,7 @@ use Rattle.std.proofs.lemmas.Map.Views.{Contains-from_any, list_any-from_Contain
 use Rattle.std.proofs.lemmas.Option.{slice_get_within, get_or_from_slice_get, slice_get-get_or}
 use Rattle.lost_spec.specs.Positions.{positions_from, positions}
 use Rattle.lost_tables.specs.Lists.{Stands}
-use Rattle.lost_tables.specs.Picks.{Covers, if_passes, passing, lesser}
+use Rattle.lost_tables.specs.Picks.{Covers, AreBelow, AreAbove, if_passes, passing, lesser}
 
 -- ---- numbers and tests
 
@@ -42,6 +42,13 @@ at_same n k = grind (arith, nat_tests)
 
 is_below : (n k : ℕ) → n < k → nat_lt n k ≡ true
 is_below n k h = grind (arith, nat_tests)
+
+fails_unless : (b : Bool) → (b ≡ true → ⊥) → b ≡ false
+fails_unless true none = absurd (none refl)
+fails_unless false none = refl
+
+apart_unless : (a b : ℕ) → (a ≡ b → ⊥) → nat_eq b a ≡ false
+apart_unless a b apart = fails_unless (nat_eq b a) (λ same. apart (sym (same_number b a same)))
 
 less : (n k : ℕ) → n < k → nat_cmp n k ≡ Less
 less n k h = grind (arith, nat_tests)
@@ -65,10 +72,6 @@ same_from_both : (a b : Bool) → (a ≡ true → b ≡ true) → (b ≡ true �
 same_from_both true b there back = sym (there refl)
 same_from_both false true there back = back refl
 same_from_both false false there back = refl
-
-fails_unless : (b : Bool) → (b ≡ true → ⊥) → b ≡ false
-fails_unless true none = absurd (none refl)
-fails_unless false none = refl
 
 or_right : (a b : Bool) → b ≡ true → (a || b) ≡ true
 or_right true b h = refl
@@ -295,24 +298,70 @@ rises xs rising i j in_order within = rises_by xs rising i j in_order within (na
 apart_above : (n k : ℕ) → n < k → nat_eq n k ≡ false
 apart_above n k above = grind (arith, nat_tests)
 
-around : (xs : List ℕ) (x i : ℕ) → ((k : ℕ) → k < i → get_or xs k 0 < x) → ((k : ℕ) → i ≤ k → k < length xs → x < get_or xs k 0)
-    → (k : ℕ) → k < length xs → (b : Bool) → nat_lt k i ≡ b → nat_eq x (get_or xs k 0) ≡ false
-around xs x i below above k within true h = apart_below x (get_or xs k 0) x (below k (is_less k i h)) refl
-around xs x i below above k within false h = apart_above x (get_or xs k 0) (above k (not_below k i h) within)
+-- ---- halving rising numbers
 
-found_from : (xs : List ℕ) (x : ℕ) (r : Result ℕ ℕ) → IsStrictlySortedBy nat_cmp xs
-    → MatchResult r (λ i. (i < length xs) × (get_or xs i 0 ≡ x)) (λ i. (i ≤ length xs) × ((k : ℕ) → k < i → get_or xs k 0 < x) × ((k : ℕ) → i ≤ k → k < length xs → x < get_or xs k 0))
-    → result_ok r ≡ position (nat_eq x) xs
-found_from xs x (Ok i) rising h = sym (position_at xs i x rising (slice_get-get_or xs i 0 h.0 ∙ ap Some h.1))
-found_from xs x (Err i) rising h =
-    sym (position_none (nat_eq x) xs
-    (position_or_len_is (nat_eq x) xs (length xs) 0 (omega arith)
-    (λ k within. around xs x i h.1 h.2 k within (nat_lt k i) refl)
-    (λ past. absurd (omega (arith, past)))))
+module _ (n : ℕ) (xs : List ℕ) (rising : IsStrictlySortedBy nat_cmp xs) where
+  -- in front of a position whose number is below n, and there, all are
+  pub below_middle : (m there : ℕ) → Some there ≡ slice_get xs m → there < n → AreBelow n xs (m + 1)
+  below_middle m there at less i before within =
+      let is = get_or_from_slice_get xs m there 0 (sym at) in
+      let up = rises xs rising i m (omega (arith, before)) (slice_get_within xs m there (sym at)) in
+      omega (arith, is, up, less)
 
-pub found_is : (xs : List ℕ) (x : ℕ) (r : Result ℕ ℕ) → IsStrictlySortedBy nat_cmp xs → IsBinarySearchResult (λ y. nat_cmp y x) xs r
-    → result_ok r ≡ position (nat_eq x) xs
-found_is xs x r rising h = found_from xs x r rising (searched xs x r h (rises xs rising))
+  -- from a position on whose number is not below n, none is
+  pub above_middle : (m there : ℕ) → Some there ≡ slice_get xs m → n ≤ there → AreAbove n xs m
+  above_middle m there at not_less i behind within =
+      let is = get_or_from_slice_get xs m there 0 (sym at) in
+      let up = rises xs rising m i behind within in
+      omega (arith, is, up, not_less)
+
+  pub none_below_start : AreBelow n xs 0
+  none_below_start i before within = absurd (omega (arith, before))
+
+  -- past the end nothing stands
+  pub none_past : (m : ℕ) → None ≡ slice_get xs m → (i : ℕ) → m ≤ i → i < length xs → ⊥
+  none_past m none i behind within =
+      none_some (get_or xs m 0) (none ∙ slice_get-get_or xs m 0 (omega (arith, behind, within)))
+
+  pub above_end : (m : ℕ) → None ≡ slice_get xs m → AreAbove n xs m
+  above_end m none i behind within = absurd (none_past m none i behind within)
+
+  pub above_length : AreAbove n xs (length xs)
+  above_length i behind within = absurd (omega (arith, behind, within))
+
+  apart_at : (m : ℕ) → AreBelow n xs m → AreAbove n xs m → (m < length xs → nat_eq n (get_or xs m 0) ≡ false)
+      → (k : ℕ) → k < length xs → (b d : Bool) → nat_lt k m ≡ b → nat_lt m k ≡ d → nat_eq n (get_or xs k 0) ≡ false
+  apart_at m below above apart k within true d h g = apart_below n (get_or xs k 0) n (below k (is_less k m h) within) refl
+  apart_at m below above apart k within false true h g =
+      let behind = is_less m k g in
+      let least = above m (omega arith) (omega (arith, behind, within)) in
+      let more = below_from_sorted xs m k 0 rising behind within in
+      apart_above n (get_or xs k 0) (omega (arith, least, more))
+  apart_at m below above apart k within false false h g =
+      let same : k ≡ m = both_ways k m (not_below m k g) h in
+      rw same (apart (subst (λ j. j < length xs) same within))
+
+  -- a number that does not stand where the lower ones end stands nowhere
+  stands_nowhere : (m : ℕ) → AreBelow n xs m → AreAbove n xs m → (m < length xs → nat_eq n (get_or xs m 0) ≡ false)
+      → None ≡ position (nat_eq n) xs
+  stands_nowhere m below above apart =
+      sym (position_none (nat_eq n) xs
+      (position_or_len_is (nat_eq n) xs (length xs) 0 (omega arith)
+      (λ k within. apart_at m below above apart k within (nat_lt k m) (nat_lt m k) refl refl)
+      (λ past. absurd (omega (arith, past)))))
+
+  pub other_there : (m there : ℕ) → AreBelow n xs m → AreAbove n xs m → Some there ≡ slice_get xs m → (there ≡ n → ⊥)
+      → None ≡ position (nat_eq n) xs
+  other_there m there below above at other =
+      stands_nowhere m below above
+      (λ within. ap (nat_eq n) (get_or_from_slice_get xs m there 0 (sym at)) ∙ apart_unless there n other)
+
+  pub none_there : (m : ℕ) → AreBelow n xs m → AreAbove n xs m → None ≡ slice_get xs m → None ≡ position (nat_eq n) xs
+  none_there m below above none =
+      stands_nowhere m below above (λ within. absurd (none_past m none m (omega arith) within))
+
+  pub it_is_there : (m there : ℕ) → Some there ≡ slice_get xs m → there ≡ n → Some m ≡ position (nat_eq n) xs
+  it_is_there m there at same = sym (position_at xs m n rising (sym at ∙ ap Some same))
 
 module _ {Thing : Type 0} (test : Thing → Bool) where
   -- the thing at a place passes

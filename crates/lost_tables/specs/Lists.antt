@@ -9,6 +9,10 @@ use Rattle.lost_spec.specs.Book.{Identity}
 abbrev pub Stands : ℕ → List ℕ → Type 0
 Stands number numbers = list_any (nat_eq number) numbers ≡ true
 
+-- all other numbers that stood in a list do
+abbrev pub KeepsOthersIn : ℕ → List ℕ → List ℕ → Type 0
+KeepsOthersIn gone old new = (number : ℕ) → nat_eq gone number ≡ false → Stands number old → Stands number new
+
 module _ {Thing : Type 0} where
   -- all that was listed is
   abbrev pub KeepsLists : (Thing → List ℕ) → (Thing → List ℕ) → Type 0

@@ -1,14 +1,21 @@
 //! The numbers that are noted under one key.
-ghost use Rattle.std.specs.Prelude.{◌≡◌, ◌∷◌, [], true, false, nat_eq, IfOk, OnOk, OnErr, IsTrue, ◌↔◌};
-ghost use Rattle.std.specs.List.{list_any};
+ghost use Rattle.std.specs.Prelude.{◌≡◌, ◌≤◌, ◌<◌, ◌∷◌, [], length, IfOk, OnOk, OnErr, IsTrue, ◌↔◌};
+ghost use Rattle.lost_tables.specs.Lists.{Stands, KeepsOthersIn};
 
 use std::alloc::{AllocError, Global};
 use std::marker::Model;
 
-/// The numbers that are noted under one key, rising, each once. Contracts see it as their list.
+/// Of so many numbers one may stand behind an equal one.
+const SHARE: usize = 64;
+
+/// The numbers that are noted under one key, rising. Contracts see it as their list. A number that is taken out leaves its
+/// room to the next, which then stands there once more; when more than one of 64 is such a repetition, all of them go. So
+/// taking out seldom moves what stands behind, however many there are.
 #[derive(Drop)]
 pub(crate) struct Cell {
     numbers: Vec<u64>,
+    /// How many numbers at most stand behind an equal one.
+    repeated: usize,
 }
 
 impl Model for Cell {
@@ -26,7 +33,10 @@ impl Cell {
     {
         let mut numbers = Vec::new(alloc);
         numbers.push(number)?;
-        Ok(Cell { numbers })
+        Ok(Cell {
+            numbers,
+            repeated: 0,
+        })
     }
 
     /// The numbers.
@@ -45,10 +55,13 @@ impl Cell {
 
     /// Puts the number in, unless it stands there, or want of memory, which changes nothing.
     pub(crate) fn add(&mut self, number: u64) -> Result<(), AllocError>
-        ensures added { OnOk result (list_any (nat_eq number) self.new ≡ true) }
-        ensures keeps { (other : _) → list_any (nat_eq other) self.old ≡ true → list_any (nat_eq other) self.new ≡ true }
+        ensures added { OnOk result (Stands number self.new) }
+        ensures keeps { (other : _) → Stands other self.old → Stands other self.new }
         ensures refused { OnErr result (self.new ≡ self.old) }
     {
+        if is_past(&self.numbers, number) {
+            return Ok(self.numbers.push(number)?);
+        }
         if let Err(position) = self.numbers.binary_search(&number) {
             self.numbers.insert(position, number)?;
         }
@@ -57,10 +70,78 @@ impl Cell {
 
     /// Takes the number out.
     pub(crate) fn remove(&mut self, number: u64)
-        ensures { (other : _) → nat_eq number other ≡ false → list_any (nat_eq other) self.old ≡ true → list_any (nat_eq other) self.new ≡ true }
+        ensures { KeepsOthersIn number self.old self.new }
     {
         if let Ok(position) = self.numbers.binary_search(&number) {
-            self.numbers.remove(position);
+            leave_room(&mut self.numbers, number, position);
+            self.repeated = self.repeated.saturating_add(1);
+            self.drop_repeated();
         }
+    }
+
+    /// Drops the repetitions, where there may be too many.
+    fn drop_repeated(&mut self)
+        ensures { (other : _) → Stands other self.old → Stands other self.new }
+    {
+        if self.repeated > self.numbers.len() / SHARE {
+            self.numbers.dedup();
+            self.repeated = 0;
+        }
+    }
+}
+
+/// Whether a number is above the last of these.
+fn is_past(numbers: &[u64], number: u64) -> bool {
+    match numbers.last() {
+        Some(last) => *last < number,
+        None => true,
+    }
+}
+
+/// Leaves the room of a number, which stands at a position, to the next one. The last one's room goes.
+fn leave_room(numbers: &mut Vec<u64>, number: u64, position: usize)
+    requires { position < length numbers.old.items }
+    ensures { KeepsOthersIn number numbers.old.items numbers.new.items }
+{
+    let end = end_of(numbers, number, position);
+    match numbers.get(end) {
+        Some(next) => {
+            let next = *next;
+            write_over(numbers, number, next, end);
+        }
+        None => pop_all(numbers, number),
+    }
+}
+
+/// Up to where a number stands, from a position on.
+fn end_of(numbers: &[u64], number: u64, position: usize) -> usize
+    requires { position ≤ length numbers.now }
+    ensures { result ≤ length numbers.now }
+{
+    let mut end = position;
+    while end < numbers.len() && numbers[end] == number {
+        end += 1;
+    }
+    end
+}
+
+/// Writes another number over a number that stands in front of a position, however often it stands there.
+fn write_over(numbers: &mut [u64], number: u64, other: u64, end: usize)
+    requires { end ≤ length numbers.old }
+    ensures { KeepsOthersIn number numbers.old numbers.new }
+{
+    let mut start = end;
+    while start > 0 && numbers[start - 1] == number {
+        start -= 1;
+        numbers[start] = other;
+    }
+}
+
+/// Takes a number off the end, however often it stands there.
+fn pop_all(numbers: &mut Vec<u64>, number: u64)
+    ensures { KeepsOthersIn number numbers.old.items numbers.new.items }
+{
+    while numbers.last() == Some(&number) {
+        numbers.pop();
     }
 }

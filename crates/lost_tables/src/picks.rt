@@ -6,47 +6,79 @@ ghost use Rattle.std.specs.List.Sorted.{IsStrictlySortedBy};
 ghost use Rattle.std.specs.Ordering.{nat_cmp};
 ghost use Rattle.lost_spec.specs.Mapping as spec;
 ghost use Rattle.lost_spec.specs.Positions.{positions};
-ghost use Rattle.lost_tables.specs.Picks.{Covers, passing, lesser as lesser_of};
+ghost use Rattle.lost_tables.specs.Picks.{Covers, AreBelow, AreAbove, passing, lesser as lesser_of};
 
 use lost_mapping::Mapping;
+use lost_tiered::TieredVec;
 use std::alloc::{AllocError, Global};
 
 /// How far below itself a number is looked for, step by step.
 const REACHES: [usize; 5] = [1, 8, 64, 512, 4_096];
 
 /// Where a number stands among rising numbers. It takes no memory.
-pub fn position_of(numbers: &[u64], number: u64) -> Option<usize>
+pub fn position_of(numbers: &TieredVec<u64>, number: u64) -> Option<usize>
     requires rising { IsStrictlySortedBy nat_cmp numbers.now }
     ensures { result ≡ position (nat_eq number) numbers.now }
 {
     let likely = likely_position(numbers, number);
     match numbers.get(likely) {
         Some(there) if *there == number => Some(likely),
-        _ => numbers.binary_search(&number).ok(),
+        _ => searched_position(numbers, number),
     }
 }
 
 /// Where a number may stand among rising numbers; the caller looks whether it does. It stands no higher than at itself,
 /// and lower by as many as were left out below it: few, mostly. So the search begins there and reaches down, which takes
 /// fewer looks at far parts of a long list than halving it does.
-fn likely_position(numbers: &[u64], number: u64) -> usize {
+fn likely_position(numbers: &TieredVec<u64>, number: u64) -> usize
+    requires rising { IsStrictlySortedBy nat_cmp numbers.now }
+{
     let end = numbers.len().min((number as usize).saturating_add(1));
     for reach in REACHES {
         let start = end.saturating_sub(reach);
-        let stretch = &numbers[start..end];
-        if stretch.first().is_some_and(|first| *first <= number) {
-            return start + stretch.binary_search(&number).unwrap_or(0);
+        if numbers.get(start).is_some_and(|first| *first <= number) {
+            return halved(numbers, number, start, end);
         }
     }
     end
+}
+
+/// Where a number stands among rising numbers, by a search of all of them.
+fn searched_position(numbers: &TieredVec<u64>, number: u64) -> Option<usize>
+    requires rising { IsStrictlySortedBy nat_cmp numbers.now }
+    ensures { result ≡ position (nat_eq number) numbers.now }
+{
+    let found = halved(numbers, number, 0, numbers.len());
+    match numbers.get(found) {
+        Some(there) if *there == number => Some(found),
+        _ => None,
+    }
+}
+
+/// Up to where rising numbers are below a number, from one position up to another.
+fn halved(numbers: &TieredVec<u64>, number: u64, start: usize, end: usize) -> usize
+    requires rising { IsStrictlySortedBy nat_cmp numbers.now }
+    ensures below { AreBelow number numbers.now start → AreBelow number numbers.now result }
+    ensures above { AreAbove number numbers.now end → AreAbove number numbers.now result }
+{
+    let mut low = start;
+    let mut high = end;
+    while low < high {
+        let middle = low + (high - low) / 2;
+        match numbers.get(middle) {
+            Some(there) if *there < number => low = middle + 1,
+            _ => high = middle,
+        }
+    }
+    low
 }
 
 /// The positions, rising, of the things that pass a test, or want of memory. The numbers of the things rise, and the
 /// candidates are the numbers of all that pass, in any order, with others among them.
 pub fn select<F: Fn(&Mapping) -> bool>(
     alloc: Global,
-    numbers: &[u64],
-    things: &[Mapping],
+    numbers: &TieredVec<u64>,
+    things: &TieredVec<Mapping>,
     candidates: &[u64],
     passes: F,
 ) -> Result<Vec<usize>, AllocError>
@@ -71,8 +103,8 @@ pub fn select<F: Fn(&Mapping) -> bool>(
 /// The position of the first thing that passes a test. The numbers of the things rise, and the candidates are the numbers
 /// of all that pass, in any order, with others among them. It takes no memory.
 pub fn first<F: Fn(&Mapping) -> bool>(
-    numbers: &[u64],
-    things: &[Mapping],
+    numbers: &TieredVec<u64>,
+    things: &TieredVec<Mapping>,
     candidates: &[u64],
     passes: F,
 ) -> Option<usize>
@@ -96,8 +128,8 @@ pub fn first<F: Fn(&Mapping) -> bool>(
 /// The position of a thing that passes a test and has its number among candidates: that of the first candidate whose thing
 /// passes. The numbers of the things rise. It takes no memory.
 pub fn one<F: Fn(&Mapping) -> bool>(
-    numbers: &[u64],
-    things: &[Mapping],
+    numbers: &TieredVec<u64>,
+    things: &TieredVec<Mapping>,
     candidates: &[u64],
     passes: F,
 ) -> Option<usize>
@@ -119,8 +151,8 @@ pub fn one<F: Fn(&Mapping) -> bool>(
 /// Whether some thing passes a test. The numbers of the things rise, and the candidates are the numbers of all that
 /// pass, in any order, with others among them. It takes no memory.
 pub fn any<F: Fn(&Mapping) -> bool>(
-    numbers: &[u64],
-    things: &[Mapping],
+    numbers: &TieredVec<u64>,
+    things: &TieredVec<Mapping>,
     candidates: &[u64],
     passes: F,
 ) -> bool
@@ -141,8 +173,8 @@ pub fn any<F: Fn(&Mapping) -> bool>(
 
 /// The position of the thing with a number, where it passes a test.
 fn passing_position<F: Fn(&Mapping) -> bool>(
-    numbers: &[u64],
-    things: &[Mapping],
+    numbers: &TieredVec<u64>,
+    things: &TieredVec<Mapping>,
     number: u64,
     passes: &F,
 ) -> Option<usize>
@@ -153,7 +185,7 @@ fn passing_position<F: Fn(&Mapping) -> bool>(
         → result ≡ passing test numbers.now things.now number }
 {
     let position = position_of(numbers, number)?;
-    if passes(&things[position]) {
+    if passes(things.at(position)) {
         Some(position)
     } else {
         None

@@ -1,17 +1,14 @@
 -- Each mapping that passes is among the candidates.
-use Rattle.std.proofs.Common.{◌≡◌, IfOk, rules, ap, subst, ◌∙◌}
+use Rattle.std.proofs.Common.{◌≡◌, IfOk, rules, ap, subst}
 use Rattle.lost_spec.specs.Positions.{positions}
 use Rattle.lost_query.specs.Judged.{is_referring}
 use Rattle.lost_routing.proofs.CoverLemmas.{covers_referring}
-use Rattle.lost_routing.proofs.QuestionLemmas.{covers_seen}
 use Rattle.lost_routing.proofs.held.Held.referring_of_service.Goals as goal
 
 pub returns : goal.returns
 returns c =
-    subst (λ l. IfOk c.select.result (λ found. found.items ≡ positions (is_referring c.args.moment.now c.args.service.now c.args.address.now c.args.elements.now) l)) (c.deref-2.ensures.value ∙ ap (λ k. k.mappings) c.self.view_is)
+    subst (λ l. IfOk c.select.result (λ found. found.items ≡ positions (is_referring c.args.moment.now c.args.service.now c.args.address.now c.args.elements.now) l)) (ap (λ k. k.mappings) c.self.view_is)
     (c.select.ensures (is_referring c.args.moment.now c.args.service.now c.args.address.now c.args.elements.now) (λ m r says. search rules)
-    (covers_seen (is_referring c.args.moment.now c.args.service.now c.args.address.now c.args.elements.now) c.self.inside.numbers.items c.self.inside.mappings.items c.deref.result.now c.deref-2.result.now c.of_service-candidates.result.now
-    c.deref.ensures.value c.deref-2.ensures.value
-    (covers_referring c.self.inside.numbers.items c.self.inside.mappings.items c.self.inside.tables c.self.inside.regions c.self.invariant
+    (covers_referring c.self.inside.numbers c.self.inside.mappings c.self.inside.tables c.self.inside.regions c.self.invariant
     c.args.moment.now c.args.service.now c.args.address.now c.args.elements.now c.of_service-candidates.result.now
-    (c.of_service-candidates.ensures c.args.service.now c.text.ensures.text))))
+    (c.of_service-candidates.ensures c.args.service.now c.text.ensures.text)))

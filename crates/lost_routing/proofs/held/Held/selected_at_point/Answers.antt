@@ -2,15 +2,12 @@
 use Rattle.std.proofs.Common.{◌≡◌, IfOk, ap, subst, ◌∙◌}
 use Rattle.lost_spec.specs.Positions.{positions}
 use Rattle.lost_routing.proofs.CoverLemmas.{covers_at_point}
-use Rattle.lost_routing.proofs.QuestionLemmas.{covers_seen}
 use Rattle.lost_routing.proofs.held.Held.selected_at_point.Goals as goal
 
 pub returns : goal.returns
 returns g c = λ test says tells.
-    subst (λ l. IfOk c.select.result (λ found. found.items ≡ positions test l)) (c.deref-2.ensures.value ∙ ap (λ k. k.mappings) c.self.view_is)
+    subst (λ l. IfOk c.select.result (λ found. found.items ≡ positions test l)) (ap (λ k. k.mappings) c.self.view_is)
     (c.select.ensures test says
-    (covers_seen test c.self.inside.numbers.items c.self.inside.mappings.items c.deref.result.now c.deref-2.result.now c.as_slice.result.now
-    c.deref.ensures.value c.deref-2.ensures.value
-    (covers_at_point c.self.inside.numbers.items c.self.inside.mappings.items c.self.inside.tables c.self.inside.regions c.self.invariant
+    (covers_at_point c.self.inside.numbers c.self.inside.mappings c.self.inside.tables c.self.inside.regions c.self.invariant
     test c.args.point.now c.as_slice.result.now tells
-    (c.as_slice.ensures.value ∙ c.in_ok-candidates.ensures))))
+    (c.as_slice.ensures.value ∙ c.in_ok-candidates.ensures)))

@@ -7,16 +7,16 @@ use Rattle.lost_routing.proofs.held.Held.take.Goals as goal
 
 pub leave-requires : goal.leave-requires
 leave-requires c =
-    at_held c.self.inside.numbers.items c.self.inside.mappings.items c.self.inside.tables c.self.inside.regions c.self.invariant
+    at_held c.self.inside.numbers c.self.inside.mappings c.self.inside.tables c.self.inside.regions c.self.invariant
     c.args.position c.remove-number.result c.remove-mapping.result
     (subst (λ l. c.args.position < length l) (sym (ap (λ k. k.mappings) c.self.view_is)) c.requires)
     c.remove-number.ensures.value c.remove-mapping.ensures.value
 
 pub invariant_of-self : goal.invariant_of-self
 invariant_of-self c =
-    subst (λ l. IsKept l c.remove-mapping.new.self.items c.leave.new.tables c.leave.new.regions) (sym c.remove-number.ensures.items)
-    (subst (λ l. IsKept (remove c.self.inside.numbers.items c.args.position) l c.leave.new.tables c.leave.new.regions) (sym c.remove-mapping.ensures.items)
-    (at_taken c.self.inside.numbers.items c.self.inside.mappings.items c.self.inside.tables c.self.inside.regions c.self.invariant
+    subst (λ l. IsKept l c.remove-mapping.new.self c.leave.new.tables c.leave.new.regions) (sym c.remove-number.ensures.rest)
+    (subst (λ l. IsKept (remove c.self.inside.numbers c.args.position) l c.leave.new.tables c.leave.new.regions) (sym c.remove-mapping.ensures.rest)
+    (at_taken c.self.inside.numbers c.self.inside.mappings c.self.inside.tables c.self.inside.regions c.self.invariant
     c.args.position c.remove-number.result c.remove-mapping.result
     (subst (λ l. c.args.position < length l) (sym (ap (λ k. k.mappings) c.self.view_is)) c.requires)
     c.remove-number.ensures.value c.remove-mapping.ensures.value

@@ -3,7 +3,6 @@ use Rattle.std.proofs.Common.{◌≡◌, ◌∙◌, find, slice_get, Some, None,
 use Rattle.lost_spec.specs.Mapping.{Mapping}
 use Rattle.lost_spec.specs.Book.{has_identity}
 use Rattle.lost_book.proofs.PositionLemmas.{find_at_position}
-use Rattle.lost_routing.proofs.QuestionLemmas.{copied_item}
 use Rattle.lost_routing.proofs.held.Held.with_identity.Goals as goal
 
 pub returns-in-Some : goal.returns-in-Some
@@ -11,9 +10,7 @@ returns-in-Some c =
     let test = λ (m : Mapping). has_identity m c.args.identity.now in
     let found : find test c.args.self.now.mappings ≡ slice_get c.args.self.now.mappings c.in-Some.position =
     find_at_position test c.args.self.now.mappings (Some c.in-Some.position) (search rules) in
-    let held = c.deref.ensures.value ∙ ap (λ k. k.mappings) c.self.view_is in
-    copied_item c.deref.result.now c.in-Some.position c.get.result c.get.ensures.lookup.0 c.get.ensures.lookup.1
-    ∙ ap (λ l. slice_get l c.in-Some.position) held ∙ sym found
+    c.get.ensures ∙ ap (λ k. slice_get k.mappings c.in-Some.position) c.self.view_is ∙ sym found
 
 pub returns-in-None : goal.returns-in-None
 returns-in-None c =

@@ -10,5 +10,5 @@ returns-in_ok-insert-clause-keeps c = λ other stands.
 
 pub returns-in_default-clause-added : goal.returns-in_default-clause-added
 returns-in_default-clause-added c =
-    rw (← c.self.view_is, ← c.deref.ensures.value)
-    (stands_at c.args.number c.deref.result.now c.in_default.field-0 c.in_default.ensures.bound c.in_default.ensures.ok)
+    rw (← c.self.view_is, ← c.deref-2.ensures.value)
+    (stands_at c.args.number c.deref-2.result.now c.in_default.field-0 c.in_default.ensures.bound c.in_default.ensures.ok)
