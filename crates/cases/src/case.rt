@@ -2,7 +2,9 @@
 use crate::book_cases::Shelf;
 use crate::fields::Fields;
 use crate::trouble::Trouble;
-use crate::{civic_cases, geo_cases, line_cases, mapping_cases, stamp_cases, urn_cases};
+use crate::{
+    civic_cases, geo_cases, line_cases, mapping_cases, stamp_cases, tokens_cases, urn_cases,
+};
 use std::alloc::Global;
 
 /// What the call of a case gives, or `None` where it gives what is wanted.
@@ -28,6 +30,7 @@ fn said(alloc: Global, shelf: &mut Shelf, fields: &Fields) -> Result<String, Tro
         "book" => shelf.said(alloc, call, fields),
         "reply" => line_cases::reply(alloc, shelf.book()?, fields.bytes(1)?),
         "line" => line_cases::said(alloc, call, fields),
+        "tokens" => tokens_cases::said(alloc, call, fields),
         _ => stamp_cases::said(alloc, call, fields),
     }
 }

@@ -10,8 +10,9 @@ use lost_json::{
     write_reply,
 };
 use lost_mapping::MappingError;
-use lost_query::{AnswerError, Body, Location, Reply, Request};
+use lost_query::{AnswerError, Body, Location, Locations, Reply, Request};
 use std::alloc::Global;
+use std::borrow::CowStr;
 
 /// What a call gives.
 pub(crate) fn said(alloc: Global, call: &str, fields: &Fields) -> Result<String, Trouble> {
@@ -100,7 +101,8 @@ fn request(alloc: Global, line: &[u8]) -> Result<String, Trouble> {
     }
 }
 
-fn shown_request(alloc: Global, request: &Request) -> Result<String, Trouble> {
+/// What a request asks.
+pub(crate) fn shown_request(alloc: Global, request: &Request<'_>) -> Result<String, Trouble> {
     match request {
         Request::FindService {
             service,
@@ -109,7 +111,7 @@ fn shown_request(alloc: Global, request: &Request) -> Result<String, Trouble> {
             by_value,
             path,
         } => {
-            let places = shown_locations(alloc, locations.as_slice(), path.as_slice())?;
+            let places = shown_locations(alloc, locations, path.as_slice())?;
             let service = service.text();
             Ok(format!(in alloc; "find {service} {validate} {by_value}{places}")?)
         }
@@ -118,17 +120,18 @@ fn shown_request(alloc: Global, request: &Request) -> Result<String, Trouble> {
             locations,
             path,
         } => {
-            let places = shown_locations(alloc, locations.as_slice(), path.as_slice())?;
+            let places = shown_locations(alloc, locations, path.as_slice())?;
             let service = service.as_ref().map_or("-", |service| service.text());
             Ok(format!(in alloc; "at {service}{places}")?)
         }
         Request::ListServices { service, path } => {
-            let names = shown_locations(alloc, &[], path.as_slice())?;
+            let names = shown_path(alloc, path.as_slice())?;
             let service = service.as_ref().map_or("-", |service| service.text());
             Ok(format!(in alloc; "list {service}{names}")?)
         }
         Request::GetServiceBoundary { key, path } => {
-            let names = shown_locations(alloc, &[], path.as_slice())?;
+            let names = shown_path(alloc, path.as_slice())?;
+            let key = key.as_str();
             Ok(format!(in alloc; "boundary {key}{names}")?)
         }
     }
@@ -137,14 +140,20 @@ fn shown_request(alloc: Global, request: &Request) -> Result<String, Trouble> {
 /// The locations, each in brackets, and then the names of the path.
 fn shown_locations(
     alloc: Global,
-    locations: &[Location],
-    path: &[String],
+    locations: &Locations<'_>,
+    path: &[CowStr<'_>],
 ) -> Result<String, Trouble> {
-    let mut text = String::new(alloc);
-    for location in locations {
+    let mut text = shown_location(alloc, &locations.first)?;
+    for location in &locations.rest {
         text.push_str(shown_location(alloc, location)?.as_str())?;
     }
-    text.push_str(" path")?;
+    text.push_str(shown_path(alloc, path)?.as_str())?;
+    Ok(text)
+}
+
+/// The names of a path.
+fn shown_path(alloc: Global, path: &[CowStr<'_>]) -> Result<String, Trouble> {
+    let mut text = String::from_str(alloc, " path")?;
     for name in path {
         text.push_str(" ")?;
         text.push_str(name.as_str())?;
@@ -152,7 +161,7 @@ fn shown_locations(
     Ok(text)
 }
 
-fn shown_location(alloc: Global, location: &Location) -> Result<String, Trouble> {
+fn shown_location(alloc: Global, location: &Location<'_>) -> Result<String, Trouble> {
     let (id, profile) = (location.id.as_str(), location.profile.as_str());
     let known = location.srs_known;
     let mut text = format!(in alloc; " [{id} {profile} {known} ")?;
@@ -168,11 +177,18 @@ fn shown_location(alloc: Global, location: &Location) -> Result<String, Trouble>
 /// What a desk line orders, or the number of its refusal, or `other`.
 fn order(alloc: Global, line: &[u8]) -> Result<String, Trouble> {
     match read_desk(alloc, line) {
-        Ok(Some(DeskLine::Commit)) => owned(alloc, "commit"),
-        Ok(Some(DeskLine::Edit(edit))) => shown_edit(alloc, &edit),
+        Ok(Some(line)) => shown_order(alloc, &line),
         Ok(None) => owned(alloc, "other"),
         Err(DeskFault::Mapping(MappingError::Memory)) => Err(Trouble::Memory),
         Err(fault) => refused(alloc, fault.code()),
+    }
+}
+
+/// What a desk line orders.
+pub(crate) fn shown_order(alloc: Global, line: &DeskLine) -> Result<String, Trouble> {
+    match line {
+        DeskLine::Commit => owned(alloc, "commit"),
+        DeskLine::Edit(edit) => shown_edit(alloc, edit),
     }
 }
 

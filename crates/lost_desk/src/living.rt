@@ -5,21 +5,22 @@ ghost use Rattle.lost_desk.specs.Sets.{is_living_at};
 
 use crate::CopyBook;
 use lost_mapping::Moment;
+use lost_query::Positions;
 use std::alloc::{AllocError, Global};
 
 /// Those of the positions whose mappings are live and are no defaults, in their order, or want of memory. The positions
-/// are below the book's `len`.
+/// are below the book's `len`; up to eight of them take no memory.
 pub(crate) fn living_among(
     alloc: Global,
     book: &CopyBook,
     moment: &Moment,
     positions: &[usize],
-) -> Result<Vec<usize>, AllocError>
+) -> Result<Positions, AllocError>
     requires { All (λ place. place < length book.now.mappings) positions.now }
     ensures { IfOk result (λ living.
         living.items ≡ filter (is_living_at moment.now book.now.mappings) positions.now) }
 {
-    let mut living = Vec::with_capacity(alloc, positions.len())?;
+    let mut living = Positions::with_capacity(alloc, positions.len())?;
     for position in positions {
         let mapping = book.mapping(*position);
         if mapping.is_live(moment) && !mapping.is_default() {

@@ -9,7 +9,7 @@ use crate::CopyBook;
 use crate::living::living_among;
 use lost_civic::{CivicAddress, Element};
 use lost_mapping::{Mapping, Moment};
-use lost_query::{Holdings, Place};
+use lost_query::{Holdings, Place, Positions};
 use lost_urn::ServiceUrn;
 use std::alloc::{AllocError, Global};
 
@@ -47,7 +47,7 @@ impl Holdings for WithHolders<'_> {
         self.book.implemented(moment, service)
     }
 
-    fn holding(&self, moment: &Moment, place: &Place) -> Result<Vec<usize>, AllocError> {
+    fn holding(&self, moment: &Moment, place: &Place) -> Result<Positions, AllocError> {
         if place == self.place {
             living_among(self.alloc, self.book, moment, self.holders)
         } else {
@@ -60,15 +60,15 @@ impl Holdings for WithHolders<'_> {
         moment: &Moment,
         place: &Place,
         service: &ServiceUrn,
-    ) -> Result<Vec<usize>, AllocError> {
+    ) -> Result<Positions, AllocError> {
         self.book.at(moment, place, service)
     }
 
-    fn defaults(&self, moment: &Moment, service: &ServiceUrn) -> Result<Vec<usize>, AllocError> {
+    fn defaults(&self, moment: &Moment, service: &ServiceUrn) -> Result<Positions, AllocError> {
         self.book.defaults(moment, service)
     }
 
-    fn of_service(&self, moment: &Moment, service: &ServiceUrn) -> Result<Vec<usize>, AllocError> {
+    fn of_service(&self, moment: &Moment, service: &ServiceUrn) -> Result<Positions, AllocError> {
         self.book.of_service(moment, service)
     }
 
@@ -78,7 +78,7 @@ impl Holdings for WithHolders<'_> {
         service: &ServiceUrn,
         address: &CivicAddress,
         elements: &[Element],
-    ) -> Result<Vec<usize>, AllocError> {
+    ) -> Result<Positions, AllocError> {
         self.book.referring(moment, service, address, elements)
     }
 

@@ -44,6 +44,10 @@ at-from_holding b t l u places are =
 
 -- ---- the search
 
+-- what begins with a mapping is not empty
+pub cons_nonempty : (m : Mapping) (ms : List Mapping) → m ∷ ms ≢ []
+cons_nonempty m ms none = cc
+
 unless_nonempty : (u : Service) (ms : List Mapping) (later : Option (Service × List Mapping)) → ms ≢ [] → unless_empty u ms later ≡ Some (u, ms)
 unless_nonempty u [] later nonempty = absurd (nonempty refl)
 unless_nonempty u (m ∷ ms) later nonempty = refl

@@ -2,8 +2,8 @@ pub mod Children
 pub mod Judged
 pub mod Place
 pub mod Request
+pub mod Path
 pub mod Reply
 pub mod Used
 pub mod Finding
-pub mod Route
 pub mod Ask

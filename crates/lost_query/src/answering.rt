@@ -3,13 +3,13 @@ ghost use Rattle.std.specs.Prelude.{◌≡◌, IfOk};
 ghost use Rattle.lost_spec.specs.Answer.{answer, answer_by_kind};
 ghost use Rattle.lost_query.specs.Request.{request_of};
 ghost use Rattle.lost_query.specs.Reply.{reply_of};
-ghost use Rattle.lost_query.specs.Route.{shown_path};
+ghost use Rattle.lost_query.specs.Path.{shown_path};
 
 use crate::boundaries::get_boundary;
 use crate::find_service::{Ask, find_service};
 use crate::holdings::Holdings;
 use crate::lists::{list_anywhere, list_at};
-use crate::path::{Route, path_of};
+use crate::path::{Path, path_of};
 use crate::places::{Used, locate};
 use crate::refusals::refusal;
 use crate::reply::Reply;
@@ -24,37 +24,37 @@ use std::alloc::{AllocError, Global};
 /// used); `SRSInvalid` and `locationInvalid` for the location used; and then the reply of the request's kind. A reply
 /// that is no error has the path with the name after it.
 #[tactic(auto, unfolding(lost_spec::specs::Answer::answer))]
-pub fn answer<H: Holdings>(
+pub fn answer<'a, H: Holdings>(
     alloc: Global,
     holdings: &H,
-    name: &Source,
+    name: &'a Source,
     moment: &Moment,
-    request: &Request,
-) -> Result<Reply, AllocError>
+    request: &'a Request<'_>,
+) -> Result<Reply<'a>, AllocError>
     ensures { IfOk result (λ reply.
         reply_of reply ≡ answer (H.book holdings.now) name.now moment.now (request_of request.now)) }
 {
-    let route = Route {
-        name,
-        path: path_of(request),
+    let path = Path {
+        names: path_of(request),
+        server: name,
     };
-    if route.is_loop() {
+    if path.is_loop() {
         return Ok(refusal(holdings, AnswerError::Loop));
     }
-    answer_by_kind(alloc, holdings, moment, &route, request)
+    answer_by_kind(alloc, holdings, moment, &path, request)
 }
 
 /// The answer to a request whose path does not have the server's name (RFC 5222, sections 8 to 13; order own), or want
 /// of memory.
-fn answer_by_kind<H: Holdings>(
+fn answer_by_kind<'a, H: Holdings>(
     alloc: Global,
     holdings: &H,
     moment: &Moment,
-    route: &Route<'_>,
-    request: &Request,
-) -> Result<Reply, AllocError>
+    path: &Path<'a>,
+    request: &'a Request<'_>,
+) -> Result<Reply<'a>, AllocError>
     ensures { IfOk result (λ reply. reply_of reply
-        ≡ answer_by_kind (H.book holdings.now) moment.now (shown_path route.now) (request_of request.now)) }
+        ≡ answer_by_kind (H.book holdings.now) moment.now (shown_path path.now) (request_of request.now)) }
 {
     match request {
         Request::FindService {
@@ -69,11 +69,11 @@ fn answer_by_kind<H: Holdings>(
                 let ask = Ask {
                     service,
                     location_used,
-                    place: &place,
+                    place,
                     validate: *validate,
                     by_value: *by_value,
                 };
-                find_service(alloc, holdings, moment, &ask, route)
+                find_service(alloc, holdings, moment, &ask, path)
             }
         },
         Request::ListServicesByLocation {
@@ -86,17 +86,15 @@ fn answer_by_kind<H: Holdings>(
                 alloc,
                 holdings,
                 moment,
-                route,
+                path,
                 service.as_ref(),
                 location_used,
                 &place,
             ),
         },
         Request::ListServices { service, .. } => {
-            list_anywhere(alloc, holdings, moment, route, service.as_ref())
+            list_anywhere(holdings, moment, path, service.as_ref())
         }
-        Request::GetServiceBoundary { key, .. } => get_boundary(
-            alloc, holdings, moment, route, key,
-        ),
+        Request::GetServiceBoundary { key, .. } => get_boundary(holdings, moment, path, key),
     }
 }

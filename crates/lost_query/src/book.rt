@@ -1,5 +1,5 @@
 //! The plain book as holdings.
-use crate::holdings::Holdings;
+use crate::holdings::{Holdings, Positions};
 use crate::place::Place;
 use crate::services::services_below;
 use crate::validation::patterns::refers;
@@ -7,6 +7,7 @@ use lost_book::Book;
 use lost_civic::{CivicAddress, Element};
 use lost_mapping::{Mapping, Moment};
 use lost_urn::ServiceUrn;
+use smallvec::SmallVec;
 use std::alloc::AllocError;
 
 impl Holdings for Book {
@@ -32,11 +33,12 @@ impl Holdings for Book {
         Book::implemented(self, moment, service)
     }
 
-    fn holding(&self, moment: &Moment, place: &Place) -> Result<Vec<usize>, AllocError> {
-        match place {
+    fn holding(&self, moment: &Moment, place: &Place) -> Result<Positions, AllocError> {
+        let positions = match place {
             Place::Point(point) => self.holding_point(moment, point),
             Place::Address(address) => self.holding_address(moment, address),
-        }
+        }?;
+        Ok(SmallVec::from_vec(positions))
     }
 
     fn at(
@@ -44,19 +46,20 @@ impl Holdings for Book {
         moment: &Moment,
         place: &Place,
         service: &ServiceUrn,
-    ) -> Result<Vec<usize>, AllocError> {
-        match place {
+    ) -> Result<Positions, AllocError> {
+        let positions = match place {
             Place::Point(point) => self.at_point(moment, point, service),
             Place::Address(address) => self.at_address(moment, address, service),
-        }
+        }?;
+        Ok(SmallVec::from_vec(positions))
     }
 
-    fn defaults(&self, moment: &Moment, service: &ServiceUrn) -> Result<Vec<usize>, AllocError> {
-        Book::defaults(self, moment, service)
+    fn defaults(&self, moment: &Moment, service: &ServiceUrn) -> Result<Positions, AllocError> {
+        Ok(SmallVec::from_vec(Book::defaults(self, moment, service)?))
     }
 
-    fn of_service(&self, moment: &Moment, service: &ServiceUrn) -> Result<Vec<usize>, AllocError> {
-        Book::of_service(self, moment, service)
+    fn of_service(&self, moment: &Moment, service: &ServiceUrn) -> Result<Positions, AllocError> {
+        Ok(SmallVec::from_vec(Book::of_service(self, moment, service)?))
     }
 
     fn referring(
@@ -65,12 +68,13 @@ impl Holdings for Book {
         service: &ServiceUrn,
         address: &CivicAddress,
         elements: &[Element],
-    ) -> Result<Vec<usize>, AllocError> {
-        self.positions(|mapping| {
+    ) -> Result<Positions, AllocError> {
+        let positions = self.positions(|mapping| {
             mapping.is_live(moment)
                 && mapping.service() == service
                 && refers(mapping, address, elements)
-        })
+        })?;
+        Ok(SmallVec::from_vec(positions))
     }
 
     fn services_below(

@@ -3,34 +3,33 @@ ghost use Rattle.std.specs.Prelude.{◌≡◌, IfOk};
 ghost use Rattle.lost_spec.specs.Services.{by_key};
 ghost use Rattle.lost_spec.specs.Answer.{boundary_reply};
 ghost use Rattle.lost_query.specs.Reply.{reply_of};
-ghost use Rattle.lost_query.specs.Route.{shown_path};
+ghost use Rattle.lost_query.specs.Path.{shown_path};
 
 use crate::holdings::Holdings;
-use crate::path::Route;
+use crate::path::Path;
 use crate::refusals::refusal;
 use crate::reply::Reply;
 use lost_mapping::Moment;
 use lost_spec::answers::AnswerError;
-use std::alloc::{AllocError, Global};
+use std::alloc::AllocError;
 
 /// The reply to getServiceBoundary: the regions of the live mapping that has the key, or `notFound` (RFC 5222, section
 /// 9; keys own), or want of memory.
-pub(crate) fn get_boundary<H: Holdings>(
-    alloc: Global,
+pub(crate) fn get_boundary<'a, H: Holdings>(
     holdings: &H,
     moment: &Moment,
-    route: &Route<'_>,
+    path: &Path<'a>,
     key: &str,
-) -> Result<Reply, AllocError>
+) -> Result<Reply<'a>, AllocError>
     ensures { IfOk result (λ reply. reply_of reply
-        ≡ boundary_reply (H.book holdings.now).edits (shown_path route.now) (by_key (H.book holdings.now) moment.now key.now)) }
+        ≡ boundary_reply (H.book holdings.now).edits (shown_path path.now) (by_key (H.book holdings.now) moment.now key.now)) }
 {
     let Some(position) = holdings.by_key(moment, key) else {
         return Ok(refusal(holdings, AnswerError::NotFound));
     };
     Ok(Reply::GetServiceBoundaryResponse {
         edition: holdings.edition(),
-        path: route.shown(alloc)?,
+        path: *path,
         mapping: holdings.mapping(position).clone()?,
     })
 }

@@ -3,20 +3,22 @@ ghost use Rattle.std.specs.Prelude.{◌≡◌, IfOk, option_map};
 ghost use Rattle.lost_spec.specs.Moment.{Instant};
 ghost use Rattle.lost_spec.specs.Find.{FoundHolders, FoundDefaults, found, is_implemented};
 ghost use Rattle.lost_spec.specs.Answer.{error_of, validation_for};
+ghost use Rattle.lost_query.specs.Finding.{mappings_of};
 ghost use Rattle.lost_query.specs.Place.{place_of};
 ghost use Rattle.lost_query.specs.Reply.{validation_of, reply_of};
 ghost use Rattle.lost_query.specs.Ask.{asked_reply};
 
 use crate::finding::{Finding, find};
+use crate::found::Found;
 use crate::holdings::Holdings;
-use crate::path::Route;
+use crate::path::Path;
 use crate::place::Place;
 use crate::refusals::refusal;
 use crate::reply::{Reply, Validation};
-use crate::shown::all_shown;
+use crate::shown::show;
 use crate::validation::validate;
 use crate::warnings::{default_warnings, substitution_warnings};
-use lost_mapping::{Mapping, Moment};
+use lost_mapping::Moment;
 use lost_spec::answers::AnswerError;
 use lost_urn::ServiceUrn;
 use std::alloc::{AllocError, Global};
@@ -26,29 +28,29 @@ use std::alloc::{AllocError, Global};
 pub(crate) struct Ask<'a> {
     pub service: &'a ServiceUrn,
     pub location_used: &'a str,
-    pub place: &'a Place,
+    pub place: Place,
     pub validate: bool,
     pub by_value: bool,
 }
 
 /// The reply to findService at a place (RFC 5222, section 8), or want of memory: what is found, or the error where
 /// nothing is.
-pub(crate) fn find_service<H: Holdings>(
+pub(crate) fn find_service<'a, H: Holdings>(
     alloc: Global,
     holdings: &H,
     moment: &Moment,
-    ask: &Ask<'_>,
-    route: &Route<'_>,
-) -> Result<Reply, AllocError>
-    ensures { IfOk result (λ reply. reply_of reply ≡ asked_reply (H.book holdings.now) moment.now ask.now route.now
-        (found (H.book holdings.now) moment.now (place_of ask.now.place.now) ask.now.service.now)) }
+    ask: &Ask<'a>,
+    path: &Path<'a>,
+) -> Result<Reply<'a>, AllocError>
+    ensures { IfOk result (λ reply. reply_of reply ≡ asked_reply (H.book holdings.now) moment.now ask.now path.now
+        (found (H.book holdings.now) moment.now (place_of ask.now.place) ask.now.service.now)) }
 {
-    match find(alloc, holdings, moment, ask.place, ask.service)? {
-        Finding::Holders(service, mappings) => {
-            reply_with_holders(alloc, holdings, moment, ask, route, &service, mappings)
+    match find(alloc, holdings, moment, &ask.place, ask.service)? {
+        Finding::Holders(service, found) => {
+            reply_with_holders(alloc, holdings, moment, ask, path, service.service(), found)
         }
-        Finding::Defaults(service, mappings) => {
-            reply_with_defaults(alloc, holdings, ask, route, &service, mappings)
+        Finding::Defaults(service, found) => {
+            reply_with_defaults(alloc, holdings, ask, path, service.service(), found)
         }
         Finding::Nothing => {
             let error = error_of_nothing(holdings, moment, ask.service);
@@ -58,47 +60,47 @@ pub(crate) fn find_service<H: Holdings>(
 }
 
 /// The reply with the mappings of a service that hold the place, or want of memory.
-fn reply_with_holders<H: Holdings>(
+fn reply_with_holders<'a, H: Holdings>(
     alloc: Global,
     holdings: &H,
     moment: &Moment,
-    ask: &Ask<'_>,
-    route: &Route<'_>,
+    ask: &Ask<'a>,
+    path: &Path<'a>,
     service: &ServiceUrn,
-    mappings: Vec<Mapping>,
-) -> Result<Reply, AllocError>
+    found: Found,
+) -> Result<Reply<'a>, AllocError>
     ensures { IfOk result (λ reply. reply_of reply
-        ≡ asked_reply (H.book holdings.now) moment.now ask.now route.now (FoundHolders service.now mappings.items)) }
+        ≡ asked_reply (H.book holdings.now) moment.now ask.now path.now (FoundHolders service.now (mappings_of found))) }
 {
     Ok(Reply::FindServiceResponse {
         edition: holdings.edition(),
-        location_used: String::from_str(alloc, ask.location_used)?,
-        validation: validation_for(alloc, holdings, moment, ask, service, &mappings)?,
-        mappings: all_shown(alloc, mappings, ask.place, ask.by_value)?,
-        path: route.shown(alloc)?,
+        location_used: ask.location_used,
+        validation: validation_for(alloc, holdings, moment, ask, service, &found)?,
+        mappings: show(found, &ask.place, ask.by_value),
+        path: *path,
         warnings: substitution_warnings(alloc, ask.service, service)?,
     })
 }
 
 /// The reply with the defaults of a service, or want of memory.
-fn reply_with_defaults<H: Holdings>(
+fn reply_with_defaults<'a, H: Holdings>(
     alloc: Global,
     holdings: &H,
-    ask: &Ask<'_>,
-    route: &Route<'_>,
+    ask: &Ask<'a>,
+    path: &Path<'a>,
     service: &ServiceUrn,
-    mappings: Vec<Mapping>,
-) -> Result<Reply, AllocError>
+    found: Found,
+) -> Result<Reply<'a>, AllocError>
     ensures { (t : Instant) → IfOk result (λ reply. reply_of reply
-        ≡ asked_reply (H.book holdings.now) t ask.now route.now (FoundDefaults service.now mappings.items)) }
+        ≡ asked_reply (H.book holdings.now) t ask.now path.now (FoundDefaults service.now (mappings_of found))) }
 {
     Ok(Reply::FindServiceResponse {
         edition: holdings.edition(),
-        location_used: String::from_str(alloc, ask.location_used)?,
+        location_used: ask.location_used,
         validation: None,
-        mappings: all_shown(alloc, mappings, ask.place, ask.by_value)?,
-        path: route.shown(alloc)?,
-        warnings: default_warnings(alloc, ask.service, service, ask.place, ask.validate)?,
+        mappings: show(found, &ask.place, ask.by_value),
+        path: *path,
+        warnings: default_warnings(alloc, ask.service, service, &ask.place, ask.validate)?,
     })
 }
 
@@ -122,16 +124,16 @@ fn validation_for<H: Holdings>(
     moment: &Moment,
     ask: &Ask<'_>,
     service: &ServiceUrn,
-    mappings: &[Mapping],
+    found: &Found,
 ) -> Result<Option<Validation>, AllocError>
     ensures { IfOk result (λ judged. option_map validation_of judged ≡ validation_for (H.book holdings.now) moment.now
-        (place_of ask.now.place.now) ask.now.validate service.now mappings.now) }
+        (place_of ask.now.place) ask.now.validate service.now (mappings_of found.now)) }
 {
-    match ask.place {
+    match &ask.place {
         Place::Point(_) => Ok(None),
         Place::Address(address) => {
             if ask.validate {
-                let judged = validate(alloc, holdings, moment, service, mappings, address)?;
+                let judged = validate(alloc, holdings, moment, service, found, address)?;
                 Ok(Some(judged))
             } else {
                 Ok(None)

@@ -3,23 +3,25 @@
 ghost use Rattle.std.specs.Prelude.{◌≡◌, IfOk};
 ghost use Rattle.lost_spec.specs.Service.{chain};
 ghost use Rattle.lost_spec.specs.Find.{at, defaults, first_with, found};
-ghost use Rattle.lost_query.specs.Finding.{first_of, finding_of};
+ghost use Rattle.lost_query.specs.Finding.{all_found, first_of, finding_of};
 ghost use Rattle.lost_query.specs.Place.{place_of};
 
+use crate::chain::ChainService;
+use crate::found::Found;
 use crate::holdings::Holdings;
 use crate::picks::{of_service_at, standing_at};
 use crate::place::Place;
-use lost_mapping::{Mapping, Moment};
+use lost_mapping::Moment;
 use lost_urn::ServiceUrn;
 use std::alloc::{AllocError, Global};
 
 /// What is found for a service at a place: the first service of its chain that has any, with its mappings.
 #[derive(Drop)]
-pub(crate) enum Finding {
+pub(crate) enum Finding<'a> {
     /// Mappings that hold the place.
-    Holders(ServiceUrn, Vec<Mapping>),
+    Holders(ChainService<'a>, Found),
     /// Defaults, where no service of the chain has a mapping that holds the place.
-    Defaults(ServiceUrn, Vec<Mapping>),
+    Defaults(ChainService<'a>, Found),
     /// Neither.
     Nothing,
 }
@@ -27,44 +29,43 @@ pub(crate) enum Finding {
 /// The mappings of the first service of the chain that has any which are live and hold the place; else those of the
 /// first that has live defaults (RFC 5222, section 8; policy own), or want of memory.
 #[tactic(auto, unfolding(lost_spec::specs::Find::found))]
-pub(crate) fn find<H: Holdings>(
+pub(crate) fn find<'a, H: Holdings>(
     alloc: Global,
     holdings: &H,
     moment: &Moment,
     place: &Place,
-    service: &ServiceUrn,
-) -> Result<Finding, AllocError>
+    service: &'a ServiceUrn,
+) -> Result<Finding<'a>, AllocError>
     ensures { IfOk result (λ finding.
         finding_of finding ≡ found (H.book holdings.now) moment.now (place_of place.now) service.now) }
 {
-    if let Some((found, mappings)) = first_holders(alloc, holdings, moment, place, service)? {
-        return Ok(Finding::Holders(found, mappings));
+    if let Some((service, found)) = first_holders(alloc, holdings, moment, place, service)? {
+        return Ok(Finding::Holders(service, found));
     }
-    if let Some((found, mappings)) = first_defaults(alloc, holdings, moment, service)? {
-        return Ok(Finding::Defaults(found, mappings));
+    if let Some((service, found)) = first_defaults(alloc, holdings, moment, service)? {
+        return Ok(Finding::Defaults(service, found));
     }
     Ok(Finding::Nothing)
 }
 
 /// The first service of the chain with mappings that are live and hold the place, with them, or want of memory. The
 /// holdings are asked once.
-fn first_holders<H: Holdings>(
+fn first_holders<'a, H: Holdings>(
     alloc: Global,
     holdings: &H,
     moment: &Moment,
     place: &Place,
-    service: &ServiceUrn,
-) -> Result<Option<(ServiceUrn, Vec<Mapping>)>, AllocError>
+    service: &'a ServiceUrn,
+) -> Result<Option<(ChainService<'a>, Found)>, AllocError>
     ensures { IfOk result (λ first. first_of first
         ≡ first_with (at (H.book holdings.now) moment.now (place_of place.now)) (chain service.now)) }
 {
     let positions = holdings.holding(moment, place)?;
     let mut depth = service.depth();
     while depth > 0 {
-        let candidate = service.cut(depth)?;
-        let mappings = of_service_at(alloc, holdings, &positions, &candidate)?;
-        if !mappings.is_empty() {
-            return Ok(Some((candidate, mappings)));
+        let candidate = ChainService::of_depth(service, depth)?;
+        if let Some(found) = of_service_at(alloc, holdings, &positions, candidate.service())? {
+            return Ok(Some((candidate, found)));
         }
         depth -= 1;
     }
@@ -72,21 +73,20 @@ fn first_holders<H: Holdings>(
 }
 
 /// The first service of the chain with live defaults, with them, or want of memory.
-fn first_defaults<H: Holdings>(
+fn first_defaults<'a, H: Holdings>(
     alloc: Global,
     holdings: &H,
     moment: &Moment,
-    service: &ServiceUrn,
-) -> Result<Option<(ServiceUrn, Vec<Mapping>)>, AllocError>
+    service: &'a ServiceUrn,
+) -> Result<Option<(ChainService<'a>, Found)>, AllocError>
     ensures { IfOk result (λ first.
         first_of first ≡ first_with (defaults (H.book holdings.now) moment.now) (chain service.now)) }
 {
     let mut depth = service.depth();
     while depth > 0 {
-        let candidate = service.cut(depth)?;
-        let mappings = defaults(alloc, holdings, moment, &candidate)?;
-        if !mappings.is_empty() {
-            return Ok(Some((candidate, mappings)));
+        let candidate = ChainService::of_depth(service, depth)?;
+        if let Some(found) = defaults(alloc, holdings, moment, candidate.service())? {
+            return Ok(Some((candidate, found)));
         }
         depth -= 1;
     }
@@ -99,9 +99,9 @@ fn defaults<H: Holdings>(
     holdings: &H,
     moment: &Moment,
     service: &ServiceUrn,
-) -> Result<Vec<Mapping>, AllocError>
-    ensures { IfOk result (λ mappings.
-        mappings.items ≡ defaults (H.book holdings.now) moment.now service.now) }
+) -> Result<Option<Found>, AllocError>
+    ensures { IfOk result (λ found.
+        all_found found ≡ defaults (H.book holdings.now) moment.now service.now) }
 {
     let positions = holdings.defaults(moment, service)?;
     standing_at(alloc, holdings, &positions)

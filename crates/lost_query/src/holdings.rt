@@ -12,7 +12,11 @@ use crate::place::Place;
 use lost_civic::{CivicAddress, Element};
 use lost_mapping::{Mapping, Moment};
 use lost_urn::ServiceUrn;
+use smallvec::SmallVec;
 use std::alloc::AllocError;
+
+/// Positions of mappings in a book's list, rising. Up to eight take no memory (own rule).
+pub type Positions = SmallVec<usize, 8>;
 
 /// What holds mappings, however it keeps them: it is seen as a book. A position is that of a mapping in the
 /// book's list, from 0; lists of positions are rising.
@@ -42,7 +46,7 @@ pub trait Holdings {
         ensures { result ≡ is_implemented (book self.now) moment.now service.now };
 
     /// The mappings that are live, are no defaults and hold the place (RFC 5222, section 11), or want of memory.
-    fn holding(&self, moment: &Moment, place: &Place) -> Result<Vec<usize>, AllocError>
+    fn holding(&self, moment: &Moment, place: &Place) -> Result<Positions, AllocError>
         ensures { IfOk result (λ found.
             found.items ≡ positions (is_holding moment.now (place_of place.now)) (book self.now).mappings) };
 
@@ -53,17 +57,17 @@ pub trait Holdings {
         moment: &Moment,
         place: &Place,
         service: &ServiceUrn,
-    ) -> Result<Vec<usize>, AllocError>
+    ) -> Result<Positions, AllocError>
         ensures { IfOk result (λ found.
             found.items ≡ positions (is_holder moment.now (place_of place.now) service.now) (book self.now).mappings) };
 
     /// The live defaults of this service, or want of memory.
-    fn defaults(&self, moment: &Moment, service: &ServiceUrn) -> Result<Vec<usize>, AllocError>
+    fn defaults(&self, moment: &Moment, service: &ServiceUrn) -> Result<Positions, AllocError>
         ensures { IfOk result (λ found.
             found.items ≡ positions (is_standby moment.now service.now) (book self.now).mappings) };
 
     /// The live mappings of this service, defaults too (RFC 5222, section 8.4.2; own policy), or want of memory.
-    fn of_service(&self, moment: &Moment, service: &ServiceUrn) -> Result<Vec<usize>, AllocError>
+    fn of_service(&self, moment: &Moment, service: &ServiceUrn) -> Result<Positions, AllocError>
         ensures { IfOk result (λ found.
             found.items ≡ positions (λ m. serves m moment.now service.now) (book self.now).mappings) };
 
@@ -75,7 +79,7 @@ pub trait Holdings {
         service: &ServiceUrn,
         address: &CivicAddress,
         elements: &[Element],
-    ) -> Result<Vec<usize>, AllocError>
+    ) -> Result<Positions, AllocError>
         ensures { IfOk result (λ found.
             found.items ≡ positions (is_referring moment.now service.now address.now elements.now) (book self.now).mappings) };
 

@@ -5,8 +5,10 @@
 mod answering;
 mod book;
 mod boundaries;
+mod chain;
 mod find_service;
 mod finding;
+mod found;
 mod holdings;
 mod lists;
 mod path;
@@ -23,11 +25,12 @@ mod validation;
 mod warnings;
 
 pub use answering::answer;
-pub use holdings::Holdings;
+pub use holdings::{Holdings, Positions};
 pub use lost_spec::answers::{AnswerError, Warning};
+pub use path::Path;
 pub use place::{Place, law_equal_places_are_one};
 pub use places::place_used;
-pub use reply::{Boundary, Reply, ShownMapping, Validation};
-pub use request::{Body, Location, Request};
+pub use reply::{Boundary, FoundMappings, Reply, Validation};
+pub use request::{Body, Location, Locations, Request};
 pub use services::children::Children;
 pub use validation::patterns::refers;

@@ -5,10 +5,10 @@ ghost use Rattle.lost_spec.specs.Request.{ListServicesByLocationResponse, ListSe
 ghost use Rattle.lost_spec.specs.Services.{services, all_services};
 ghost use Rattle.lost_query.specs.Place.{place_of};
 ghost use Rattle.lost_query.specs.Reply.{reply_of};
-ghost use Rattle.lost_query.specs.Route.{shown_path};
+ghost use Rattle.lost_query.specs.Path.{shown_path};
 
 use crate::holdings::Holdings;
-use crate::path::Route;
+use crate::path::Path;
 use crate::place::Place;
 use crate::reply::Reply;
 use crate::services::services_at;
@@ -17,42 +17,41 @@ use lost_urn::ServiceUrn;
 use std::alloc::{AllocError, Global};
 
 /// The reply to listServicesByLocation at the place of the location used (RFC 5222, section 11), or want of memory.
-pub(crate) fn list_at<H: Holdings>(
+pub(crate) fn list_at<'a, H: Holdings>(
     alloc: Global,
     holdings: &H,
     moment: &Moment,
-    route: &Route<'_>,
+    path: &Path<'a>,
     above: Option<&ServiceUrn>,
-    location_used: &str,
+    location_used: &'a str,
     place: &Place,
-) -> Result<Reply, AllocError>
+) -> Result<Reply<'a>, AllocError>
     ensures { IfOk result (λ reply. reply_of reply
-        ≡ ListServicesByLocationResponse (H.book holdings.now).edits location_used.now (shown_path route.now)
+        ≡ ListServicesByLocationResponse (H.book holdings.now).edits location_used.now (shown_path path.now)
         (services (H.book holdings.now) moment.now (place_of place.now) (option_copied above.entry))) }
 {
     Ok(Reply::ListServicesByLocationResponse {
         edition: holdings.edition(),
-        location_used: String::from_str(alloc, location_used)?,
-        path: route.shown(alloc)?,
+        location_used,
+        path: *path,
         services: services_at(alloc, holdings, moment, place, above)?,
     })
 }
 
 /// The reply to listServices (RFC 5222, section 10), or want of memory.
-pub(crate) fn list_anywhere<H: Holdings>(
-    alloc: Global,
+pub(crate) fn list_anywhere<'a, H: Holdings>(
     holdings: &H,
     moment: &Moment,
-    route: &Route<'_>,
+    path: &Path<'a>,
     above: Option<&ServiceUrn>,
-) -> Result<Reply, AllocError>
+) -> Result<Reply<'a>, AllocError>
     ensures { IfOk result (λ reply. reply_of reply
-        ≡ ListServicesResponse (H.book holdings.now).edits (shown_path route.now)
+        ≡ ListServicesResponse (H.book holdings.now).edits (shown_path path.now)
         (all_services (H.book holdings.now) moment.now (option_copied above.entry))) }
 {
     Ok(Reply::ListServicesResponse {
         edition: holdings.edition(),
-        path: route.shown(alloc)?,
+        path: *path,
         services: holdings.services_below(moment, above)?,
     })
 }

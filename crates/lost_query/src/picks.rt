@@ -2,10 +2,10 @@
 ghost use Rattle.std.specs.Prelude.{◌≡◌, ◌<◌, IfOk, length, filter};
 ghost use Rattle.std.specs.List.{All};
 ghost use Rattle.lost_spec.specs.Service.{same_service};
-ghost use Rattle.lost_query.specs.Finding.{at_positions};
+ghost use Rattle.lost_query.specs.Finding.{at_positions, all_found};
 
+use crate::found::{Found, add_found};
 use crate::holdings::Holdings;
-use lost_mapping::Mapping;
 use lost_urn::ServiceUrn;
 use std::alloc::{AllocError, Global};
 
@@ -14,16 +14,16 @@ pub(crate) fn standing_at<H: Holdings>(
     alloc: Global,
     holdings: &H,
     positions: &[usize],
-) -> Result<Vec<Mapping>, AllocError>
+) -> Result<Option<Found>, AllocError>
     requires { All (λ position. position < length (H.book holdings.now).mappings) positions.now }
-    ensures { IfOk result (λ mappings.
-        mappings.items ≡ at_positions (H.book holdings.now).mappings positions.now) }
+    ensures { IfOk result (λ found.
+        all_found found ≡ at_positions (H.book holdings.now).mappings positions.now) }
 {
-    let mut mappings = Vec::with_capacity(alloc, positions.len())?;
+    let mut found = None;
     for position in positions {
-        mappings.push(holdings.mapping(*position).clone()?)?;
+        add_found(alloc, &mut found, holdings.mapping(*position).clone()?)?;
     }
-    Ok(mappings)
+    Ok(found)
 }
 
 /// Those of the mappings at these positions that have this service, in their order, or want of memory.
@@ -32,17 +32,17 @@ pub(crate) fn of_service_at<H: Holdings>(
     holdings: &H,
     positions: &[usize],
     service: &ServiceUrn,
-) -> Result<Vec<Mapping>, AllocError>
+) -> Result<Option<Found>, AllocError>
     requires { All (λ position. position < length (H.book holdings.now).mappings) positions.now }
-    ensures { IfOk result (λ mappings. mappings.items
+    ensures { IfOk result (λ found. all_found found
         ≡ filter (λ m. same_service m.service service.now) (at_positions (H.book holdings.now).mappings positions.now)) }
 {
-    let mut mappings = Vec::new(alloc);
+    let mut found = None;
     for position in positions {
         let mapping = holdings.mapping(*position);
         if mapping.service() == service {
-            mappings.push(mapping.clone()?)?;
+            add_found(alloc, &mut found, mapping.clone()?)?;
         }
     }
-    Ok(mappings)
+    Ok(found)
 }

@@ -1,5 +1,6 @@
 //! The place of the location used, or the error where there is none. Rules without a section are this profile's own.
-ghost use Rattle.std.specs.Prelude.{◌≡◌, ℕ, None, Some, Ok, IfOk, IfSome, option_map};
+ghost use Rattle.std.specs.Prelude.{◌≡◌, ℕ, [], None, Some, Ok, IfOk, IfSome, option_map, unwrap_or};
+ghost use Rattle.std.specs.Option.{option_copied};
 ghost use Rattle.lost_spec.specs.Civic.{address_fault};
 ghost use Rattle.lost_spec.specs.Text.{Text};
 ghost use Rattle.lost_spec.specs.Find as spec;
@@ -11,9 +12,9 @@ ghost use Rattle.lost_query.specs.Place.{place_of as seen_place};
 ghost use Rattle.lost_query.specs.Request.{body_of, location_of, locations_of, request_of};
 ghost use Rattle.lost_query.specs.Used.{reply_used, used_place};
 
-use crate::path::{Route, path_of};
+use crate::path::{Path, path_of};
 use crate::place::Place;
-use crate::request::{Body, Location, Request};
+use crate::request::{Body, Location, Locations, Request};
 use crate::used::{is_geodetic, location_used};
 use lost_civic::{CivicAddress, CivicError};
 use lost_geo::GeoPoint;
@@ -36,38 +37,44 @@ pub(crate) enum Used<'a> {
 pub fn place_used(
     alloc: Global,
     name: &Source,
-    request: &Request,
+    request: &Request<'_>,
 ) -> Result<Option<Place>, AllocError>
     ensures { IfOk result (λ place. option_map seen_place place ≡ place_used name.now (request_of request.now)) }
 {
-    let route = Route {
-        name,
-        path: path_of(request),
+    let path = Path {
+        names: path_of(request),
+        server: name,
     };
-    if route.is_loop() {
+    if path.is_loop() {
         return Ok(None);
     }
-    match locate(alloc, locations_in(request))? {
+    let Some(locations) = locations_in(request) else {
+        return Ok(None);
+    };
+    match locate(alloc, locations)? {
         Used::At(_, place) => Ok(Some(place)),
         Used::Refused(_) => Ok(None),
     }
 }
 
 /// The locations of a request; two kinds have none (RFC 5222, sections 8 to 11).
-fn locations_in(request: &Request) -> &[Location]
-    ensures { locations_of result.now ≡ locations_in (request_of request.now) }
+fn locations_in<'r, 'a>(request: &'r Request<'a>) -> Option<&'r Locations<'a>>
+    ensures { unwrap_or (option_map locations_of (option_copied result)) [] ≡ locations_in (request_of request.now) }
 {
     match request {
-        Request::FindService { locations, .. } => locations,
-        Request::ListServicesByLocation { locations, .. } => locations,
-        Request::ListServices { .. } | Request::GetServiceBoundary { .. } => &[],
+        Request::FindService { locations, .. } => Some(locations),
+        Request::ListServicesByLocation { locations, .. } => Some(locations),
+        Request::ListServices { .. } | Request::GetServiceBoundary { .. } => None,
     }
 }
 
 /// The id and the place of the location used, or the first error that applies (RFC 5222, section 13.1; order own), or
 /// want of memory: `locationProfileUnrecognized` where no location has a profile that is known; then those of the
 /// location used.
-pub(crate) fn locate(alloc: Global, locations: &[Location]) -> Result<Used<'_>, AllocError>
+pub(crate) fn locate<'r>(
+    alloc: Global,
+    locations: &'r Locations<'_>,
+) -> Result<Used<'r>, AllocError>
     ensures reply { IfOk result (λ used. (edition : ℕ) (answer : Text → spec.Place → Reply)
         → reply_used edition used answer ≡ at_location edition (location_used (locations_of locations.now)) answer) }
     ensures place { IfOk result (λ used. used_place used ≡ place_at (location_used (locations_of locations.now))) }
@@ -81,7 +88,7 @@ pub(crate) fn locate(alloc: Global, locations: &[Location]) -> Result<Used<'_>, 
 /// The id and the place of a location, or the first error that applies (RFC 5222, section 13.1; order own), or want of
 /// memory: `SRSInvalid` for a point whose reference system is not known; `locationInvalid` where the content is no
 /// place of the profile.
-fn place_at(alloc: Global, location: &Location) -> Result<Used<'_>, AllocError>
+fn place_at<'r>(alloc: Global, location: &'r Location<'_>) -> Result<Used<'r>, AllocError>
     ensures reply { IfOk result (λ used. (edition : ℕ) (answer : Text → spec.Place → Reply)
         → reply_used edition used answer ≡ at_location edition (Some (location_of location.now)) answer) }
     ensures place { IfOk result (λ used. used_place used ≡ place_at (Some (location_of location.now))) }

@@ -8,7 +8,7 @@ use crate::reply::Reply;
 use lost_spec::answers::AnswerError;
 
 /// The reply that is this error (RFC 5222, section 13.1).
-pub(crate) fn refusal<H: Holdings>(holdings: &H, error: AnswerError) -> Reply
+pub(crate) fn refusal<'a, H: Holdings>(holdings: &H, error: AnswerError) -> Reply<'a>
     ensures { reply_of result ≡ Errors (H.book holdings.now).edits error }
 {
     Reply::Errors {

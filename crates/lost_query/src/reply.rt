@@ -1,4 +1,5 @@
 //! Replies.
+use crate::path::Path;
 use lost_mapping::Mapping;
 use lost_spec::answers::{AnswerError, Warning};
 use lost_urn::ServiceUrn;
@@ -6,33 +7,33 @@ use lost_urn::ServiceUrn;
 /// A reply (RFC 5222, sections 8.4, 9 to 11 and 13.1). `edition` is the number of edits that the mappings it is for
 /// come from, `path` the request's with the server's name after it.
 #[derive(Drop)]
-pub enum Reply {
+pub enum Reply<'a> {
     /// The mappings that were found (RFC 5222, section 8.4).
     FindServiceResponse {
         edition: u64,
-        location_used: String,
+        location_used: &'a str,
         validation: Option<Validation>,
-        mappings: Vec<ShownMapping>,
-        path: Vec<String>,
+        mappings: FoundMappings,
+        path: Path<'a>,
         warnings: Vec<Warning>,
     },
     /// The services at the location (RFC 5222, section 11).
     ListServicesByLocationResponse {
         edition: u64,
-        location_used: String,
-        path: Vec<String>,
+        location_used: &'a str,
+        path: Path<'a>,
         services: Vec<ServiceUrn>,
     },
     /// The services anywhere (RFC 5222, section 10).
     ListServicesResponse {
         edition: u64,
-        path: Vec<String>,
+        path: Path<'a>,
         services: Vec<ServiceUrn>,
     },
     /// All regions of the mapping that has the key, polygons first (RFC 5222, section 9).
     GetServiceBoundaryResponse {
         edition: u64,
-        path: Vec<String>,
+        path: Path<'a>,
         mapping: Mapping,
     },
     /// An error of the answer (RFC 5222, section 13.1).
@@ -46,12 +47,15 @@ pub enum Reply {
     InternalError,
 }
 
-/// A mapping, and how its boundary is shown (RFC 5222, section 8.4.1).
+/// The mappings that were found, at least one, in their order, and how the boundary of each is shown (RFC 5222, section
+/// 8.4.1): a default's is not. One mapping takes no memory for a list.
 #[derive(Drop)]
-pub struct ShownMapping {
-    /// The mapping.
-    pub mapping: Mapping,
-    /// How its boundary is shown.
+pub struct FoundMappings {
+    /// The first.
+    pub first: Mapping,
+    /// The others.
+    pub rest: Vec<Mapping>,
+    /// How the boundary of each is shown that is no default.
     pub boundary: Boundary,
 }
 
@@ -64,8 +68,6 @@ pub enum Boundary {
     ByPolygons,
     /// Its civic patterns.
     ByPatterns,
-    /// None, for a default.
-    NoBoundary,
 }
 
 /// The names of an address's elements by how they were judged (RFC 5222, section 8.4.2).

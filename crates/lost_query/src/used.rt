@@ -1,10 +1,10 @@
 //! Which location of a request is used.
-ghost use Rattle.std.specs.Prelude.{◌≡◌, ◌||◌, option_map};
+ghost use Rattle.std.specs.Prelude.{◌≡◌, ◌||◌, map, option_map};
 ghost use Rattle.std.specs.Option.{option_copied};
 ghost use Rattle.lost_spec.specs.Answer.{is_geodetic, is_civic, location_used};
 ghost use Rattle.lost_query.specs.Request.{location_of, locations_of};
 
-use crate::request::Location;
+use crate::request::{Location, Locations};
 
 /// The name of the profile of points (RFC 5222, section 12.2).
 const GEODETIC: &str = "geodetic-2d";
@@ -27,8 +27,18 @@ fn is_known(profile: &str) -> bool
 }
 
 /// The first location of a profile that is known (RFC 5222, section 12.1).
-pub(crate) fn location_used(locations: &[Location]) -> Option<&Location>
+pub(crate) fn location_used<'r, 'a>(locations: &'r Locations<'a>) -> Option<&'r Location<'a>>
     ensures { option_map location_of (option_copied result) ≡ location_used (locations_of locations.now) }
+{
+    if is_known(locations.first.profile.as_str()) {
+        return Some(&locations.first);
+    }
+    first_used(&locations.rest)
+}
+
+/// The first of some locations that has a profile that is known.
+fn first_used<'r, 'a>(locations: &'r [Location<'a>]) -> Option<&'r Location<'a>>
+    ensures { option_map location_of (option_copied result) ≡ location_used (map location_of locations.now) }
 {
     locations
         .iter()

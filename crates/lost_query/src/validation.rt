@@ -3,9 +3,11 @@ ghost use Rattle.std.specs.Prelude.{◌≡◌, ◌++◌, not, filter, map, IfOk,
 ghost use Rattle.lost_spec.specs.Text.{ascending_by};
 ghost use Rattle.lost_spec.specs.Validation.{unknown_names, validation};
 ghost use Rattle.lost_civic.specs.Element.{element_name, all_elements};
+ghost use Rattle.lost_query.specs.Finding.{mappings_of};
 ghost use Rattle.lost_query.specs.Judged.{stands_in, is_valid_element, is_contradicted, ValidatesNoOther};
 ghost use Rattle.lost_query.specs.Reply.{validation_of};
 
+use crate::found::Found;
 use crate::holdings::Holdings;
 use crate::reply::Validation;
 use crate::validation::elements::{append, elements_of, names_of, part, unknown_names};
@@ -13,7 +15,7 @@ use crate::validation::patterns::{
     is_contradicted, is_named, matching_patterns, reference_patterns,
 };
 use lost_civic::{CivicAddress, CivicPattern, Element};
-use lost_mapping::{Mapping, Moment};
+use lost_mapping::Moment;
 use lost_urn::ServiceUrn;
 use std::alloc::{AllocError, Global};
 
@@ -27,11 +29,11 @@ pub(crate) fn validate<H: Holdings>(
     holdings: &H,
     moment: &Moment,
     service: &ServiceUrn,
-    found: &[Mapping],
+    found: &Found,
     address: &CivicAddress,
 ) -> Result<Validation, AllocError>
     ensures { IfOk result (λ judged.
-        validation_of judged ≡ validation (H.book holdings.now) moment.now service.now found.now address.now) }
+        validation_of judged ≡ validation (H.book holdings.now) moment.now service.now (mappings_of found.now) address.now) }
 {
     let (valid, others) = part_valid(alloc, found, address)?;
     let references = reference_patterns(alloc, holdings, moment, service, address, &valid)?;
@@ -43,16 +45,16 @@ pub(crate) fn validate<H: Holdings>(
 /// 8.4.2; policy own), or want of memory.
 fn part_valid(
     alloc: Global,
-    found: &[Mapping],
+    found: &Found,
     address: &CivicAddress,
 ) -> Result<(Vec<Element>, Vec<Element>), AllocError>
     ensures valid { IfOk result (λ parts.
-        parts.0.items ≡ filter (is_valid_element found.now address.now) (filter (stands_in address.now) all_elements)) }
+        parts.0.items ≡ filter (is_valid_element (mappings_of found.now) address.now) (filter (stands_in address.now) all_elements)) }
     ensures others { IfOk result (λ parts.
-        parts.1.items ≡ filter (λ e. not (is_valid_element found.now address.now e)) (filter (stands_in address.now) all_elements)) }
+        parts.1.items ≡ filter (λ e. not (is_valid_element (mappings_of found.now) address.now e)) (filter (stands_in address.now) all_elements)) }
 
     // A name that is of no element is not valid.
-    ensures unknown { OnOk result (ValidatesNoOther found.now address.now) }
+    ensures unknown { OnOk result (ValidatesNoOther (mappings_of found.now) address.now) }
 {
     let elements = elements_of(alloc, address)?;
     let matching = matching_patterns(alloc, found, address)?;

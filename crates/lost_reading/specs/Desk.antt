@@ -13,7 +13,7 @@ use Rattle.lost_spec.specs.Answer.{is_geodetic, is_civic}
 use Rattle.lost_mapping.specs.Identity.{identity_fault}
 use Rattle.lost_reading.specs.declared.desk.DeskFault.{DeskFault}
 use Rattle.lost_reading.specs.declared.desk.DeskFault.TheVariants.{BadLine, Mapping as MappingFault}
-use Rattle.lost_reading.specs.Members.{tree_of, the_member, required, optional, defaulting, each_of, list_in, position_in, pairs_in, only_member}
+use Rattle.lost_reading.specs.Members.{tree_of, the_member, required, optional, defaulting, list_in, position_in, pairs_in, only_member}
 
 -- what a desk line orders: an edit to stage, or a commit
 pub data Order : Type 0 where

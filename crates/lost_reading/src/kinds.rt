@@ -14,6 +14,7 @@ use lost_spec::faults::UrnError;
 use lost_urn::ServiceUrn;
 use serde_json::{Map, Value};
 use std::alloc::Global;
+use std::borrow::CowStr;
 
 impl Kind for String {
     ghost use Rattle.lost_spec.specs.Text.{Text};
@@ -29,6 +30,22 @@ impl Kind for String {
             Some(text) => Ok(String::from_str(alloc, text)?),
             None => Err(ReadError::BadRequest),
         }
+    }
+}
+
+/// A text that is owned.
+impl<'a> Kind for CowStr<'a> {
+    ghost use Rattle.std.specs.Cow.{cow_str_bytes};
+    ghost use Rattle.lost_spec.specs.Text.{Text};
+
+    ghost Seen = { Text };
+
+    ghost seen = { cow_str_bytes };
+
+    ghost meant = { as_str };
+
+    fn read(alloc: Global, value: &Value) -> Result<CowStr<'a>, ReadError> {
+        Ok(CowStr::Owned(String::read(alloc, value)?))
     }
 }
 

@@ -1,19 +1,20 @@
 //! Locations of a request (RFC 5222, section 12). Rules without a section are this profile's own.
-ghost use Rattle.std.specs.Prelude.{◌≡◌, None, Some, Ok, map, codes};
+ghost use Rattle.std.specs.Prelude.{◌≡◌, ◌<◌, None, Some, Ok, length, map, codes};
 ghost use Rattle.serde_json.specs.View.{view, members_view};
 ghost use Rattle.lost_spec.specs.Text.{is_among, has_repeat};
 ghost use Rattle.lost_query.specs.Request.{body_of, location_of, locations_of};
 ghost use Rattle.lost_reading.specs.Gives.{Gives};
 ghost use Rattle.lost_reading.specs.Members as kinds;
 ghost use Rattle.lost_reading.specs.Members.{the_member};
-ghost use Rattle.lost_reading.specs.Requests.{point_body, address_body, body_in, is_known_system, srs_known_in, location_of_members, location_in, are_locations, locations_in};
+ghost use Rattle.lost_reading.specs.Requests.{point_body, address_body, body_in, is_known_system, srs_known_in, location_of_members, location_in, are_locations, if_locations, locations_in};
 
 use crate::kinds::named_texts;
 use crate::reading::{Kind, member, readable, required};
 use crate::request::ReadError;
-use lost_query::{Body, Location};
+use lost_query::{Body, Location, Locations};
 use serde_json::{Map, Value};
 use std::alloc::Global;
+use std::borrow::CowStr;
 
 /// The reference system that is known (RFC 5222, section 12.2).
 pub const KNOWN_SYSTEM: &str = "urn:ogc:def:crs:EPSG::4326";
@@ -28,59 +29,83 @@ pub const CIVIC: &str = "civic";
 const MAX_LOCATIONS: usize = 8;
 
 /// A list of 1 to 8 locations, no two of one profile (RFC 5222, section 8.3.1; bounds own).
-#[derive(Drop)]
-pub(crate) struct Locations(pub Vec<Location>);
-
-impl Kind for Locations {
+impl<'a> Kind for Locations<'a> {
     ghost use Rattle.std.specs.Prelude.{List};
     ghost use Rattle.lost_spec.specs.Request as spec;
 
     ghost Seen = { List spec.Location };
 
-    ghost seen = { λ locations. locations_of locations.0.items };
+    ghost seen = { locations_of };
 
     ghost meant = { locations_in };
 
-    fn read(alloc: Global, value: &Value) -> Result<Locations, ReadError> {
-        let locations = Vec::<Location>::read(alloc, value)?;
-        if are_locations(locations.as_slice()) {
-            Ok(Locations(locations))
-        } else {
-            Err(ReadError::BadRequest)
-        }
+    fn read(alloc: Global, value: &Value) -> Result<Locations<'a>, ReadError> {
+        let list = Vec::<Location<'a>>::read(alloc, value)?;
+        from_list(list)
     }
+}
+
+/// The locations of a list, which must be 1 to 8, no two of one profile.
+fn from_list<'a>(list: Vec<Location<'a>>) -> Result<Locations<'a>, ReadError>
+    ensures { Gives locations_of result (if_locations (map location_of list.entry.items)) }
+{
+    if list.is_empty() {
+        return Err(ReadError::BadRequest);
+    }
+    let locations = split_list(list);
+    if are_locations(&locations) {
+        Ok(locations)
+    } else {
+        Err(ReadError::BadRequest)
+    }
+}
+
+/// The locations of a list, the first by itself.
+fn split_list<'a>(list: Vec<Location<'a>>) -> Locations<'a>
+    requires { 0 < length list.items }
+    ensures { locations_of result ≡ map location_of list.entry.items }
+{
+    let mut rest = list;
+    let first = rest.remove(0);
+    Locations { first, rest }
 }
 
 /// Whether there are 1 to 8 locations, no two of one profile (RFC 5222, section 8.3.1; bounds own).
-pub fn are_locations(locations: &[Location]) -> bool
+pub fn are_locations(locations: &Locations<'_>) -> bool
     ensures { result ≡ are_locations (locations_of locations.now) }
 {
-    1 <= locations.len() && locations.len() <= MAX_LOCATIONS && !repeats_profile(locations)
+    locations.rest.len() < MAX_LOCATIONS && !repeats(locations)
 }
 
 /// Whether a profile stands twice. It takes the square of their number, which is at most 8 where this is asked.
-fn repeats_profile(locations: &[Location]) -> bool
+fn repeats(locations: &Locations<'_>) -> bool
     ensures { result ≡ has_repeat (map (λ location. location.profile) (locations_of locations.now)) }
 {
-    let mut rest = locations;
-    while let Some((location, others)) = rest.split_first() {
-        if has_profile(others, location.profile.as_str()) {
-            return true;
-        }
-        rest = others;
-    }
-    false
+    has_profile(&locations.rest, locations.first.profile.as_str())
+        || repeats_profile(&locations.rest)
 }
 
-fn has_profile(locations: &[Location], profile: &str) -> bool
-    ensures { result ≡ is_among profile.now (map (λ location. location.profile) (locations_of locations.now)) }
+/// Whether a profile stands twice in a list.
+fn repeats_profile(locations: &[Location<'_>]) -> bool
+    ensures { result ≡ has_repeat (map (λ location. location.profile) (map location_of locations.now)) }
+{
+    match locations.split_first() {
+        Some((location, others)) => {
+            has_profile(others, location.profile.as_str()) || repeats_profile(others)
+        }
+        None => false,
+    }
+}
+
+fn has_profile(locations: &[Location<'_>], profile: &str) -> bool
+    ensures { result ≡ is_among profile.now (map (λ location. location.profile) (map location_of locations.now)) }
 {
     locations
         .iter()
         .any(|location| profile == location.profile.as_str())
 }
 
-impl Kind for Location {
+impl<'a> Kind for Location<'a> {
     ghost use Rattle.lost_spec.specs.Request as spec;
 
     ghost Seen = { spec.Location };
@@ -89,7 +114,7 @@ impl Kind for Location {
 
     ghost meant = { location_in };
 
-    fn read(alloc: Global, value: &Value) -> Result<Location, ReadError> {
+    fn read(alloc: Global, value: &Value) -> Result<Location<'a>, ReadError> {
         match value.as_object() {
             Some(members) => read_location(alloc, members),
             None => Err(ReadError::BadRequest),
@@ -98,11 +123,11 @@ impl Kind for Location {
 }
 
 /// The location of an object.
-fn read_location(alloc: Global, members: &Map<String, Value>) -> Result<Location, ReadError>
+fn read_location<'a>(alloc: Global, members: &Map<String, Value>) -> Result<Location<'a>, ReadError>
     ensures { Gives location_of result (location_of_members (members_view members.now.entries)) }
 {
-    let id = required::<String>(alloc, members, "id")?;
-    let profile = required::<String>(alloc, members, "profile")?;
+    let id = required::<CowStr<'a>>(alloc, members, "id")?;
+    let profile = required::<CowStr<'a>>(alloc, members, "profile")?;
     let srs_known = is_srs_known(profile.as_str(), members);
     let body = read_body(alloc, profile.as_str(), members)?;
     Ok(Location {

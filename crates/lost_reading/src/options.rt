@@ -1,7 +1,7 @@
 //! The path of a request, and how it wants boundaries. Rules without a section are this profile's own.
 ghost use Rattle.std.specs.Prelude.{◌≡◌, option_map};
 ghost use Rattle.serde_json.specs.View.{members_view};
-ghost use Rattle.lost_mapping.specs.Texts.{texts_of};
+ghost use Rattle.lost_query.specs.Request.{path_names};
 ghost use Rattle.lost_reading.specs.Gives.{Gives};
 ghost use Rattle.lost_reading.specs.Requests.{path_kind, path_in, preference, by_value_kind};
 
@@ -9,26 +9,27 @@ use crate::reading::{Kind, defaulting};
 use crate::request::ReadError;
 use serde_json::{Map, Value};
 use std::alloc::Global;
+use std::borrow::CowStr;
 
 /// The most names of a path (own rule).
 pub const MAX_NAMES: usize = 32;
 
 /// At most 32 texts: the names of the servers that a request came by (RFC 5222, section 6; bound own).
 #[derive(Drop)]
-pub(crate) struct Path(pub Vec<String>);
+pub(crate) struct Path<'a>(pub Vec<CowStr<'a>>);
 
-impl Kind for Path {
+impl<'a> Kind for Path<'a> {
     ghost use Rattle.std.specs.Prelude.{List};
     ghost use Rattle.lost_spec.specs.Text.{Text};
 
     ghost Seen = { List Text };
 
-    ghost seen = { λ path. texts_of path.0.items };
+    ghost seen = { λ path. path_names path.0.items };
 
     ghost meant = { path_kind };
 
-    fn read(alloc: Global, value: &Value) -> Result<Path, ReadError> {
-        let names = Vec::<String>::read(alloc, value)?;
+    fn read(alloc: Global, value: &Value) -> Result<Path<'a>, ReadError> {
+        let names = Vec::<CowStr<'a>>::read(alloc, value)?;
         if names.len() <= MAX_NAMES {
             Ok(Path(names))
         } else {
@@ -38,11 +39,11 @@ impl Kind for Path {
 }
 
 /// The path of a request, empty where it has none.
-pub(crate) fn read_path(
+pub(crate) fn read_path<'a>(
     alloc: Global,
     members: &Map<String, Value>,
-) -> Result<Vec<String>, ReadError>
-    ensures { Gives (λ path. texts_of path.items) result (path_in (members_view members.now.entries)) }
+) -> Result<Vec<CowStr<'a>>, ReadError>
+    ensures { Gives (λ path. path_names path.items) result (path_in (members_view members.now.entries)) }
 {
     let path = defaulting(alloc, members, "path", Path(Vec::new(alloc)))?;
     Ok(path.0)

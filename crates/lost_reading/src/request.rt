@@ -7,13 +7,13 @@ ghost use Rattle.lost_reading.specs.Gives.{Gives, read_code};
 ghost use Rattle.lost_reading.specs.Members as kinds;
 ghost use Rattle.lost_reading.specs.Requests.{find_service_of, services_at_of, services_of, boundary_of, request_named, request_in, line_request};
 
-use crate::locations::Locations;
 use crate::options::{ByValue, read_path};
 use crate::reading::{defaulting, only_member, read_tree, required};
 use crate::services::{optional_service, required_service};
-use lost_query::Request;
+use lost_query::{Locations, Request};
 use serde_json::{Map, Value};
 use std::alloc::Global;
+use std::borrow::CowStr;
 use thiserror::Error;
 
 /// Why a line was not read as a request.
@@ -46,7 +46,7 @@ impl ReadError {
 ///
 /// [`ReadError::BadRequest`] where the line is no request, and [`ReadError::Memory`] for want of memory.
 #[tactic(auto, unfolding(crate::specs::Requests::line_request))]
-pub fn read_request(alloc: Global, line: &[u8]) -> Result<Request, ReadError>
+pub fn read_request<'a>(alloc: Global, line: &[u8]) -> Result<Request<'a>, ReadError>
     ensures { Gives request_of result (line_request line.now) }
 {
     let tree = read_tree(alloc, line)?;
@@ -54,7 +54,7 @@ pub fn read_request(alloc: Global, line: &[u8]) -> Result<Request, ReadError>
 }
 
 /// The request of a tree: an object with exactly one member, whose value is an object.
-fn read_tree_request(alloc: Global, tree: &Value) -> Result<Request, ReadError>
+fn read_tree_request<'a>(alloc: Global, tree: &Value) -> Result<Request<'a>, ReadError>
     ensures { Gives request_of result (request_in (view tree.now)) }
 {
     match only_member(tree) {
@@ -63,11 +63,11 @@ fn read_tree_request(alloc: Global, tree: &Value) -> Result<Request, ReadError>
     }
 }
 
-pub(crate) fn read_member_request(
+pub(crate) fn read_member_request<'a>(
     alloc: Global,
     name: &str,
     value: &Value,
-) -> Result<Request, ReadError>
+) -> Result<Request<'a>, ReadError>
     ensures { Gives request_of result (option_and_then (request_named name.now) (as_object (view value.now))) }
 {
     match value.as_object() {
@@ -77,11 +77,11 @@ pub(crate) fn read_member_request(
 }
 
 /// The request of this name, by the members of its value.
-fn read_named_request(
+fn read_named_request<'a>(
     alloc: Global,
     name: &str,
     members: &Map<String, Value>,
-) -> Result<Request, ReadError>
+) -> Result<Request<'a>, ReadError>
     ensures { Gives request_of result (request_named name.now (members_view members.now.entries)) }
 {
     if "findService" == name {
@@ -98,19 +98,22 @@ fn read_named_request(
 }
 
 /// `findService` (RFC 5222, section 8).
-fn read_find_service(alloc: Global, members: &Map<String, Value>) -> Result<Request, ReadError>
+fn read_find_service<'a>(
+    alloc: Global,
+    members: &Map<String, Value>,
+) -> Result<Request<'a>, ReadError>
     ensures given { Gives request_of result (find_service_of (members_view members.now.entries)) }
     ensures service_first { kinds.required kinds.service_in (codes "service") (members_view members.now.entries) ≡ None
         → result ≡ Err ReadError.BadRequest }
 {
     let service = required_service(alloc, members)?;
-    let locations = required::<Locations>(alloc, members, "location")?;
+    let locations = required::<Locations<'a>>(alloc, members, "location")?;
     let validate = defaulting(alloc, members, "validateLocation", false)?;
     let by_value = defaulting(alloc, members, "serviceBoundary", ByValue(false))?;
     let path = read_path(alloc, members)?;
     Ok(Request::FindService {
         service,
-        locations: locations.0,
+        locations,
         validate,
         by_value: by_value.0,
         path,
@@ -118,23 +121,26 @@ fn read_find_service(alloc: Global, members: &Map<String, Value>) -> Result<Requ
 }
 
 /// `listServicesByLocation` (RFC 5222, section 11).
-fn read_services_at(alloc: Global, members: &Map<String, Value>) -> Result<Request, ReadError>
+fn read_services_at<'a>(
+    alloc: Global,
+    members: &Map<String, Value>,
+) -> Result<Request<'a>, ReadError>
     ensures given { Gives request_of result (services_at_of (members_view members.now.entries)) }
     ensures service_first { kinds.optional kinds.service_in (codes "service") (members_view members.now.entries) ≡ None
         → result ≡ Err ReadError.BadRequest }
 {
     let service = optional_service(alloc, members)?;
-    let locations = required::<Locations>(alloc, members, "location")?;
+    let locations = required::<Locations<'a>>(alloc, members, "location")?;
     let path = read_path(alloc, members)?;
     Ok(Request::ListServicesByLocation {
         service,
-        locations: locations.0,
+        locations,
         path,
     })
 }
 
 /// `listServices` (RFC 5222, section 10).
-fn read_services(alloc: Global, members: &Map<String, Value>) -> Result<Request, ReadError>
+fn read_services<'a>(alloc: Global, members: &Map<String, Value>) -> Result<Request<'a>, ReadError>
     ensures given { Gives request_of result (services_of (members_view members.now.entries)) }
     ensures service_first { kinds.optional kinds.service_in (codes "service") (members_view members.now.entries) ≡ None
         → result ≡ Err ReadError.BadRequest }
@@ -145,10 +151,10 @@ fn read_services(alloc: Global, members: &Map<String, Value>) -> Result<Request,
 }
 
 /// `getServiceBoundary` (RFC 5222, section 9).
-fn read_boundary(alloc: Global, members: &Map<String, Value>) -> Result<Request, ReadError>
+fn read_boundary<'a>(alloc: Global, members: &Map<String, Value>) -> Result<Request<'a>, ReadError>
     ensures { Gives request_of result (boundary_of (members_view members.now.entries)) }
 {
-    let key = required::<String>(alloc, members, "key")?;
+    let key = required::<CowStr<'a>>(alloc, members, "key")?;
     let path = read_path(alloc, members)?;
     Ok(Request::GetServiceBoundary { key, path })
 }

@@ -12,13 +12,13 @@ use lost_spec::faults::MappingError;
 use serde_json::Value;
 use std::alloc::Global;
 
-/// What a line is.
+/// What a line is. A request borrows its texts from what it was read from, or owns them.
 #[derive(Drop)]
-pub enum Line {
+pub enum Line<'a> {
     /// A desk line, and what it orders.
     Desk(DeskLine),
     /// A request line.
-    Request(Request),
+    Request(Request<'a>),
     /// Neither of both.
     Neither,
 }
@@ -30,7 +30,7 @@ pub enum Line {
 ///
 /// Those of [`crate::read_desk`]. Want of memory may come in place of any other answer.
 #[tactic(auto, unfolding(crate::specs::Requests::line_request, crate::specs::Desk::desk_line))]
-pub fn read_line(alloc: Global, line: &[u8]) -> Result<Line, DeskFault>
+pub fn read_line<'a>(alloc: Global, line: &[u8]) -> Result<Line<'a>, DeskFault>
     ensures { GivesWhole result (desk_line line.now) (line_request line.now) }
 {
     match read_tree(alloc, line) {
@@ -41,7 +41,7 @@ pub fn read_line(alloc: Global, line: &[u8]) -> Result<Line, DeskFault>
 }
 
 /// What the tree of a line is.
-fn read_tree_line(alloc: Global, tree: &Value) -> Result<Line, DeskFault>
+fn read_tree_line<'a>(alloc: Global, tree: &Value) -> Result<Line<'a>, DeskFault>
     ensures { GivesWhole result (order_in (view tree.now)) (request_in (view tree.now)) }
 {
     match only_member(tree) {
@@ -51,7 +51,7 @@ fn read_tree_line(alloc: Global, tree: &Value) -> Result<Line, DeskFault>
 }
 
 /// What the one member of a line is.
-fn read_member_line(alloc: Global, name: &str, value: &Value) -> Result<Line, DeskFault>
+fn read_member_line<'a>(alloc: Global, name: &str, value: &Value) -> Result<Line<'a>, DeskFault>
     ensures { GivesWhole result (order_of_member (name.now, view value.now)) (request_of_member (name.now, view value.now)) }
 {
     if is_desk_name(name) {

@@ -6,7 +6,7 @@ ghost use Rattle.lost_spec.specs.Services.{all_services};
 use crate::routing::Routing;
 use lost_civic::{CivicAddress, Element};
 use lost_mapping::{Mapping, Moment};
-use lost_query::{Holdings, Place};
+use lost_query::{Holdings, Place, Positions};
 use lost_urn::ServiceUrn;
 use std::alloc::AllocError;
 
@@ -34,7 +34,7 @@ impl Holdings for Routing {
         self.held.implemented(moment, service)
     }
 
-    fn holding(&self, moment: &Moment, place: &Place) -> Result<Vec<usize>, AllocError> {
+    fn holding(&self, moment: &Moment, place: &Place) -> Result<Positions, AllocError> {
         match place {
             Place::Point(point) => self.held.holding_point(moment, point),
             Place::Address(address) => self.held.holding_address(moment, address),
@@ -46,18 +46,18 @@ impl Holdings for Routing {
         moment: &Moment,
         place: &Place,
         service: &ServiceUrn,
-    ) -> Result<Vec<usize>, AllocError> {
+    ) -> Result<Positions, AllocError> {
         match place {
             Place::Point(point) => self.held.at_point(moment, point, service),
             Place::Address(address) => self.held.at_address(moment, address, service),
         }
     }
 
-    fn defaults(&self, moment: &Moment, service: &ServiceUrn) -> Result<Vec<usize>, AllocError> {
+    fn defaults(&self, moment: &Moment, service: &ServiceUrn) -> Result<Positions, AllocError> {
         self.held.defaults(moment, service)
     }
 
-    fn of_service(&self, moment: &Moment, service: &ServiceUrn) -> Result<Vec<usize>, AllocError> {
+    fn of_service(&self, moment: &Moment, service: &ServiceUrn) -> Result<Positions, AllocError> {
         self.held.of_service(moment, service)
     }
 
@@ -67,7 +67,7 @@ impl Holdings for Routing {
         service: &ServiceUrn,
         address: &CivicAddress,
         elements: &[Element],
-    ) -> Result<Vec<usize>, AllocError> {
+    ) -> Result<Positions, AllocError> {
         self.held.referring(moment, service, address, elements)
     }
 

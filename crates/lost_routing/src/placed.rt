@@ -12,6 +12,7 @@ use lost_book::{holds_address, holds_point, serves};
 use lost_civic::CivicAddress;
 use lost_geo::GeoPoint;
 use lost_mapping::{Mapping, Moment};
+use lost_query::Positions;
 use lost_tables::picks;
 use lost_urn::ServiceUrn;
 use std::alloc::AllocError;
@@ -22,7 +23,7 @@ impl Held {
         &self,
         point: &GeoPoint,
         passes: F,
-    ) -> Result<Vec<usize>, AllocError>
+    ) -> Result<Positions, AllocError>
         requires callable { F.IsAlwaysCallable passes }
         ensures { (test : spec.Mapping → Bool) → ((m : spec.Mapping) (r : Bool) → FnReturnsAt F.Fn passes m r → r ≡ test m)
             → ((m : spec.Mapping) → test m ≡ true → holds m (AtPoint point.now) ≡ true)
@@ -39,7 +40,7 @@ impl Held {
     }
 
     /// The mappings that hold the point, live or not, or want of memory.
-    pub(crate) fn holders_of_point(&self, point: &GeoPoint) -> Result<Vec<usize>, AllocError>
+    pub(crate) fn holders_of_point(&self, point: &GeoPoint) -> Result<Positions, AllocError>
         ensures { IfOk result (λ found.
             found.items ≡ positions (λ m. holds m (AtPoint point.now)) self.now.mappings) }
     {
@@ -51,7 +52,7 @@ impl Held {
         &self,
         address: &CivicAddress,
         passes: F,
-    ) -> Result<Vec<usize>, AllocError>
+    ) -> Result<Positions, AllocError>
         requires callable { F.IsAlwaysCallable passes }
         ensures { (test : spec.Mapping → Bool) → ((m : spec.Mapping) (r : Bool) → FnReturnsAt F.Fn passes m r → r ≡ test m)
             → ((m : spec.Mapping) → test m ≡ true → holds m (AtAddress address.now) ≡ true)
@@ -68,10 +69,7 @@ impl Held {
     }
 
     /// The mappings that hold the address, live or not, or want of memory.
-    pub(crate) fn holders_of_address(
-        &self,
-        address: &CivicAddress,
-    ) -> Result<Vec<usize>, AllocError>
+    pub(crate) fn holders_of_address(&self, address: &CivicAddress) -> Result<Positions, AllocError>
         ensures { IfOk result (λ found.
             found.items ≡ positions (λ m. holds m (AtAddress address.now)) self.now.mappings) }
     {
@@ -83,7 +81,7 @@ impl Held {
         &self,
         moment: &Moment,
         point: &GeoPoint,
-    ) -> Result<Vec<usize>, AllocError>
+    ) -> Result<Positions, AllocError>
         ensures { IfOk result (λ found.
             found.items ≡ positions (is_holding moment.now (AtPoint point.now)) self.now.mappings) }
     {
@@ -97,7 +95,7 @@ impl Held {
         &self,
         moment: &Moment,
         address: &CivicAddress,
-    ) -> Result<Vec<usize>, AllocError>
+    ) -> Result<Positions, AllocError>
         ensures { IfOk result (λ found.
             found.items ≡ positions (is_holding moment.now (AtAddress address.now)) self.now.mappings) }
     {
@@ -112,7 +110,7 @@ impl Held {
         moment: &Moment,
         point: &GeoPoint,
         service: &ServiceUrn,
-    ) -> Result<Vec<usize>, AllocError>
+    ) -> Result<Positions, AllocError>
         ensures { IfOk result (λ found.
             found.items ≡ positions (is_holder moment.now (AtPoint point.now) service.now) self.now.mappings) }
     {
@@ -127,7 +125,7 @@ impl Held {
         moment: &Moment,
         address: &CivicAddress,
         service: &ServiceUrn,
-    ) -> Result<Vec<usize>, AllocError>
+    ) -> Result<Positions, AllocError>
         ensures { IfOk result (λ found.
             found.items ≡ positions (is_holder moment.now (AtAddress address.now) service.now) self.now.mappings) }
     {

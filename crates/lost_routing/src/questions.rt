@@ -10,6 +10,7 @@ ghost use Rattle.lost_spec.specs.Services.{has_live_key};
 use crate::held::Held;
 use lost_book::{has_identity, has_key, serves};
 use lost_mapping::{Identity, Mapping, Moment};
+use lost_query::Positions;
 use lost_tables::picks;
 use lost_urn::ServiceUrn;
 use std::alloc::AllocError;
@@ -75,7 +76,7 @@ impl Held {
         &self,
         moment: &Moment,
         service: &ServiceUrn,
-    ) -> Result<Vec<usize>, AllocError>
+    ) -> Result<Positions, AllocError>
         ensures { IfOk result (λ found.
             found.items ≡ positions (is_standby moment.now service.now) self.now.mappings) }
     {
@@ -95,7 +96,7 @@ impl Held {
         &self,
         moment: &Moment,
         service: &ServiceUrn,
-    ) -> Result<Vec<usize>, AllocError>
+    ) -> Result<Positions, AllocError>
         ensures { IfOk result (λ found.
             found.items ≡ positions (λ m. serves m moment.now service.now) self.now.mappings) }
     {

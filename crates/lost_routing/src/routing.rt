@@ -71,10 +71,11 @@ impl Routing {
     pub fn holders(&self, place: &Place) -> Result<Vec<usize>, AllocError>
         ensures { IfOk result (λ places. places.items ≡ holders_of self.now (place_of place.now)) }
     {
-        match place {
+        let places = match place {
             Place::Point(point) => self.held.holders_of_point(point),
             Place::Address(address) => self.held.holders_of_address(address),
-        }
+        }?;
+        Ok(places.into_vec()?)
     }
 
     /// An equal book, or want of memory. It costs a pointer for each mapping, and the indexes anew.

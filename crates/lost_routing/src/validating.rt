@@ -9,7 +9,7 @@ use lost_book::serves;
 use lost_civic::{CivicAddress, Element};
 use lost_civicdex::RequiredElements;
 use lost_mapping::Moment;
-use lost_query::refers;
+use lost_query::{Positions, refers};
 use lost_tables::picks;
 use lost_urn::ServiceUrn;
 use std::alloc::AllocError;
@@ -25,7 +25,7 @@ impl Held {
         service: &ServiceUrn,
         address: &CivicAddress,
         elements: &[Element],
-    ) -> Result<Vec<usize>, AllocError>
+    ) -> Result<Positions, AllocError>
         ensures { IfOk result (λ found.
             found.items ≡ positions (is_referring moment.now service.now address.now elements.now) self.now.mappings) }
     {
@@ -33,10 +33,10 @@ impl Held {
             return self.referring_of_service(moment, service, address, elements);
         }
         let Some(required) = RequiredElements::of_address(self.alloc, address, elements)? else {
-            return Ok(Vec::new(self.alloc));
+            return Ok(Positions::new(self.alloc));
         };
         if required.keys().len() < elements.len() {
-            return Ok(Vec::new(self.alloc));
+            return Ok(Positions::new(self.alloc));
         }
         self.referring_named(moment, service, address, elements, &required)
     }
@@ -49,7 +49,7 @@ impl Held {
         address: &CivicAddress,
         elements: &[Element],
         required: &RequiredElements,
-    ) -> Result<Vec<usize>, AllocError>
+    ) -> Result<Positions, AllocError>
         requires { required.now ≡ filter_map (key_of address.now) elements.now }
         ensures { IfOk result (λ found.
             found.items ≡ positions (is_referring moment.now service.now address.now elements.now) self.now.mappings) }
@@ -71,7 +71,7 @@ impl Held {
         service: &ServiceUrn,
         address: &CivicAddress,
         elements: &[Element],
-    ) -> Result<Vec<usize>, AllocError>
+    ) -> Result<Positions, AllocError>
         ensures { IfOk result (λ found.
             found.items ≡ positions (is_referring moment.now service.now address.now elements.now) self.now.mappings) }
     {

@@ -10,6 +10,7 @@ ghost use Rattle.lost_tables.specs.Picks.{Covers, AreBelow, AreAbove, passing, l
 
 use lost_mapping::Mapping;
 use lost_tiered::TieredVec;
+use smallvec::SmallVec;
 use std::alloc::{AllocError, Global};
 
 /// How far below itself a number is looked for, step by step.
@@ -74,14 +75,14 @@ fn halved(numbers: &TieredVec<u64>, number: u64, start: usize, end: usize) -> us
 }
 
 /// The positions, rising, of the things that pass a test, or want of memory. The numbers of the things rise, and the
-/// candidates are the numbers of all that pass, in any order, with others among them.
+/// candidates are the numbers of all that pass, in any order, with others among them. Up to eight positions take no memory.
 pub fn select<F: Fn(&Mapping) -> bool>(
     alloc: Global,
     numbers: &TieredVec<u64>,
     things: &TieredVec<Mapping>,
     candidates: &[u64],
     passes: F,
-) -> Result<Vec<usize>, AllocError>
+) -> Result<SmallVec<usize, 8>, AllocError>
     requires callable { F.IsAlwaysCallable passes }
     requires rising { IsStrictlySortedBy nat_cmp numbers.now }
     requires paired { length numbers.now ≡ length things.now }
@@ -89,13 +90,13 @@ pub fn select<F: Fn(&Mapping) -> bool>(
         → Covers test numbers.now things.now candidates.now
         → IfOk result (λ found. found.items ≡ positions test things.now) }
 {
-    let mut found = Vec::new(alloc);
+    let mut found = SmallVec::new(alloc);
     for candidate in candidates {
         if let Some(position) = passing_position(numbers, things, *candidate, &passes) {
             found.push(position)?;
         }
     }
-    found.sort_unstable();
+    found.as_mut_slice().sort_unstable();
     found.dedup();
     Ok(found)
 }

@@ -23,8 +23,13 @@ use std::alloc::Global;
 const MAX_LINE: usize = 131_072;
 
 /// Reads a request line of a common shape by its tokens (RFC 5222, sections 8 to 12; own format). `None` says nothing of
-/// the line, and comes for want of memory too: the tree decides then. What `scratch` holds is kept from line to line.
-pub fn read_common(alloc: Global, line: &[u8], scratch: &mut Scratch) -> Option<Request>
+/// the line, and comes for want of memory too: the tree decides then. The request borrows its texts from the line, or from
+/// `scratch` where they have escapes. What `scratch` holds is kept from line to line.
+pub fn read_common<'a>(
+    alloc: Global,
+    line: &'a [u8],
+    scratch: &'a mut Scratch,
+) -> Option<Request<'a>>
     ensures request { IfSome result (λ request. line_request line.now ≡ Some (request_of request)) }
     ensures no_desk_line { OnSome result (desk_line line.now ≡ None) }
 {
@@ -36,7 +41,11 @@ pub fn read_common(alloc: Global, line: &[u8], scratch: &mut Scratch) -> Option<
 
 /// Reads a line of a common shape by its tokens: a request, or a desk line that publishes or replaces a mapping, none of it
 /// refused (own format). `None` says nothing of the line, as in [`read_common`].
-pub(crate) fn read_common_line(alloc: Global, line: &[u8], scratch: &mut Scratch) -> Option<Line>
+pub(crate) fn read_common_line<'a>(
+    alloc: Global,
+    line: &'a [u8],
+    scratch: &'a mut Scratch,
+) -> Option<Line<'a>>
     ensures { IfSome result (λ found. GivesWhole (Ok found) (desk_line line.now) (line_request line.now)) }
 {
     if line.len() > MAX_LINE {
@@ -49,7 +58,7 @@ pub(crate) fn read_common_line(alloc: Global, line: &[u8], scratch: &mut Scratch
 }
 
 /// What a text is.
-fn read_text(alloc: Global, text: &str, scratch: &mut Scratch) -> Option<Line>
+fn read_text<'a>(alloc: Global, text: &'a str, scratch: &'a mut Scratch) -> Option<Line<'a>>
     ensures { IfSome result (λ found. GivesWhole (Ok found) (option_and_then order_in (read text.now)) (option_and_then request_in (read text.now))) }
 {
     match Tape::parse(text, scratch, Vec::new(alloc)) {
@@ -59,7 +68,7 @@ fn read_text(alloc: Global, text: &str, scratch: &mut Scratch) -> Option<Line>
 }
 
 /// What a list of tokens is, that of the value of a text.
-fn read_tape(alloc: Global, tape: &Tape<'_>) -> Option<Line>
+fn read_tape<'a>(alloc: Global, tape: &Tape<'a>) -> Option<Line<'a>>
     requires { (text : List ℕ) × IsTapeOf text tape.now }
     ensures { (text : List ℕ) → IsTapeOf text tape.now → IfSome result (λ found.
         GivesWhole (Ok found) (option_and_then order_in (read text)) (option_and_then request_in (read text))) }

@@ -1,37 +1,49 @@
 //! The locations of a request (RFC 5222, section 12). Rules without a section are this profile's own.
 ghost use Rattle.std.specs.Prelude.{◌≡◌, Some, IfSome, codes};
 ghost use Rattle.lost_query.specs.Request.{body_of, location_of, locations_of};
-ghost use Rattle.lost_reading.specs.Members.{the_member, required, pairs_in};
+ghost use Rattle.lost_reading.specs.Members.{the_member, required, list_in, pairs_in};
 ghost use Rattle.lost_reading.specs.Requests.{point_body, address_body, body_in, is_known_system, srs_known_in, location_of_members, location_in, locations_in};
 ghost use Rattle.lost_tokens.specs.Tapes.{data_of, members_of};
 
 use crate::addresses::read_address;
-use crate::part::{Part, owned, read_list, read_position, required_member, required_text};
+use crate::part::{Part, read_each, read_position, required_member, required_text};
 use crate::tree::Tree;
-use lost_query::{Body, Location};
+use lost_query::{Body, Location, Locations};
 use lost_reading::{CIVIC, GEODETIC, KNOWN_SYSTEM, are_locations};
 use std::alloc::Global;
+use std::borrow::CowStr;
 
 /// The locations that a request must have: 1 to 8, no two of one profile.
-pub(crate) fn read_locations(alloc: Global, object: &Tree<'_, '_>) -> Option<Vec<Location>>
-    ensures { IfSome result (λ locations. required locations_in (codes "location") (members_of object.now) ≡ Some (locations_of locations.items)) }
+pub(crate) fn read_locations<'a>(alloc: Global, object: &Tree<'_, 'a>) -> Option<Locations<'a>>
+    ensures { IfSome result (λ locations. required locations_in (codes "location") (members_of object.now) ≡ Some (locations_of locations)) }
 {
     let tree = required_member(object, "location")?;
     read_each_location(alloc, &tree)
 }
 
-fn read_each_location(alloc: Global, tree: &Tree<'_, '_>) -> Option<Vec<Location>>
-    ensures { IfSome result (λ locations. locations_in (data_of tree.now) ≡ Some (locations_of locations.items)) }
+fn read_each_location<'a>(alloc: Global, tree: &Tree<'_, 'a>) -> Option<Locations<'a>>
+    ensures { IfSome result (λ locations. locations_in (data_of tree.now) ≡ Some (locations_of locations)) }
 {
-    let locations = read_list::<Location>(alloc, tree)?;
-    if are_locations(locations.as_slice()) {
+    let locations = read_all(alloc, tree)?;
+    if are_locations(&locations) {
         Some(locations)
     } else {
         None
     }
 }
 
-impl Part for Location {
+/// The locations of an array, where there is one.
+fn read_all<'a>(alloc: Global, tree: &Tree<'_, 'a>) -> Option<Locations<'a>>
+    ensures { IfSome result (λ locations. list_in location_in (data_of tree.now) ≡ Some (locations_of locations)) }
+{
+    let mut items = tree.items()?;
+    let item = items.next()?;
+    let first = Location::read(alloc, &item)?;
+    let rest = read_each::<Location<'a>>(alloc, items)?;
+    Some(Locations { first, rest })
+}
+
+impl<'a> Part<'a> for Location<'a> {
     ghost use Rattle.lost_spec.specs.Request as spec;
 
     ghost Seen = { spec.Location };
@@ -40,7 +52,7 @@ impl Part for Location {
 
     ghost meant = { location_in };
 
-    fn read(alloc: Global, tree: &Tree<'_, '_>) -> Option<Location> {
+    fn read(alloc: Global, tree: &Tree<'_, 'a>) -> Option<Location<'a>> {
         if tree.is_object() {
             read_location(alloc, tree)
         } else {
@@ -50,18 +62,16 @@ impl Part for Location {
 }
 
 /// The location of an object.
-fn read_location(alloc: Global, object: &Tree<'_, '_>) -> Option<Location>
+fn read_location<'a>(alloc: Global, object: &Tree<'_, 'a>) -> Option<Location<'a>>
     ensures { IfSome result (λ location. location_of_members (members_of object.now) ≡ Some (location_of location)) }
 {
     let id = required_text(object, "id")?;
     let profile = required_text(object, "profile")?;
     let srs_known = is_srs_known(profile, object)?;
     let body = read_body(alloc, profile, object)?;
-    let id = owned(alloc, id)?;
-    let profile = owned(alloc, profile)?;
     Some(Location {
-        id,
-        profile,
+        id: CowStr::Borrowed(id),
+        profile: CowStr::Borrowed(profile),
         srs_known,
         body,
     })

@@ -42,7 +42,7 @@ fn read_parts(alloc: Global, object: &Tree<'_, '_>) -> Option<Parts>
     })
 }
 
-impl Part for DisplayName {
+impl<'a> Part<'a> for DisplayName {
     ghost use Rattle.lost_spec.specs.Mapping as spec;
     ghost use Rattle.lost_reading.specs.Desk.{display_name_in};
 
@@ -52,7 +52,7 @@ impl Part for DisplayName {
 
     ghost meant = { display_name_in };
 
-    fn read(alloc: Global, tree: &Tree<'_, '_>) -> Option<DisplayName> {
+    fn read(alloc: Global, tree: &Tree<'_, 'a>) -> Option<DisplayName> {
         if tree.is_object() {
             read_display_name(alloc, tree)
         } else {

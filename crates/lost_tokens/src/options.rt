@@ -1,7 +1,7 @@
 //! The service, the path and the wishes of a request. Rules without a section are this profile's own.
 ghost use Rattle.std.specs.Prelude.{◌≡◌, Some, IfSome, option_map, false, codes};
 ghost use Rattle.serde_json.specs.Find.{as_bool};
-ghost use Rattle.lost_mapping.specs.Texts.{texts_of};
+ghost use Rattle.lost_query.specs.Request.{path_names};
 ghost use Rattle.lost_reading.specs.Members.{service_in, required, optional, defaulting};
 ghost use Rattle.lost_reading.specs.Requests.{path_kind, path_in, by_value_kind};
 ghost use Rattle.lost_tokens.specs.Tapes.{data_of, members_of};
@@ -11,6 +11,7 @@ use crate::tree::Tree;
 use lost_reading::{MAX_NAMES, by_value};
 use lost_urn::ServiceUrn;
 use std::alloc::Global;
+use std::borrow::CowStr;
 
 /// The service of a text.
 fn read_service(alloc: Global, tree: &Tree<'_, '_>) -> Option<ServiceUrn>
@@ -69,8 +70,8 @@ fn read_preference(tree: &Tree<'_, '_>) -> Option<bool>
 }
 
 /// The path of a request (RFC 5222, section 6), empty where it has none.
-pub(crate) fn read_path(alloc: Global, object: &Tree<'_, '_>) -> Option<Vec<String>>
-    ensures { IfSome result (λ path. path_in (members_of object.now) ≡ Some (texts_of path.items)) }
+pub(crate) fn read_path<'a>(alloc: Global, object: &Tree<'_, 'a>) -> Option<Vec<CowStr<'a>>>
+    ensures { IfSome result (λ path. path_in (members_of object.now) ≡ Some (path_names path.items)) }
 {
     match object.member("path") {
         Some(tree) => read_names(alloc, &tree),
@@ -79,10 +80,10 @@ pub(crate) fn read_path(alloc: Global, object: &Tree<'_, '_>) -> Option<Vec<Stri
 }
 
 /// At most 32 texts.
-fn read_names(alloc: Global, tree: &Tree<'_, '_>) -> Option<Vec<String>>
-    ensures { IfSome result (λ path. path_kind (data_of tree.now) ≡ Some (texts_of path.items)) }
+fn read_names<'a>(alloc: Global, tree: &Tree<'_, 'a>) -> Option<Vec<CowStr<'a>>>
+    ensures { IfSome result (λ path. path_kind (data_of tree.now) ≡ Some (path_names path.items)) }
 {
-    let names = read_list::<String>(alloc, tree)?;
+    let names = read_list::<CowStr<'a>>(alloc, tree)?;
     if names.len() <= MAX_NAMES {
         Some(names)
     } else {

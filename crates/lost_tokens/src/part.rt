@@ -7,9 +7,10 @@ ghost use Rattle.lost_tokens.specs.Tapes.{data_of, members_of, HoldsItems};
 
 use crate::tree::{Tree, Trees};
 use std::alloc::Global;
+use std::borrow::CowStr;
 
-/// What a value of a line is read as, where that is certain.
-pub(crate) trait Part: Drop {
+/// What a value of a line is read as, where that is certain. It may borrow the line's texts.
+pub(crate) trait Part<'a>: Drop {
     ghost use Rattle.std.specs.Prelude.{Option};
     ghost use Rattle.serde_json.specs.Data.{Data};
 
@@ -22,11 +23,11 @@ pub(crate) trait Part: Drop {
     ghost meant: { Data → Option Self.Seen };
 
     /// What the value is read as. Nothing is said where it is not read.
-    fn read(alloc: Global, tree: &Tree<'_, '_>) -> Option<Self>
+    fn read(alloc: Global, tree: &Tree<'_, 'a>) -> Option<Self>
         ensures { IfSome result (λ part. meant (data_of tree.now) ≡ Some (seen part)) };
 }
 
-impl Part for String {
+impl<'a> Part<'a> for String {
     ghost use Rattle.lost_spec.specs.Text.{Text};
 
     ghost Seen = { Text };
@@ -35,13 +36,29 @@ impl Part for String {
 
     ghost meant = { as_str };
 
-    fn read(alloc: Global, tree: &Tree<'_, '_>) -> Option<String> {
+    fn read(alloc: Global, tree: &Tree<'_, 'a>) -> Option<String> {
         let text = tree.text()?;
         owned(alloc, text)
     }
 }
 
-impl Part for bool {
+impl<'a> Part<'a> for CowStr<'a> {
+    ghost use Rattle.std.specs.Cow.{cow_str_bytes};
+    ghost use Rattle.lost_spec.specs.Text.{Text};
+
+    ghost Seen = { Text };
+
+    ghost seen = { cow_str_bytes };
+
+    ghost meant = { as_str };
+
+    fn read(_alloc: Global, tree: &Tree<'_, 'a>) -> Option<CowStr<'a>> {
+        let text = tree.text()?;
+        Some(CowStr::Borrowed(text))
+    }
+}
+
+impl<'a> Part<'a> for bool {
     ghost use Rattle.std.specs.Prelude.{Bool};
     ghost use Rattle.serde_json.specs.Find.{as_bool};
 
@@ -51,13 +68,13 @@ impl Part for bool {
 
     ghost meant = { as_bool };
 
-    fn read(_alloc: Global, tree: &Tree<'_, '_>) -> Option<bool> {
+    fn read(_alloc: Global, tree: &Tree<'_, 'a>) -> Option<bool> {
         tree.truth()
     }
 }
 
 /// A list of parts of one kind.
-impl<T: Part> Part for Vec<T> {
+impl<'a, T: Part<'a>> Part<'a> for Vec<T> {
     ghost use Rattle.std.specs.Prelude.{List};
 
     ghost Seen = { List T.Seen };
@@ -66,7 +83,7 @@ impl<T: Part> Part for Vec<T> {
 
     ghost meant = { list_in T.meant };
 
-    fn read(alloc: Global, tree: &Tree<'_, '_>) -> Option<Vec<T>> {
+    fn read(alloc: Global, tree: &Tree<'_, 'a>) -> Option<Vec<T>> {
         read_list::<T>(alloc, tree)
     }
 }
@@ -82,7 +99,7 @@ pub(crate) fn owned(alloc: Global, text: &str) -> Option<String>
 }
 
 /// The list of an array.
-pub(crate) fn read_list<T: Part>(alloc: Global, tree: &Tree<'_, '_>) -> Option<Vec<T>>
+pub(crate) fn read_list<'a, T: Part<'a>>(alloc: Global, tree: &Tree<'_, 'a>) -> Option<Vec<T>>
     ensures { IfSome result (λ list. list_in T.meant (data_of tree.now) ≡ Some (map T.seen list.items)) }
 {
     let items = tree.items()?;
@@ -90,7 +107,7 @@ pub(crate) fn read_list<T: Part>(alloc: Global, tree: &Tree<'_, '_>) -> Option<V
 }
 
 /// Each item, in order.
-fn read_each<T: Part>(alloc: Global, items: Trees<'_, '_>) -> Option<Vec<T>>
+pub(crate) fn read_each<'a, T: Part<'a>>(alloc: Global, items: Trees<'_, 'a>) -> Option<Vec<T>>
     ensures { (held : SpecItems) → HoldsItems items.entry held
         → IfSome result (λ list. each_of T.meant held ≡ Some (map T.seen list.items)) }
 {
@@ -144,7 +161,11 @@ pub(crate) fn read_position(tree: &Tree<'_, '_>) -> Option<(i64, i64)>
 }
 
 /// The part of this name, which must be there.
-pub(crate) fn required<T: Part>(alloc: Global, object: &Tree<'_, '_>, name: &str) -> Option<T>
+pub(crate) fn required<'a, T: Part<'a>>(
+    alloc: Global,
+    object: &Tree<'_, 'a>,
+    name: &str,
+) -> Option<T>
     ensures { IfSome result (λ part. required T.meant name.now (members_of object.now) ≡ Some (T.seen part)) }
 {
     let tree = required_member(object, name)?;
@@ -152,9 +173,9 @@ pub(crate) fn required<T: Part>(alloc: Global, object: &Tree<'_, '_>, name: &str
 }
 
 /// The part of this name, or nothing where none is there.
-pub(crate) fn optional<T: Part>(
+pub(crate) fn optional<'a, T: Part<'a>>(
     alloc: Global,
-    object: &Tree<'_, '_>,
+    object: &Tree<'_, 'a>,
     name: &str,
 ) -> Option<Option<T>>
     ensures { IfSome result (λ found. optional T.meant name.now (members_of object.now) ≡ Some (option_map T.seen found)) }
@@ -166,9 +187,9 @@ pub(crate) fn optional<T: Part>(
 }
 
 /// The part of this name, with what stands for it where it is not there.
-pub(crate) fn defaulting<T: Part>(
+pub(crate) fn defaulting<'a, T: Part<'a>>(
     alloc: Global,
-    object: &Tree<'_, '_>,
+    object: &Tree<'_, 'a>,
     name: &str,
     default: T,
 ) -> Option<T>

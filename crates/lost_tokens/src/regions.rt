@@ -12,7 +12,7 @@ use lost_mapping::Region;
 use lost_reading::{CIVIC, GEODETIC};
 use std::alloc::Global;
 
-impl Part for (i64, i64) {
+impl<'a> Part<'a> for (i64, i64) {
     ghost use Rattle.std.specs.Prelude.{ℤ};
     ghost use Rattle.lost_reading.specs.Members.{position_in};
 
@@ -22,12 +22,12 @@ impl Part for (i64, i64) {
 
     ghost meant = { position_in };
 
-    fn read(_alloc: Global, tree: &Tree<'_, '_>) -> Option<(i64, i64)> {
+    fn read(_alloc: Global, tree: &Tree<'_, 'a>) -> Option<(i64, i64)> {
         read_position(tree)
     }
 }
 
-impl Part for Region {
+impl<'a> Part<'a> for Region {
     ghost use Rattle.lost_spec.specs.Mapping as spec;
 
     ghost Seen = { spec.Region };
@@ -37,7 +37,7 @@ impl Part for Region {
     // What is no region is an unreadable one.
     ghost meant = { λ value. Some (region_in value) };
 
-    fn read(alloc: Global, tree: &Tree<'_, '_>) -> Option<Region> {
+    fn read(alloc: Global, tree: &Tree<'_, 'a>) -> Option<Region> {
         if tree.is_object() {
             read_region(alloc, tree)
         } else {

@@ -10,15 +10,16 @@ ghost use Rattle.lost_tokens.specs.Tapes.{data_of, members_of};
 use crate::locations::read_locations;
 use crate::mappings::read_mapping;
 use crate::options::{optional_service, read_by_value, read_path, read_validate, required_service};
-use crate::part::{owned, required_text};
+use crate::part::required_text;
 use crate::tree::Tree;
 use lost_book::Edit;
 use lost_query::Request;
 use lost_reading::{DeskLine, Line};
 use std::alloc::Global;
+use std::borrow::CowStr;
 
 /// What a line's value is: an object with one member, whose value is an object.
-pub(crate) fn read_root(alloc: Global, root: &Tree<'_, '_>) -> Option<Line>
+pub(crate) fn read_root<'a>(alloc: Global, root: &Tree<'_, 'a>) -> Option<Line<'a>>
     ensures { IfSome result (λ found. GivesWhole (Ok found) (order_in (data_of root.now)) (request_in (data_of root.now))) }
 {
     let (name, value) = root.only_member()?;
@@ -30,7 +31,7 @@ pub(crate) fn read_root(alloc: Global, root: &Tree<'_, '_>) -> Option<Line>
 }
 
 /// What the member of this name is.
-fn read_member(alloc: Global, name: &str, object: &Tree<'_, '_>) -> Option<Line>
+fn read_member<'a>(alloc: Global, name: &str, object: &Tree<'_, 'a>) -> Option<Line<'a>>
     ensures { IfSome result (λ found. GivesWhole (Ok found)
         (if is_desk_name name.now then Some (order_named name.now (members_of object.now)) else None)
         (request_named name.now (members_of object.now))) }
@@ -48,7 +49,7 @@ fn read_member(alloc: Global, name: &str, object: &Tree<'_, '_>) -> Option<Line>
 }
 
 /// The request of this name, which is none of a desk line.
-fn read_named(alloc: Global, name: &str, object: &Tree<'_, '_>) -> Option<Request>
+fn read_named<'a>(alloc: Global, name: &str, object: &Tree<'_, 'a>) -> Option<Request<'a>>
     ensures request { IfSome result (λ request. request_named name.now (members_of object.now) ≡ Some (request_of request)) }
     ensures no_desk_name { OnSome result (is_desk_name name.now ≡ false) }
 {
@@ -66,7 +67,7 @@ fn read_named(alloc: Global, name: &str, object: &Tree<'_, '_>) -> Option<Reques
 }
 
 /// `findService` (RFC 5222, section 8).
-fn read_find_service(alloc: Global, object: &Tree<'_, '_>) -> Option<Request>
+fn read_find_service<'a>(alloc: Global, object: &Tree<'_, 'a>) -> Option<Request<'a>>
     ensures { IfSome result (λ request. find_service_of (members_of object.now) ≡ Some (request_of request)) }
 {
     let service = required_service(alloc, object)?;
@@ -84,7 +85,7 @@ fn read_find_service(alloc: Global, object: &Tree<'_, '_>) -> Option<Request>
 }
 
 /// `listServicesByLocation` (RFC 5222, section 11).
-fn read_services_at(alloc: Global, object: &Tree<'_, '_>) -> Option<Request>
+fn read_services_at<'a>(alloc: Global, object: &Tree<'_, 'a>) -> Option<Request<'a>>
     ensures { IfSome result (λ request. services_at_of (members_of object.now) ≡ Some (request_of request)) }
 {
     let service = optional_service(alloc, object)?;
@@ -98,7 +99,7 @@ fn read_services_at(alloc: Global, object: &Tree<'_, '_>) -> Option<Request>
 }
 
 /// `listServices` (RFC 5222, section 10).
-fn read_services(alloc: Global, object: &Tree<'_, '_>) -> Option<Request>
+fn read_services<'a>(alloc: Global, object: &Tree<'_, 'a>) -> Option<Request<'a>>
     ensures { IfSome result (λ request. services_of (members_of object.now) ≡ Some (request_of request)) }
 {
     let service = optional_service(alloc, object)?;
@@ -107,11 +108,13 @@ fn read_services(alloc: Global, object: &Tree<'_, '_>) -> Option<Request>
 }
 
 /// `getServiceBoundary` (RFC 5222, section 9).
-fn read_boundary(alloc: Global, object: &Tree<'_, '_>) -> Option<Request>
+fn read_boundary<'a>(alloc: Global, object: &Tree<'_, 'a>) -> Option<Request<'a>>
     ensures { IfSome result (λ request. boundary_of (members_of object.now) ≡ Some (request_of request)) }
 {
     let key = required_text(object, "key")?;
     let path = read_path(alloc, object)?;
-    let key = owned(alloc, key)?;
-    Some(Request::GetServiceBoundary { key, path })
+    Some(Request::GetServiceBoundary {
+        key: CowStr::Borrowed(key),
+        path,
+    })
 }

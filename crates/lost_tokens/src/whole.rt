@@ -12,8 +12,12 @@ use lost_reading::{DeskFault, Line, ReadError};
 use std::alloc::Global;
 
 /// Reads a line (own format) as [`lost_reading::read_line`] does, with its errors, and sooner where it is of a common
-/// shape. What `scratch` holds is kept from line to line.
-pub fn read_line(alloc: Global, line: &[u8], scratch: &mut Scratch) -> Result<Line, DeskFault>
+/// shape. A request borrows its texts as that of [`read_common`] does. What `scratch` holds is kept from line to line.
+pub fn read_line<'a>(
+    alloc: Global,
+    line: &'a [u8],
+    scratch: &'a mut Scratch,
+) -> Result<Line<'a>, DeskFault>
     ensures { GivesWhole result (desk_line line.now) (line_request line.now) }
 {
     match read_common_line(alloc, line, scratch) {
@@ -23,8 +27,12 @@ pub fn read_line(alloc: Global, line: &[u8], scratch: &mut Scratch) -> Result<Li
 }
 
 /// Reads a request line as [`lost_reading::read_request`] does, with its errors, and sooner where its shape is common.
-/// What `scratch` holds is kept from line to line.
-pub fn read_request(alloc: Global, line: &[u8], scratch: &mut Scratch) -> Result<Request, ReadError>
+/// It borrows its texts as that of [`read_common`] does. What `scratch` holds is kept from line to line.
+pub fn read_request<'a>(
+    alloc: Global,
+    line: &'a [u8],
+    scratch: &'a mut Scratch,
+) -> Result<Request<'a>, ReadError>
     ensures { Gives request_of result (line_request line.now) }
 {
     match read_common(alloc, line, scratch) {

@@ -1,5 +1,7 @@
 -- The trees of replies, written part by part.
-use Rattle.std.proofs.Common.{◌≡◌, ℕ, List, [], ◌∷◌, ◌++◌, Option, option_map, codes, ap, sym, ◌∙◌}
+use Rattle.std.proofs.Common.{◌≡◌, ℕ, List, [], ◌∷◌, ◌++◌, map, Option, option_map, codes, ap, sym, ◌∙◌}
+use Rattle.std.proofs.lemmas.List.{map-append}
+use Rattle.std.proofs.lemmas.Simd.{map-map}
 use Rattle.json.specs.Token.{Token, begin_object, end_object, begin_array, end_array, key}
 use Rattle.serde_json.specs.Data.{Data, Members, no_members, member, array, object, string, number, unsigned}
 use Rattle.serde_json.specs.Find.{of_integer}
@@ -9,7 +11,7 @@ use Rattle.lost_spec.specs.Ring.{Point}
 use Rattle.lost_spec.specs.Service.{service_text}
 use Rattle.lost_spec.specs.Mapping.{Mapping}
 use Rattle.lost_spec.specs.Request.{Boundary}
-use Rattle.lost_writing.specs.Replies.{texts_data, member_if, one_member, position_data, expires_text, display_names_data, value_data, reference_data, mapping_data}
+use Rattle.lost_writing.specs.Replies.{list_data, texts_data, member_if, one_member, position_data, expires_text, display_names_data, value_data, reference_data, mapping_data}
 use Rattle.lost_writing.specs.Tokens.{then_token, then_value, then_member, then_member_if, then_members, then_values, then_begun, then_ended}
 use Rattle.lost_writing.proofs.TokenLemmas.{object_written, list_written, member_if_written, values_joined}
 
@@ -52,6 +54,13 @@ inner_four name a x b y c z d w before = inner_written name (member a x (member 
 pub regions_written : (first second : List Data) (before : List Token)
     → then_token end_array (then_values second (then_values first (then_token begin_array before))) ≡ then_value (array (items_of (first ++ second))) before
 regions_written first second before = ap (then_token end_array) (sym (values_joined first second (then_token begin_array before))) ∙ list_written (first ++ second) before
+
+-- a list of what things stand for, and one more
+pub longer_list_written : {Thing Seen : Type 0} (written : Seen → Data) (seen : Thing → Seen) (things : List Thing) (last : Seen) (before : List Token)
+    → then_token end_array (then_value (written last) (then_values (map (λ thing. written (seen thing)) things) (then_token begin_array before))) ≡ then_value (list_data written (map seen things ++ last ∷ [])) before
+longer_list_written written seen things last before =
+    let trees = sym (map-append written (map seen things) (last ∷ []) ∙ ap (λ front. front ++ written last ∷ []) (map-map written seen things)) in
+    regions_written (map (λ thing. written (seen thing)) things) (written last ∷ []) before ∙ ap (λ list. then_value (array (items_of list)) before) trees
 
 pub position_written : (point : Point) (before : List Token)
     → then_token end_array (then_value (number (of_integer point.lon)) (then_value (number (of_integer point.lat)) (then_token begin_array before))) ≡ then_value (position_data point) before

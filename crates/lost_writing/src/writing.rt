@@ -20,7 +20,7 @@ const ROOM: usize = 1_024;
 
 /// The line of a reply (RFC 5222, sections 8.4, 9 to 11 and 13; own format), its byte 10 too, or want of memory.
 #[tactic(auto, unfolding(crate::specs::Replies::reply_text), using(crate::proofs::TokenLemmas::value_printed))]
-pub fn write_reply(alloc: Global, reply: &Reply) -> Result<Vec<u8>, AllocError>
+pub fn write_reply(alloc: Global, reply: &Reply<'_>) -> Result<Vec<u8>, AllocError>
     ensures { IfOk result (λ line. line.items ≡ reply_text (reply_of reply.now)) }
 {
     let mut text = TokenText::with_room(alloc, ROOM)?;

@@ -2,7 +2,7 @@
 use crate::shown::shown;
 use lost_civic::{CivicAddress, Element};
 use lost_mapping::Moment;
-use lost_query::{Holdings, Place};
+use lost_query::{Holdings, Place, Positions};
 use lost_urn::ServiceUrn;
 use std::alloc::{AllocError, Global};
 
@@ -45,7 +45,7 @@ pub(crate) enum Answer {
     /// Yes or no.
     Truth(bool),
     /// Positions.
-    Positions(Vec<usize>),
+    Positions(Positions),
     /// Services.
     Services(Vec<ServiceUrn>),
 }

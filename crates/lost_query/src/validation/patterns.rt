@@ -5,8 +5,10 @@ ghost use Rattle.std.specs.Fn.{FnReturnsAt};
 ghost use Rattle.lost_spec.specs.Civic.{Pairs, pattern_fault, matches};
 ghost use Rattle.lost_spec.specs.Validation.{names_it, agrees, patterns_in, of_service};
 ghost use Rattle.lost_civic.specs.Element.{element_name};
+ghost use Rattle.lost_query.specs.Finding.{mappings_of};
 ghost use Rattle.lost_query.specs.Judged.{is_named, is_agreed, is_contradicted, is_reference};
 
+use crate::found::Found;
 use crate::holdings::Holdings;
 use lost_civic::{CivicAddress, CivicPattern, Element};
 use lost_mapping::{Mapping, Moment};
@@ -101,15 +103,20 @@ fn add_patterns<'a, F: Fn(&CivicPattern) -> bool>(
 /// The patterns of found mappings that match an address (RFC 5222, section 8.4.2), or want of memory.
 pub(super) fn matching_patterns<'a>(
     alloc: Global,
-    found: &'a [Mapping],
+    found: &'a Found,
     address: &CivicAddress,
 ) -> Result<Vec<&'a CivicPattern>, AllocError>
     ensures matching { IfOk result (λ patterns.
-        map (λ p. p.now) patterns.items ≡ filter (λ p. matches p address.now) (patterns_in found.now)) }
+        map (λ p. p.now) patterns.items ≡ filter (λ p. matches p address.now) (patterns_in (mappings_of found.now))) }
     ensures lawful { IfOk result (λ patterns. AllByRecursion (λ p. pattern_fault p ≡ None) (map (λ p. p.now) patterns.items)) }
 {
     let mut patterns = Vec::new(alloc);
-    for mapping in found {
+    add_patterns(
+        &mut patterns,
+        &found.first,
+        |pattern| pattern.matches(address),
+    )?;
+    for mapping in &found.rest {
         add_patterns(&mut patterns, mapping, |pattern| pattern.matches(address))?;
     }
     Ok(patterns)
@@ -131,7 +138,7 @@ pub(super) fn reference_patterns<'a, H: Holdings>(
 {
     let positions = holdings.referring(moment, service, address, valid)?;
     let mut patterns = Vec::new(alloc);
-    for position in &positions {
+    for position in positions.as_slice() {
         add_patterns(
             &mut patterns,
             holdings.mapping(*position),

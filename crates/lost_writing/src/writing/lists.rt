@@ -2,11 +2,14 @@
 ghost use Rattle.std.specs.Prelude.{◌≡◌, map, OnOk};
 ghost use Rattle.serde_json.specs.Data.{string};
 ghost use Rattle.lost_mapping.specs.Texts.{texts_of};
+ghost use Rattle.lost_query.specs.Path.{shown_path};
 ghost use Rattle.lost_writing.specs.Replies.{list_data, texts_data};
 ghost use Rattle.lost_writing.specs.Tokens.{then_value, then_values};
 
 use crate::token_text::TokenText;
+use lost_query::Path;
 use std::alloc::AllocError;
+use std::borrow::CowStr;
 
 /// What is written as a tree (own format).
 pub(crate) trait Written {
@@ -24,6 +27,16 @@ impl Written for String {
     ghost use Rattle.std.specs.Prelude.{string_bytes};
 
     ghost tree = { λ text. string (string_bytes text) };
+
+    fn write(&self, text: &mut TokenText) -> Result<(), AllocError> {
+        text.text(self.as_str())
+    }
+}
+
+impl Written for CowStr<'_> {
+    ghost use Rattle.std.specs.Cow.{cow_str_bytes};
+
+    ghost tree = { λ text. string (cow_str_bytes text) };
 
     fn write(&self, text: &mut TokenText) -> Result<(), AllocError> {
         text.text(self.as_str())
@@ -56,4 +69,14 @@ pub(crate) fn write_texts(text: &mut TokenText, texts: &[String]) -> Result<(), 
     ensures { OnOk result (text.new ≡ then_value (texts_data (texts_of texts.now)) text.old) }
 {
     write_list(text, texts)
+}
+
+/// Writes the list of the names of a reply's path (RFC 5222, section 6).
+pub(crate) fn write_path(text: &mut TokenText, path: &Path<'_>) -> Result<(), AllocError>
+    ensures { OnOk result (text.new ≡ then_value (texts_data (shown_path path.now)) text.old) }
+{
+    text.begin_list()?;
+    write_each(text, path.names)?;
+    text.text(path.server.text())?;
+    text.end_list()
 }

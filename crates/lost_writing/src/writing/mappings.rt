@@ -1,21 +1,21 @@
 //! Mappings (RFC 5222, section 8.4.1).
-ghost use Rattle.std.specs.Prelude.{◌≡◌, OnOk, option_map, codes};
+ghost use Rattle.std.specs.Prelude.{◌≡◌, OnOk, map, option_map, codes};
 ghost use Rattle.std.specs.Option.{option_copied};
 ghost use Rattle.serde_json.specs.Data.{string};
 ghost use Rattle.lost_spec.specs.Answer.{reference_of};
 ghost use Rattle.lost_spec.specs.Service.{service_text};
 ghost use Rattle.lost_mapping.specs.Expires.{expires_seen};
 ghost use Rattle.lost_mapping.specs.Parts.{display_name_of};
-ghost use Rattle.lost_query.specs.Reply.{boundary_of, shown_of};
-ghost use Rattle.lost_writing.specs.Replies.{display_name_data, display_names_data, expires_text as text_of_expires, value_data, reference_data, mapping_data, shown_data, texts_data};
-ghost use Rattle.lost_writing.specs.Tokens.{then_member, then_member_if, then_value};
+ghost use Rattle.lost_query.specs.Reply.{boundary_of, shown_with, all_shown_of};
+ghost use Rattle.lost_writing.specs.Replies.{display_name_data, display_names_data, expires_text as text_of_expires, value_data, reference_data, list_data, shown_data, texts_data};
+ghost use Rattle.lost_writing.specs.Tokens.{then_member, then_member_if, then_value, then_values};
 ghost use Rattle.lost_writing.specs.Written.{key_data};
 
 use crate::token_text::TokenText;
 use crate::writing::lists::Written;
 use crate::writing::members::{list_member, list_member_if_any, text_member, texts_member};
 use lost_mapping::{DisplayName, Expires, Mapping};
-use lost_query::{Boundary, ShownMapping};
+use lost_query::{Boundary, FoundMappings};
 use std::alloc::AllocError;
 
 impl Written for DisplayName {
@@ -109,7 +109,6 @@ fn boundary_member(
         Boundary::ByReference => Ok(()),
         Boundary::ByPolygons => list_member(text, "serviceBoundary", mapping.polygons()),
         Boundary::ByPatterns => list_member(text, "serviceBoundary", mapping.patterns()),
-        Boundary::NoBoundary => Ok(()),
     }
 }
 
@@ -151,7 +150,6 @@ fn reference_member(
         Boundary::ByReference => key_member(text, mapping),
         Boundary::ByPolygons => Ok(()),
         Boundary::ByPatterns => Ok(()),
-        Boundary::NoBoundary => Ok(()),
     }
 }
 
@@ -166,22 +164,38 @@ fn number_member(text: &mut TokenText, mapping: &Mapping) -> Result<(), AllocErr
     }
 }
 
-/// Writes a mapping with this boundary.
+/// Writes the boundary of a mapping by value or by reference, and none where it is a default (RFC 5222, section 8.3.4).
+fn shown_members(
+    text: &mut TokenText,
+    mapping: &Mapping,
+    boundary: Boundary,
+) -> Result<(), AllocError>
+    ensures { OnOk result (text.new
+        ≡ then_member_if (codes "serviceBoundaryReference") (reference_data (shown_with boundary mapping.now).boundary)
+        (then_member_if (codes "serviceBoundary") (value_data (shown_with boundary mapping.now).boundary) text.old)) }
+{
+    if mapping.is_default() {
+        return Ok(());
+    }
+    boundary_member(text, mapping, boundary)?;
+    reference_member(text, mapping, boundary)
+}
+
+/// Writes a mapping with the boundary of this kind, and none where it is a default (RFC 5222, section 8.4.1).
 fn write_mapping(
     text: &mut TokenText,
     mapping: &Mapping,
     boundary: Boundary,
 ) -> Result<(), AllocError>
     ensures { OnOk result
-        (text.new ≡ then_value (mapping_data (boundary_of boundary mapping.now) mapping.now) text.old) }
+        (text.new ≡ then_value (shown_data (shown_with boundary mapping.now)) text.old) }
 {
     text.begin_object()?;
     names_member(text, mapping)?;
     expires_member(text, mapping)?;
     updated_member(text, mapping)?;
     service_member(text, mapping)?;
-    boundary_member(text, mapping, boundary)?;
-    reference_member(text, mapping, boundary)?;
+    shown_members(text, mapping, boundary)?;
     number_member(text, mapping)?;
     source_member(text, mapping)?;
     source_id_member(text, mapping)?;
@@ -189,10 +203,31 @@ fn write_mapping(
     text.end_object()
 }
 
-impl Written for ShownMapping {
-    ghost tree = { λ shown. shown_data (shown_of shown) };
-
-    fn write(&self, text: &mut TokenText) -> Result<(), AllocError> {
-        write_mapping(text, &self.mapping, self.boundary)
+/// Writes each mapping with the boundary of this kind, without the brackets of a list.
+fn write_mappings(
+    text: &mut TokenText,
+    mappings: &[Mapping],
+    boundary: Boundary,
+) -> Result<(), AllocError>
+    ensures { OnOk result
+        (text.new ≡ then_values (map (λ m. shown_data (shown_with boundary m)) mappings.now) text.old) }
+{
+    for mapping in mappings {
+        write_mapping(text, mapping, boundary)?;
     }
+    Ok(())
+}
+
+/// Writes the list of the mappings that were found (RFC 5222, section 8.4).
+pub(crate) fn write_found_mappings(
+    text: &mut TokenText,
+    found: &FoundMappings,
+) -> Result<(), AllocError>
+    ensures { OnOk result
+        (text.new ≡ then_value (list_data shown_data (all_shown_of found.now)) text.old) }
+{
+    text.begin_list()?;
+    write_mapping(text, &found.first, found.boundary)?;
+    write_mappings(text, &found.rest, found.boundary)?;
+    text.end_list()
 }

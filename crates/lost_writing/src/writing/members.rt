@@ -1,13 +1,15 @@
 //! Members of objects.
-ghost use Rattle.std.specs.Prelude.{◌≡◌, OnOk};
+ghost use Rattle.std.specs.Prelude.{◌≡◌, OnOk, codes};
 ghost use Rattle.serde_json.specs.Data.{number, string, unsigned};
 ghost use Rattle.lost_mapping.specs.Texts.{texts_of};
+ghost use Rattle.lost_query.specs.Path.{shown_path};
 ghost use Rattle.lost_writing.specs.Replies.{list_data, texts_data};
 ghost use Rattle.lost_writing.specs.Tokens.{then_member, then_member_if};
 ghost use Rattle.lost_writing.specs.Written.{list_if_any};
 
 use crate::token_text::TokenText;
-use crate::writing::lists::{Written, write_list, write_texts};
+use crate::writing::lists::{Written, write_list, write_path, write_texts};
+use lost_query::Path;
 use std::alloc::AllocError;
 
 /// Writes a text at a name.
@@ -36,6 +38,14 @@ pub(crate) fn texts_member(
 {
     text.name(name)?;
     write_texts(text, texts)
+}
+
+/// Writes the path of a reply (RFC 5222, section 6).
+pub(crate) fn path_member(text: &mut TokenText, path: &Path<'_>) -> Result<(), AllocError>
+    ensures { OnOk result (text.new ≡ then_member (codes "path") (texts_data (shown_path path.now)) text.old) }
+{
+    text.name("path")?;
+    write_path(text, path)
 }
 
 /// Writes a list of things at a name.

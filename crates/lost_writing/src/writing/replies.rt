@@ -1,20 +1,21 @@
 //! The tokens of replies.
 ghost use Rattle.std.specs.Prelude.{◌≡◌, OnOk, option_map, codes};
 ghost use Rattle.lost_spec.specs.Request as spec;
-ghost use Rattle.lost_mapping.specs.Texts.{texts_of};
+ghost use Rattle.lost_query.specs.Path.{shown_path};
 ghost use Rattle.lost_query.specs.Reply.{all_shown_of, validation_of, reply_of};
 ghost use Rattle.lost_writing.specs.Replies.{list_data, shown_data, validation_data, warnings_data, services_data, warning_name as warning_text, error_data, reply_data};
 ghost use Rattle.lost_writing.specs.Tokens.{then_begun, then_ended, then_member, then_member_if, then_value};
 
 use crate::token_text::TokenText;
 use crate::writing::lists::Written;
+use crate::writing::mappings::write_found_mappings;
 use crate::writing::members::{
-    count_member, list_member, list_member_if_any, text_member, texts_member,
+    count_member, list_member, list_member_if_any, path_member, text_member, texts_member,
 };
 use crate::writing::names::{error_name, warning_name};
 use crate::writing::regions::write_regions;
 use lost_mapping::Mapping;
-use lost_query::{AnswerError, Reply, ShownMapping, Validation, Warning};
+use lost_query::{AnswerError, FoundMappings, Path, Reply, Validation, Warning};
 use lost_urn::ServiceUrn;
 use std::alloc::AllocError;
 
@@ -73,11 +74,12 @@ fn warnings_member(text: &mut TokenText, warnings: &[Warning]) -> Result<(), All
 }
 
 /// Writes the mappings of a reply.
-fn mappings_member(text: &mut TokenText, mappings: &[ShownMapping]) -> Result<(), AllocError>
+fn mappings_member(text: &mut TokenText, mappings: &FoundMappings) -> Result<(), AllocError>
     ensures { OnOk result (text.new
         ≡ then_member (codes "mapping") (list_data shown_data (all_shown_of mappings.now)) text.old) }
 {
-    list_member(text, "mapping", mappings)
+    text.name("mapping")?;
+    write_found_mappings(text, mappings)
 }
 
 /// Writes the services of a reply.
@@ -111,19 +113,19 @@ fn write_found(
     edition: u64,
     location_used: &str,
     judged: &Option<Validation>,
-    mappings: &[ShownMapping],
-    path: &[String],
+    mappings: &FoundMappings,
+    path: &Path<'_>,
     warnings: &[Warning],
 ) -> Result<(), AllocError>
     ensures { OnOk result (text.new ≡ then_value (reply_data (spec.FindServiceResponse edition location_used.now
-        (option_map validation_of judged.now) (all_shown_of mappings.now) (texts_of path.now) warnings.now)) text.old) }
+        (option_map validation_of judged.now) (all_shown_of mappings.now) (shown_path path.now) warnings.now)) text.old) }
 {
     begin(text, "findServiceResponse")?;
     count_member(text, "edition", edition)?;
     text_member(text, "locationUsed", location_used)?;
     validation_member(text, judged)?;
     mappings_member(text, mappings)?;
-    texts_member(text, "path", path)?;
+    path_member(text, path)?;
     warnings_member(text, warnings)?;
     end(text)
 }
@@ -133,16 +135,16 @@ fn write_services_at(
     text: &mut TokenText,
     edition: u64,
     location_used: &str,
-    path: &[String],
+    path: &Path<'_>,
     services: &[ServiceUrn],
 ) -> Result<(), AllocError>
     ensures { OnOk result (text.new ≡ then_value (reply_data
-        (spec.ListServicesByLocationResponse edition location_used.now (texts_of path.now) services.now)) text.old) }
+        (spec.ListServicesByLocationResponse edition location_used.now (shown_path path.now) services.now)) text.old) }
 {
     begin(text, "listServicesByLocationResponse")?;
     count_member(text, "edition", edition)?;
     text_member(text, "locationUsed", location_used)?;
-    texts_member(text, "path", path)?;
+    path_member(text, path)?;
     services_member(text, services)?;
     end(text)
 }
@@ -151,15 +153,15 @@ fn write_services_at(
 fn write_services_anywhere(
     text: &mut TokenText,
     edition: u64,
-    path: &[String],
+    path: &Path<'_>,
     services: &[ServiceUrn],
 ) -> Result<(), AllocError>
     ensures { OnOk result (text.new ≡ then_value
-        (reply_data (spec.ListServicesResponse edition (texts_of path.now) services.now)) text.old) }
+        (reply_data (spec.ListServicesResponse edition (shown_path path.now) services.now)) text.old) }
 {
     begin(text, "listServicesResponse")?;
     count_member(text, "edition", edition)?;
-    texts_member(text, "path", path)?;
+    path_member(text, path)?;
     services_member(text, services)?;
     end(text)
 }
@@ -168,15 +170,15 @@ fn write_services_anywhere(
 fn write_all_regions(
     text: &mut TokenText,
     edition: u64,
-    path: &[String],
+    path: &Path<'_>,
     mapping: &Mapping,
 ) -> Result<(), AllocError>
     ensures { OnOk result (text.new ≡ then_value (reply_data (spec.GetServiceBoundaryResponse edition
-        (texts_of path.now) mapping.now.polygons mapping.now.patterns)) text.old) }
+        (shown_path path.now) mapping.now.polygons mapping.now.patterns)) text.old) }
 {
     begin(text, "getServiceBoundaryResponse")?;
     count_member(text, "edition", edition)?;
-    texts_member(text, "path", path)?;
+    path_member(text, path)?;
     text.name("serviceBoundary")?;
     write_regions(text, mapping.polygons(), mapping.patterns())?;
     end(text)
@@ -206,7 +208,7 @@ fn write_error(text: &mut TokenText, name: &str) -> Result<(), AllocError>
 }
 
 /// Writes a reply (RFC 5222, sections 8.4, 9 to 11 and 13; own format), or wants memory.
-pub(crate) fn write_tree(text: &mut TokenText, reply: &Reply) -> Result<(), AllocError>
+pub(crate) fn write_tree(text: &mut TokenText, reply: &Reply<'_>) -> Result<(), AllocError>
     ensures { OnOk result (text.new ≡ then_value (reply_data (reply_of reply.now)) text.old) }
 {
     match reply {

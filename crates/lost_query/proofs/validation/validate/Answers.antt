@@ -2,6 +2,7 @@ use Rattle.std.proofs.Common.{◌≡◌, ◌∙◌, ◌++◌, Bor, map, refl, sy
 use Rattle.lost_spec.specs.Civic.{Pairs}
 use Rattle.lost_spec.specs.Validation.{Validation, validation}
 use Rattle.lost_civic.specs.Element.{element_name}
+use Rattle.lost_query.specs.Finding.{mappings_of}
 use Rattle.lost_query.proofs.JudgedLemmas.{others_of, validation_is}
 use Rattle.lost_query.proofs.validation.validate.Goals as goal
 
@@ -16,8 +17,8 @@ returns g c =
     let invalid = c.deref-4.result.now in
     let unchecked = c.deref-5.result.now in
     let named = map element_name in
-    let whole : ◌≡◌ {A = Validation} (record { invalid = named invalid; unchecked = named unchecked ++ others_of address; valid = named c.deref-6.result.now }) (validation book c.args.moment.now c.args.service.now c.args.found.now address) =
-    validation_is book c.args.moment.now c.args.service.now c.args.found.now address (seen references) valid others invalid unchecked
+    let whole : ◌≡◌ {A = Validation} (record { invalid = named invalid; unchecked = named unchecked ++ others_of address; valid = named c.deref-6.result.now }) (validation book c.args.moment.now c.args.service.now (mappings_of c.args.found.now) address) =
+    validation_is book c.args.moment.now c.args.service.now (mappings_of c.args.found.now) address (seen references) valid others invalid unchecked
     (c.deref.ensures.value ∙ c.in_ok-valid.ensures.valid)
     (c.deref-3.ensures.value ∙ c.in_ok-valid.ensures.others)
     c.in_ok-valid.ensures.unknown

@@ -12,13 +12,13 @@ use Rattle.lost_query.proofs.validation.patterns.reference_patterns.Goals as goa
 pub mapping-requires : goal.mapping-requires
 mapping-requires g c =
     let test = is_referring c.args.moment.now c.args.service.now c.args.address.now c.args.valid.now in
-    get_or-below test (g.H.Holdings.book c.args.holdings.now).mappings c.deref-position-items.result.now c.loop-position.position-index (c.deref-position-items.ensures.value ∙ c.in_ok-positions.ensures) c.loop-position-test.true
+    get_or-below test (g.H.Holdings.book c.args.holdings.now).mappings c.as_slice-position-items.result.now c.loop-position.position-index (c.as_slice-position-items.ensures ∙ c.in_ok-positions.ensures) c.loop-position-test.true
 
 pub loop-position-preserved : goal.loop-position-preserved
 loop-position-preserved g c =
     let seen = map (λ (p : Bor Pairs). p.now) in
     let ms = (g.H.Holdings.book c.args.holdings.now).mappings in
-    let ps = c.deref-position-items.result.now in
+    let ps = c.as_slice-position-items.result.now in
     let i = c.loop-position.position-index in
     let m = c.mapping.result.now in
     let test = is_reference c.args.valid.now c.args.address.now in
@@ -32,6 +32,6 @@ returns g c =
     let serving = λ (m : Mapping). serves m c.args.moment.now c.args.service.now in
     let passing = is_reference c.args.valid.now c.args.address.now in
     let ms = (g.H.Holdings.book c.args.holdings.now).mappings in
-    let ps = c.deref-position-items.result.now in
-    let all = at_positions_all test ms ps c.loop-position.position-index (c.deref-position-items.ensures.value ∙ c.in_ok-positions.ensures) c.loop-position-test.false in
+    let ps = c.as_slice-position-items.result.now in
+    let all = at_positions_all test ms ps c.loop-position.position-index (c.as_slice-position-items.ensures ∙ c.in_ok-positions.ensures) c.loop-position-test.false in
     c.loop-position.invariant ∙ ap (λ ns. filter passing (patterns_in ns)) all ∙ passing_of_some passing serving ms

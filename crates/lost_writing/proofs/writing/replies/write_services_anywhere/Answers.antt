@@ -1,6 +1,6 @@
 use Rattle.std.proofs.Common.{codes}
 use Rattle.serde_json.specs.Data.{number, unsigned}
-use Rattle.lost_mapping.specs.Texts.{texts_of}
+use Rattle.lost_query.specs.Path.{shown_path}
 use Rattle.lost_writing.specs.Replies.{services_data, texts_data}
 use Rattle.lost_writing.proofs.ShapeLemmas.{inner_three}
 use Rattle.lost_writing.proofs.TokenLemmas.{when_ok}
@@ -8,5 +8,5 @@ use Rattle.lost_writing.proofs.writing.replies.write_services_anywhere.Goals as 
 
 pub returns : goal.returns
 returns c =
-    let written = inner_three (codes "listServicesResponse") (codes "edition") (number (unsigned c.args.edition)) (codes "path") (texts_data (texts_of c.args.path.now)) (codes "serviceList") (services_data c.args.services.now) c.args.text.now in
-    when_ok c.end.result c.end.ensures (λ ended. rw (ended, c.in_ok-services_member.ensures, c.in_ok-texts_member.ensures, c.in_ok-count_member.ensures, c.in_ok-begin.ensures) written)
+    let written = inner_three (codes "listServicesResponse") (codes "edition") (number (unsigned c.args.edition)) (codes "path") (texts_data (shown_path c.args.path.now)) (codes "serviceList") (services_data c.args.services.now) c.args.text.now in
+    when_ok c.end.result c.end.ensures (λ ended. rw (ended, c.in_ok-services_member.ensures, c.in_ok-path_member.ensures, c.in_ok-count_member.ensures, c.in_ok-begin.ensures) written)

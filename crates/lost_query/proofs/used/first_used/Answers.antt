@@ -7,7 +7,7 @@ use Rattle.lost_spec.specs.Request as spec
 use Rattle.lost_spec.specs.Answer.{is_geodetic, is_civic}
 use Rattle.lost_query.specs.Request.{location_of}
 use Rattle.lost_query.proofs.FindLemmas.{find-map}
-use Rattle.lost_query.proofs.used.location_used.Goals as goal
+use Rattle.lost_query.proofs.used.first_used.Goals as goal
 
 pub returns : goal.returns
 returns c =

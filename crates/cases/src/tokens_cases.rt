@@ -1,0 +1,56 @@
+//! Calls of lost_tokens: what lines are read as by their tokens.
+use crate::fields::Fields;
+use crate::line_cases::{shown_order, shown_request};
+use crate::trouble::Trouble;
+use crate::words::{owned, refused};
+use lost_json::{DeskFault, ReadError};
+use lost_mapping::MappingError;
+use lost_reading::Line;
+use lost_tokens::{Scratch, read_common, read_line, read_request};
+use std::alloc::Global;
+
+/// What a call gives.
+pub(crate) fn said(alloc: Global, call: &str, fields: &Fields) -> Result<String, Trouble> {
+    match call {
+        "tokens common" => common(alloc, fields.bytes(1)?),
+        "tokens request" => request(alloc, fields.bytes(1)?),
+        "tokens line" => line(alloc, fields.bytes(1)?),
+        _ => Err(Trouble::NoCase),
+    }
+}
+
+/// What a request line of a common shape is read as, or `none`. Nothing is said of a line for want of memory too, so it is
+/// then read once more.
+fn common(alloc: Global, line: &[u8]) -> Result<String, Trouble> {
+    let mut scratch = Scratch::new(alloc);
+    if let Some(request) = read_common(alloc, line, &mut scratch) {
+        return shown_request(alloc, &request);
+    }
+    let mut again = Scratch::new(alloc);
+    match read_common(alloc, line, &mut again) {
+        Some(_) => Err(Trouble::Memory),
+        None => owned(alloc, "none"),
+    }
+}
+
+/// What a request line is read as, or the number of the refusal.
+fn request(alloc: Global, line: &[u8]) -> Result<String, Trouble> {
+    let mut scratch = Scratch::new(alloc);
+    match read_request(alloc, line, &mut scratch) {
+        Ok(request) => shown_request(alloc, &request),
+        Err(ReadError::Memory) => Err(Trouble::Memory),
+        Err(refusal) => refused(alloc, refusal.code()),
+    }
+}
+
+/// What a line is read as, the number of its refusal, or `neither`.
+fn line(alloc: Global, line: &[u8]) -> Result<String, Trouble> {
+    let mut scratch = Scratch::new(alloc);
+    match read_line(alloc, line, &mut scratch) {
+        Ok(Line::Request(request)) => shown_request(alloc, &request),
+        Ok(Line::Desk(order)) => shown_order(alloc, &order),
+        Ok(Line::Neither) => owned(alloc, "neither"),
+        Err(DeskFault::Mapping(MappingError::Memory)) => Err(Trouble::Memory),
+        Err(fault) => refused(alloc, fault.code()),
+    }
+}
