@@ -2,8 +2,8 @@
 use lost_urn::ServiceUrn;
 use std::borrow::CowStr;
 
-/// A request (RFC 5222, sections 8 to 11). Its texts are borrowed from what it was read from, or owned. `path` has the names of the servers that it came by, in order (RFC 5222,
-/// section 6).
+/// A request (RFC 5222, sections 8 to 11). Its texts are borrowed from what it was read from, or owned. `path` has the
+/// names of the servers that it came by, in order (RFC 5222, section 6).
 #[derive(Drop)]
 pub enum Request<'a> {
     /// The mappings for a service at a location (RFC 5222, section 8). `validate` asks for validation of a civic
