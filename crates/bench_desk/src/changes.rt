@@ -24,27 +24,6 @@ pub(crate) struct Costs {
     pub(crate) withdraw: Cost,
 }
 
-impl Cost {
-    /// The less of each.
-    fn least(self, other: Cost) -> Cost {
-        Cost {
-            whole: self.whole.min(other.whole),
-            commit: self.commit.min(other.commit),
-        }
-    }
-}
-
-impl Costs {
-    /// The less of each.
-    pub(crate) fn least(self, other: Costs) -> Costs {
-        Costs {
-            publish: self.publish.least(other.publish),
-            replace: self.replace.least(other.replace),
-            withdraw: self.withdraw.least(other.withdraw),
-        }
-    }
-}
-
 /// How long edits of a kind took, each with its commit, and their commits alone.
 #[derive(Drop)]
 struct Taken {

@@ -6,6 +6,7 @@ mod answering;
 mod changes;
 mod crowd;
 mod edits;
+mod growth;
 mod map;
 mod measures;
 mod questions;

@@ -1,8 +1,9 @@
 //! What is measured, and how it is printed.
 
 use crate::answering::{Answering, ByTokens, ByTree, found};
-use crate::changes::{Cost, Costs, changed};
+use crate::changes::changed;
 use crate::crowd::{Answers, Crowd};
+use crate::growth::{Grown, GrownCost, Rounds};
 use crate::map::{Map, book_of};
 use crate::questions::Questions;
 use bench_parts::{Flood, mean, nanoseconds, share};
@@ -30,8 +31,11 @@ const CHANGES: u32 = 200;
 /// How many rounds there are. What else the machine does makes a round longer, never shorter.
 const ROUNDS: u32 = 5;
 
-/// How many there are in which the caches are emptied before each edit.
-const COLD_ROUNDS: u32 = 2;
+/// How many edits of each kind there are in a round in which the caches are emptied before each edit.
+const COLD_CHANGES: u32 = 50;
+
+/// How many of these rounds there are.
+const COLD_ROUNDS: u32 = 9;
 
 /// Asks and edits a small map, and prints how many questions were answered by a mapping.
 pub(crate) fn print_counts<R: Print + Clock + Threads + Wait + Sync + AllocGlobal>(
@@ -189,57 +193,59 @@ fn print_changes<R: Print + Clock + Wait + AllocGlobal>(
     large: &mut Map,
 ) -> io::Result<()> {
     let mut none = None;
-    let (few, many) = least(rt, small, large, ROUNDS, &mut none)?;
-    print_costs_of(rt, "one edit after another", few, many)?;
+    let rounds = Rounds {
+        rounds: ROUNDS,
+        edits: CHANGES,
+    };
+    print_grown(
+        rt,
+        "one edit after another",
+        rounds.grown(rt, small, large, &mut none)?,
+    )?;
     let mut flood = Some(Flood::new(rt.alloc())?);
-    let (few, many) = least(rt, small, large, COLD_ROUNDS, &mut flood)?;
-    print_costs_of(rt, "the caches emptied before each edit", few, many)
-}
-
-/// The least medians of both maps in so many rounds.
-fn least<R: Clock + Wait + AllocGlobal>(
-    rt: &R,
-    small: &mut Map,
-    large: &mut Map,
-    rounds: u32,
-    flood: &mut Option<Flood>,
-) -> io::Result<(Costs, Costs)> {
-    let mut few = changed(rt, small, CHANGES, flood)?;
-    let mut many = changed(rt, large, CHANGES, flood)?;
-    for _ in 1..rounds {
-        few = few.least(changed(rt, small, CHANGES, flood)?);
-        many = many.least(changed(rt, large, CHANGES, flood)?);
-    }
-    Ok((few, many))
+    let rounds = Rounds {
+        rounds: COLD_ROUNDS,
+        edits: COLD_CHANGES,
+    };
+    print_grown(
+        rt,
+        "the caches emptied before each edit",
+        rounds.grown(rt, small, large, &mut flood)?,
+    )
 }
 
 /// Prints what the edits take at both maps.
-fn print_costs_of<R: Print + AllocGlobal>(
-    rt: &R,
-    how: &str,
-    few: Costs,
-    many: Costs,
-) -> io::Result<()> {
-    print_kind(rt, how, "publish", few.publish, many.publish)?;
-    print_kind(rt, how, "replacement", few.replace, many.replace)?;
-    print_kind(rt, how, "withdrawal", few.withdraw, many.withdraw)
+fn print_grown<R: Print + AllocGlobal>(rt: &R, how: &str, grown: Grown) -> io::Result<()> {
+    let Grown {
+        publish,
+        replace,
+        withdraw,
+    } = grown;
+    print_kind(rt, how, "publish", publish)?;
+    print_kind(rt, how, "replacement", replace)?;
+    print_kind(rt, how, "withdrawal", withdraw)
 }
 
-/// Prints what an edit of a kind takes.
+/// Prints what an edit of a kind takes: the middle of the rounds, and between what the ratios of the rounds lie.
 fn print_kind<R: Print + AllocGlobal>(
     rt: &R,
     how: &str,
     kind: &str,
-    few: Cost,
-    many: Cost,
+    costs: GrownCost,
 ) -> io::Result<()> {
+    let whole = costs.whole.middle();
+    let commit = costs.commit.middle();
     println!(rt;
-        "{how}, a {kind} with its commit: {} and {} nanoseconds at 1,024 and 60,025 mappings, {} of a hundred; its commit alone: {} and {}, {} of a hundred",
-        few.whole,
-        many.whole,
-        share(many.whole, few.whole),
-        few.commit,
-        many.commit,
-        share(many.commit, few.commit)
+        "{how}, a {kind} with its commit: {} and {} nanoseconds at 1,024 and 60,025 mappings, {} of a hundred ({} to {}); its commit alone: {} and {}, {} of a hundred ({} to {}); the middle of the rounds, and their bounds",
+        whole.few,
+        whole.many,
+        whole.share,
+        whole.least,
+        whole.most,
+        commit.few,
+        commit.many,
+        commit.share,
+        commit.least,
+        commit.most
     )
 }
