@@ -1,4 +1,5 @@
 //! What the replies of a replay say in sum.
+use memchr::memchr;
 use std::io;
 use std::io::Write;
 
@@ -46,15 +47,25 @@ impl<W> Summary<W> {
 impl Told {
     /// Looks at bytes that were written.
     fn notice(&mut self, bytes: &[u8]) {
-        for byte in bytes {
-            if *byte == b'\n' {
-                self.judge();
-                self.len = 0;
-            } else if self.len < MOST_SEEN {
-                self.seen[self.len] = *byte;
-                self.len += 1;
-            }
+        let mut rest = bytes;
+        for _ in 0..bytes.len() {
+            let Some(end) = memchr(b'\n', rest) else {
+                break;
+            };
+            self.keep(&rest[..end]);
+            self.judge();
+            rest = &rest[end.saturating_add(1)..];
         }
+        self.keep(rest);
+    }
+
+    /// Keeps what is looked at of a part of a reply.
+    fn keep(&mut self, part: &[u8]) {
+        let start = self.len.min(MOST_SEEN);
+        let room = &mut self.seen[start..];
+        let count = part.len().min(room.len());
+        room[..count].copy_from_slice(&part[..count]);
+        self.len = start + count;
     }
 
     /// Looks at a reply that was written whole.
@@ -65,6 +76,7 @@ impl Told {
         } else if let Some(rest) = reply.strip_prefix(COMMITTED) {
             self.edition = leading_number(rest);
         }
+        self.len = 0;
     }
 }
 
