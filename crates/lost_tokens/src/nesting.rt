@@ -9,8 +9,19 @@ use json::Node;
 /// How deep the values of a tree may nest, as serde_json reads it.
 const MAX_DEPTH: usize = 127;
 
-/// Whether the values of a line nest at most 127 deep.
+/// Whether the values of a line nest at most 127 deep. Where there are no more tokens than that, they do.
+#[tactic(auto, using(crate::proofs::NestLemmas::few_nest_within))]
 pub(crate) fn nests_within(nodes: &[Node<'_>]) -> bool
+    ensures { OnTrue result (nests_within 0 (map node_token nodes.now) ≡ true) }
+{
+    if nodes.len() <= MAX_DEPTH {
+        return true;
+    }
+    walks_within(nodes)
+}
+
+/// Whether a walk over the tokens leads to no level of nesting above 127.
+fn walks_within(nodes: &[Node<'_>]) -> bool
     ensures { OnTrue result (nests_within 0 (map node_token nodes.now) ≡ true) }
 {
     let mut level = 0;
