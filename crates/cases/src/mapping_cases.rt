@@ -4,8 +4,8 @@ use crate::fields::Fields;
 use crate::geo_cases::shown_positions;
 use crate::stamp_cases::stamp;
 use crate::trouble::Trouble;
-use crate::words::{owned, push_pairs, refused, yes_or_no};
-use lost_mapping::{Expires, Mapping, MappingError, Moment};
+use crate::words::{checked, owned, push_pairs, refused, yes_or_no};
+use lost_mapping::{Expires, Mapping, MappingError, Moment, Parts};
 use std::alloc::Global;
 
 /// What a call gives.
@@ -13,6 +13,10 @@ pub(crate) fn said(alloc: Global, call: &str, fields: &Fields) -> Result<String,
     let text = fields.text(1)?;
     match call {
         "mapping build" => build(alloc, text),
+        "mapping head" => {
+            let fault = head_fault(&parts(alloc, text)?);
+            checked(alloc, fault.map(MappingError::code))
+        }
         "mapping read" => {
             let copy = mapping(alloc, text)?.clone()?;
             shown(alloc, &copy)
@@ -32,6 +36,18 @@ fn build(alloc: Global, text: &str) -> Result<String, Trouble> {
         Err(MappingError::Memory) => Err(Trouble::Memory),
         Err(refusal) => refused(alloc, refusal.code()),
     }
+}
+
+/// The first refusal of what stands at the head of parts.
+fn head_fault(parts: &Parts) -> Option<MappingError> {
+    Mapping::check_head(
+        parts.source.as_str(),
+        parts.source_id.as_str(),
+        parts.last_updated.as_str(),
+        parts.expires.as_str(),
+        parts.service.as_str(),
+    )
+    .err()
 }
 
 /// Whether a mapping is live at an instant, and when a copy of its end says so.

@@ -5,7 +5,7 @@ pub mod DigitLemmas
 mod DisplayNameLemmas
 mod HeadLemmas
 pub mod IdLemmas
-mod PartsLemmas
+pub mod PartsLemmas
 mod RegionLemmas
 pub mod ShapeLemmas
 pub mod SourceLemmas

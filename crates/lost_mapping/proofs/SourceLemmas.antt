@@ -1,6 +1,6 @@
 -- A source in any case, and in lower case, and that a source is ASCII.
-use Rattle.std.proofs.Common.{subst, ◌≡◌, ℕ, ◌<◌, suc, Bool, true, false, not, ◌&&◌, cond, nat_eq, Option, None, Some, List, [], ◌∷◌, map, length, refl, ap, ◌∙◌, arith}
-use Rattle.std.specs.List.{list_all, onto_first, join_with_byte}
+use Rattle.std.proofs.Common.{subst, ◌≡◌, ℕ, ◌<◌, suc, Bool, true, ◌&&◌, Option, None, Some, List, [], ◌∷◌, length, refl, ap, ◌∙◌, arith}
+use Rattle.std.specs.List.{list_all, join_with_byte}
 use Rattle.std.specs.Char.{to_ascii_lowercase}
 use Rattle.std.specs.Option.{is_none}
 use Rattle.std.specs.Str.{IsAscii}
@@ -9,10 +9,8 @@ use Rattle.std.proofs.lemmas.List.Folds.{list_all-map}
 use Rattle.std.proofs.lemmas.List.Splits.{join_with_byte-slice_split}
 use Rattle.std.proofs.lemmas.Str.{IsAscii-append}
 use Rattle.std.proofs.lemmas.Str.Ascii.{IsAscii-nil, IsAscii-cons, lowercase-lowercase}
-use Rattle.lost_spec.specs.declared.faults.UrnError.{UrnError}
-use Rattle.lost_spec.specs.declared.faults.UrnError.TheVariants.{EmptyLabel, BadCharacter}
 use Rattle.lost_spec.specs.Text.{Text, lowered, is_between}
-use Rattle.lost_spec.specs.Service.{is_label_byte, label_fault, split_at_dots}
+use Rattle.lost_spec.specs.Service.{label_fault, split_at_dots}
 use Rattle.lost_spec.specs.Mapping.{is_source}
 use Rattle.lost_mapping.specs.Source.{IsLowerSource}
 use Rattle.lost_mapping.proofs.BoolLemmas.{both_true}

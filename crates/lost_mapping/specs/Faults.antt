@@ -23,13 +23,19 @@ fault_if fails fault = first_fault ((fails, fault) ∷ [])
 
 -- ---- what stands at the head
 
-abbrev pub terms_fault : Parts → Option MappingError
-terms_fault parts =
-    option_or (fault_if (not (is_stamp parts.last_updated)) BadStamp) (
-    option_or (fault_if (not (is_expires parts.expires)) BadExpires) (fault_if (is_err (read_service parts.service)) BadService))
+-- the first refusal of a stamp, an end and a service
+abbrev pub terms_fault : Text → Text → Text → Option MappingError
+terms_fault last_updated expires service =
+    option_or (fault_if (not (is_stamp last_updated)) BadStamp) (
+    option_or (fault_if (not (is_expires expires)) BadExpires) (fault_if (is_err (read_service service)) BadService))
+
+-- the first refusal of a source, a sourceId, a stamp, an end and a service
+abbrev pub head_fault_of : Text → Text → Text → Text → Text → Option MappingError
+head_fault_of source source_id last_updated expires service =
+    option_or (identity_fault source source_id) (terms_fault last_updated expires service)
 
 abbrev pub head_fault : Parts → Option MappingError
-head_fault parts = option_or (identity_fault parts.source parts.source_id) (terms_fault parts)
+head_fault parts = head_fault_of parts.source parts.source_id parts.last_updated parts.expires parts.service
 
 -- ---- how the service is reached
 

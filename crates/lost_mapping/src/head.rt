@@ -6,7 +6,7 @@ ghost use Rattle.lost_spec.specs.Service.{read_service as read_service_text};
 ghost use Rattle.lost_spec.specs.Moment.{is_stamp, stamp_of};
 ghost use Rattle.lost_spec.specs.Mapping.{is_expires, expires_of};
 ghost use Rattle.lost_mapping.specs.Expires.{expires_seen};
-ghost use Rattle.lost_mapping.specs.Faults.{Refuses, fault_if, terms_fault, head_fault};
+ghost use Rattle.lost_mapping.specs.Faults.{Refuses, fault_if, terms_fault, head_fault_of, head_fault};
 ghost use Rattle.lost_mapping.specs.Identity.{identity_fault};
 ghost use Rattle.lost_mapping.specs.Parts.{parts_of};
 
@@ -48,27 +48,46 @@ impl Head {
             service,
         })
     }
+
+    /// Refuses the source, the sourceId, the stamp, the end or the service, the first that is bad. It takes no memory.
+    pub(crate) fn check(
+        source: &str,
+        source_id: &str,
+        last_updated: &str,
+        expires: &str,
+        service: &str,
+    ) -> Result<(), MappingError>
+        ensures { result_err result ≡ head_fault_of source.now source_id.now last_updated.now expires.now service.now }
+    {
+        Identity::check(source, source_id)?;
+        check_terms(last_updated, expires, service)
+    }
 }
 
-/// Refuses the source, the sourceId, the stamp, the end or the service, the first that is bad. It takes no memory.
+/// Refuses what stands at the head of parts, the first that is bad.
 pub(crate) fn check_head(parts: &Parts) -> Result<(), MappingError>
     ensures { result_err result ≡ head_fault (parts_of parts.now) }
 {
-    Identity::check(parts.source.as_str(), parts.source_id.as_str())?;
-    check_terms(parts)
+    Head::check(
+        parts.source.as_str(),
+        parts.source_id.as_str(),
+        parts.last_updated.as_str(),
+        parts.expires.as_str(),
+        parts.service.as_str(),
+    )
 }
 
 /// Refuses the stamp, the end or the service, the first that is bad.
-fn check_terms(parts: &Parts) -> Result<(), MappingError>
-    ensures { result_err result ≡ terms_fault (parts_of parts.now) }
+fn check_terms(last_updated: &str, expires: &str, service: &str) -> Result<(), MappingError>
+    ensures { result_err result ≡ terms_fault last_updated.now expires.now service.now }
 {
-    if !Stamp::is_stamp(parts.last_updated.as_bytes()) {
+    if !Stamp::is_stamp(last_updated.as_bytes()) {
         return Err(MappingError::BadStamp);
     }
-    if !Expires::is_expires(parts.expires.as_str()) {
+    if !Expires::is_expires(expires) {
         return Err(MappingError::BadExpires);
     }
-    if !is_service(parts.service.as_str()) {
+    if !is_service(service) {
         return Err(MappingError::BadService);
     }
     Ok(())
