@@ -7,9 +7,10 @@ ghost use Rattle.lost_spec.specs.Book as book;
 ghost use Rattle.lost_spec.specs.Mapping as spec;
 ghost use Rattle.lost_spec.specs.Moment.{is_stamp, stamp_of};
 ghost use Rattle.lost_spec.specs.Text.{lowered};
-ghost use Rattle.lost_reading.specs.Desk.{Stage, parts_of_members, mapping_order, withdrawal_fault, withdrawal, withdrawal_order, is_desk_name, order_named, order_of_member, order_in, desk_line, desk_fault_code};
+ghost use Rattle.lost_reading.specs.Desk.{Stage, parts_of_members, mapping_order, mapping_refusal, withdrawal_fault, withdrawal, withdrawal_order, is_desk_name, order_named, refusal_named, refusal_in, order_of_member, order_in, desk_line, desk_fault_code};
 ghost use Rattle.lost_reading.specs.DeskLines.{order_of, fault_of, GivesOrder, GivesLine};
 
+use crate::checks::check_members;
 use crate::parts::read_parts;
 use crate::reading::{only_member, read_tree, text_member};
 use crate::request::ReadError;
@@ -109,9 +110,11 @@ pub(crate) fn is_desk_name(name: &str) -> bool
     "publish" == name || "replace" == name || "withdraw" == name || "commit" == name
 }
 
-/// The order of this name: a value that is no object is a bad line.
+/// The order of this name: a value that is no object is a bad line. What is refused before memory is taken is refused though
+/// memory is short.
 pub(crate) fn read_order(alloc: Global, name: &str, value: &Value) -> Result<DeskLine, DeskFault>
-    ensures { GivesOrder result (unwrap_or (option_map (order_named name.now) (as_object (view value.now))) (Err DeskFault.BadLine)) }
+    ensures given { GivesOrder result (unwrap_or (option_map (order_named name.now) (as_object (view value.now))) (Err DeskFault.BadLine)) }
+    ensures checked_first { IfSome (refusal_in name.now (view value.now)) (λ fault. result ≡ Err fault) }
 {
     match value.as_object() {
         Some(members) => read_named_order(alloc, name, members),
@@ -125,7 +128,8 @@ fn read_named_order(
     name: &str,
     members: &Map<String, Value>,
 ) -> Result<DeskLine, DeskFault>
-    ensures { GivesOrder result (order_named name.now (members_view members.now.entries)) }
+    ensures given { GivesOrder result (order_named name.now (members_view members.now.entries)) }
+    ensures checked_first { IfSome (refusal_named name.now (members_view members.now.entries)) (λ fault. result ≡ Err fault) }
 {
     if "publish" == name {
         Ok(DeskLine::Edit(Edit::Publish(read_mapping(alloc, members)?)))
@@ -138,13 +142,16 @@ fn read_named_order(
     }
 }
 
-/// The mapping of an object, or the first refusal of its parts.
+/// The mapping of an object, or the first refusal of its parts. Parts that are missing or of another kind, and a refusal of
+/// what stands at the head, are answered though memory is short.
 fn read_mapping(alloc: Global, members: &Map<String, Value>) -> Result<Mapping, DeskFault>
     ensures mapping { IfOk result (λ mapping. (edit : spec.Mapping → book.Edit)
         → mapping_order edit (parts_of_members (members_view members.now.entries)) ≡ Ok (Stage (edit mapping))) }
     ensures refused { IfErr result (λ fault. fault ≢ DeskFault.Mapping MappingError.Memory → (edit : spec.Mapping → book.Edit)
         → mapping_order edit (parts_of_members (members_view members.now.entries)) ≡ Err fault) }
+    ensures checked_first { IfSome (mapping_refusal (parts_of_members (members_view members.now.entries))) (λ fault. result ≡ Err fault) }
 {
+    check_members(members)?;
     let parts = read_parts(alloc, members)?;
     match Mapping::build(alloc, parts) {
         Ok(mapping) => Ok(mapping),

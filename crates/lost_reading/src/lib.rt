@@ -2,7 +2,9 @@
 //! edits.
 #![tactic(auto)]
 
+mod checks;
 mod desk;
+mod fits;
 mod kinds;
 mod locations;
 mod options;
