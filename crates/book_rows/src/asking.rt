@@ -8,74 +8,103 @@ use std::alloc::{AllocError, Global};
 /// The keys that are asked for.
 const KEYS: [&str; 5] = ["A-1", "A-2", "A-3", "B-1", "D-1"];
 
+/// The latitude and the longitude of the point that is asked for, in 1e-7 degrees.
+const MIDDLE: i64 = 5_000_000;
+
 /// How many edits there were, how many mappings are held, where those of the keys stand, whether the service is implemented,
 /// and where those stand that hold the point, that hold it and have the service, that are its defaults, and that have it; in
 /// the end the services below `sos`.
 pub(crate) fn answers<H: Holdings>(alloc: Global, holdings: &H) -> Result<String, AllocError> {
-    let (moment, place, service, above) = asked(alloc)?;
-    let mut text = format!(in alloc;
-        "edition {}, held {}, keys",
-        holdings.edition(),
-        holdings.len()
-    )?;
+    let moment = moment(alloc, "2026-01-01T00:00:00Z")?;
+    let mut text = format!(in alloc; "edition {}, held {}", holdings.edition(), holdings.len())?;
+    add_keys(alloc, &mut text, holdings, &moment)?;
+    let service = service(alloc, "urn:service:sos.police")?;
+    add_positions(alloc, &mut text, holdings, &moment, &service)?;
+    add_below(alloc, &mut text, holdings, &moment)?;
+    Ok(text)
+}
+
+/// Adds where the mappings of the keys stand.
+fn add_keys<H: Holdings>(
+    alloc: Global,
+    text: &mut String,
+    holdings: &H,
+    moment: &Moment,
+) -> Result<(), AllocError> {
+    text.push_str(", keys")?;
     for key in KEYS {
-        match holdings.by_key(&moment, key) {
+        match holdings.by_key(moment, key) {
             Some(position) => text.push_str(format!(in alloc; " {position}")?.as_str())?,
             None => text.push_str(" -")?,
         }
     }
-    let implemented = holdings.implemented(&moment, &service);
-    text.push_str(if implemented {
+    Ok(())
+}
+
+/// Adds whether a service is implemented, and where the mappings stand that are asked for by the point and by it.
+fn add_positions<H: Holdings>(
+    alloc: Global,
+    text: &mut String,
+    holdings: &H,
+    moment: &Moment,
+    service: &ServiceUrn,
+) -> Result<(), AllocError> {
+    text.push_str(if holdings.implemented(moment, service) {
         ", implemented"
     } else {
         ", not implemented"
     })?;
+    let place = place(MIDDLE)?;
+    list(alloc, text, "holding", &holdings.holding(moment, &place)?)?;
+    list(alloc, text, "at", &holdings.at(moment, &place, service)?)?;
     list(
         alloc,
-        &mut text,
-        "holding",
-        &holdings.holding(&moment, &place)?,
-    )?;
-    list(
-        alloc,
-        &mut text,
-        "at",
-        &holdings.at(&moment, &place, &service)?,
-    )?;
-    list(
-        alloc,
-        &mut text,
+        text,
         "defaults",
-        &holdings.defaults(&moment, &service)?,
+        &holdings.defaults(moment, service)?,
     )?;
     list(
         alloc,
-        &mut text,
+        text,
         "of service",
-        &holdings.of_service(&moment, &service)?,
-    )?;
-    text.push_str(", below")?;
-    for found in &holdings.services_below(&moment, Some(&above))? {
-        text.push_str(format!(in alloc; " {}", found.text())?.as_str())?;
-    }
-    Ok(text)
+        &holdings.of_service(moment, service)?,
+    )
 }
 
-/// The moment, the point and the services that are asked for: those of the worked rows.
-fn asked(alloc: Global) -> Result<(Moment, Place, ServiceUrn, ServiceUrn), AllocError> {
-    let (Ok(now), Ok(point)) = (
-        Stamp::parse(alloc, b"2026-01-01T00:00:00Z"),
-        GeoPoint::new(5_000_000, 5_000_000),
-    ) else {
-        return Err(AllocError);
-    };
-    let (Ok(service), Ok(above)) = (
-        ServiceUrn::parse(alloc, b"urn:service:sos.police"),
-        ServiceUrn::parse(alloc, b"urn:service:sos"),
-    ) else {
-        return Err(AllocError);
-    };
-    Ok((now.moment(), Place::Point(point), service, above))
+/// Adds the services below `sos`.
+fn add_below<H: Holdings>(
+    alloc: Global,
+    text: &mut String,
+    holdings: &H,
+    moment: &Moment,
+) -> Result<(), AllocError> {
+    text.push_str(", below")?;
+    let above = service(alloc, "urn:service:sos")?;
+    for found in &holdings.services_below(moment, Some(&above))? {
+        text.push_str(format!(in alloc; " {}", found.text())?.as_str())?;
+    }
+    Ok(())
+}
+
+/// The moment of a stamp.
+fn moment(alloc: Global, text: &str) -> Result<Moment, AllocError> {
+    match Stamp::parse(alloc, text.as_bytes()) {
+        Ok(stamp) => Ok(stamp.moment()),
+        Err(_) => Err(AllocError),
+    }
+}
+
+/// The point with this latitude and this longitude.
+fn place(degrees: i64) -> Result<Place, AllocError> {
+    match GeoPoint::new(degrees, degrees) {
+        Ok(point) => Ok(Place::Point(point)),
+        Err(_) => Err(AllocError),
+    }
+}
+
+/// The service of a text.
+fn service(alloc: Global, text: &str) -> Result<ServiceUrn, AllocError> {
+    ServiceUrn::parse(alloc, text.as_bytes()).map_err(|_| AllocError)
 }
 
 /// Adds a list of positions, behind its name.

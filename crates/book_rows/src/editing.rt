@@ -1,46 +1,63 @@
-//! One edit, applied to both books.
+//! The edits of the input, each applied to two books.
 use crate::asking::answers;
-use lost_book::{Book, Edit, EditError};
+use crate::held::Held;
+use lost_book::{Edit, EditError};
 use lost_json::{DeskLine, read_desk};
-use lost_query::Holdings;
-use lost_routing::Routing;
 use std::alloc::{AllocError, Global};
 use std::io;
 
-/// What edits are applied to.
-pub(crate) trait Held: Holdings {
-    /// Its name in what is printed.
-    const NAME: &'static str;
-
-    /// Applies an edit, which leaves it as it is where it is refused.
-    fn apply(&mut self, edit: Edit) -> Result<(), EditError>;
+/// Two books of different kinds, which are edited alike.
+#[derive(Drop)]
+struct Pair<A: Held, B: Held> {
+    first: A,
+    second: B,
 }
 
-impl Held for Book {
-    const NAME: &'static str = "book";
-
-    fn apply(&mut self, edit: Edit) -> Result<(), EditError> {
-        Book::apply(self, edit)
-    }
-}
-
-impl Held for Routing {
-    const NAME: &'static str = "routing";
-
-    fn apply(&mut self, edit: Edit) -> Result<(), EditError> {
-        Routing::apply(self, edit)
-    }
-}
-
-/// Applies the edit of a desk line to a plain book and to an indexed one.
-pub(crate) fn edit_both<R: Print + AllocGlobal>(
+/// Applies the edits of the input to two books, which each line `next` begins anew.
+pub(crate) fn edit_books<R: Input + Print + AllocGlobal, A: Held, B: Held>(
     rt: &R,
-    book: &mut Book,
-    routing: &mut Routing,
-    line: &[u8],
 ) -> io::Result<()> {
-    edit_one(rt, book, line)?;
-    edit_one(rt, routing, line)
+    for _ in 0..u64::MAX {
+        let mut pair = Pair::<A, B>::empty(rt.alloc())?;
+        if !pair.edit(rt)? {
+            break;
+        }
+    }
+    Ok(())
+}
+
+impl<A: Held, B: Held> Pair<A, B> {
+    /// Two books without mappings, or want of memory.
+    fn empty(alloc: Global) -> Result<Pair<A, B>, AllocError> {
+        Ok(Pair {
+            first: A::empty(alloc)?,
+            second: B::empty(alloc)?,
+        })
+    }
+
+    /// Applies the edits up to a line `next`, or to the end: then it prints how many were accepted. Says whether there is
+    /// more.
+    fn edit<R: Input + Print + AllocGlobal>(&mut self, rt: &R) -> io::Result<bool> {
+        let mut line = String::new(rt.alloc());
+        for _ in 0..u64::MAX {
+            line.clear();
+            if rt.read_line(&mut line)? == 0 {
+                break;
+            }
+            if line.trim_end() == "next" {
+                println!(rt; "next")?;
+                return Ok(true);
+            }
+            edit_one(rt, &mut self.first, line.trim_end().as_bytes())?;
+            edit_one(rt, &mut self.second, line.trim_end().as_bytes())?;
+        }
+        println!(rt;
+            "{} and {} edits",
+            self.first.edition(),
+            self.second.edition()
+        )?;
+        Ok(false)
+    }
 }
 
 /// Applies the edit of a desk line, and prints how that went and what is answered then.
