@@ -8,6 +8,7 @@ use crate::trouble::Trouble;
 use crate::urn_cases::service;
 use crate::words::{owned, refused, yes_or_no};
 use lost_book::{Book, Edit, EditError, Limits};
+use lost_mapping::{Mapping, Moment};
 use lost_query::{Holdings, Place};
 use std::alloc::Global;
 
@@ -29,7 +30,10 @@ impl Shelf {
 
     /// The book.
     pub(crate) fn book(&self) -> Result<&Book, Trouble> {
-        self.book.as_ref().ok_or(Trouble::NoCase)
+        match &self.book {
+            Some(book) => Ok(book),
+            None => Err(Trouble::NoCase),
+        }
     }
 
     /// What a call gives that makes, changes or copies the book.
@@ -42,26 +46,43 @@ impl Shelf {
         match call {
             "book limits" => new_limits(alloc, limits(fields)?),
             "book widest limits" => new_limits(alloc, Some(Limits::widest())),
-            "book new" => {
-                let limits = limits(fields)?.ok_or(Trouble::NoCase)?;
-                self.book = Some(Book::new(alloc, limits)?);
-                owned(alloc, "new")
-            }
-            "book copy" => {
-                self.copy = Some(self.book()?.clone()?);
-                owned(alloc, "copied")
-            }
-            "book turn to the copy" => {
-                self.book = self.copy.take();
-                owned(alloc, "turned")
-            }
+            "book new" => self.begin(alloc, limits(fields)?),
+            "book copy" => self.keep_copy(alloc),
+            "book turn to the copy" => self.turn(alloc),
             "book publish many" => self.publish_many(alloc, fields.count(1)?, fields.text(2)?),
             "book publish" | "book replace" | "book withdraw" => {
-                let edit = edit(alloc, call, fields)?;
-                let book = self.book.as_mut().ok_or(Trouble::NoCase)?;
-                apply(alloc, book, edit)
+                self.change(alloc, edit(alloc, call, fields)?)
             }
             _ => asked(alloc, self.book()?, call, fields),
+        }
+    }
+
+    /// Begins a book.
+    fn begin(&mut self, alloc: Global, limits: Option<Limits>) -> Result<String, Trouble> {
+        match limits {
+            Some(limits) => self.book = Some(Book::new(alloc, limits)?),
+            None => return Err(Trouble::NoCase),
+        }
+        owned(alloc, "new")
+    }
+
+    /// Copies the book.
+    fn keep_copy(&mut self, alloc: Global) -> Result<String, Trouble> {
+        self.copy = Some(self.book()?.clone()?);
+        owned(alloc, "copied")
+    }
+
+    /// Makes the copy the book.
+    fn turn(&mut self, alloc: Global) -> Result<String, Trouble> {
+        self.book = self.copy.take();
+        owned(alloc, "turned")
+    }
+
+    /// Applies an edit to the book.
+    fn change(&mut self, alloc: Global, edit: Edit) -> Result<String, Trouble> {
+        match &mut self.book {
+            Some(book) => apply(alloc, book, edit),
+            None => Err(Trouble::NoCase),
         }
     }
 
@@ -72,11 +93,11 @@ impl Shelf {
         count: u64,
         description: &str,
     ) -> Result<String, Trouble> {
-        let book = self.book.as_mut().ok_or(Trouble::NoCase)?;
+        let Some(book) = &mut self.book else {
+            return Err(Trouble::NoCase);
+        };
         for number in 0..count {
-            let described = format!(in alloc; "{number}{description}")?;
-            let mapping = mapping(alloc, described.as_str())?;
-            match book.apply(Edit::Publish(mapping)) {
+            match book.apply(Edit::Publish(numbered(alloc, number, description)?)) {
                 Ok(()) => {}
                 Err(EditError::Memory) => return Err(Trouble::Memory),
                 Err(refusal) => return refused(alloc, refusal.code()),
@@ -84,6 +105,12 @@ impl Shelf {
         }
         owned(alloc, "accepted")
     }
+}
+
+/// The mapping of a description behind a number.
+fn numbered(alloc: Global, number: u64, description: &str) -> Result<Mapping, Trouble> {
+    let described = format!(in alloc; "{number}{description}")?;
+    mapping(alloc, described.as_str())
 }
 
 /// The limits of two numbers, which stand in the first two fields.
@@ -141,17 +168,20 @@ fn apply(alloc: Global, book: &mut Book, edit: Edit) -> Result<String, Trouble> 
 fn held(alloc: Global, book: &Book) -> Result<String, Trouble> {
     let mut text = format!(in alloc; "edition {}, {} held:", book.edition(), book.len())?;
     for position in 0..book.len() {
-        let mapping = book.mapping(position);
-        for part in [
-            mapping.identity().source_id(),
-            mapping.key().unwrap_or("-"),
-            mapping.stamp().text(),
-        ] {
-            text.push_str(" ")?;
-            text.push_str(part)?;
-        }
+        push_held(&mut text, book.mapping(position))?;
     }
     Ok(text)
+}
+
+/// Appends the sourceId, the key and the stamp of a mapping.
+fn push_held(text: &mut String, mapping: &Mapping) -> Result<(), Trouble> {
+    text.push_str(" ")?;
+    text.push_str(mapping.identity().source_id())?;
+    text.push_str(" ")?;
+    text.push_str(mapping.key().unwrap_or("-"))?;
+    text.push_str(" ")?;
+    text.push_str(mapping.stamp().text())?;
+    Ok(())
 }
 
 /// What the book answers.
@@ -161,24 +191,49 @@ fn asked(alloc: Global, book: &Book, call: &str, fields: &Fields) -> Result<Stri
     }
     let moment = stamp(alloc, fields.bytes(1)?)?.moment();
     let text = fields.text(2)?;
-    let positions = match call {
-        "book key" => return shown_position(alloc, Holdings::by_key(book, &moment, text)),
-        "book implemented" => {
-            let service = service(alloc, text.as_bytes())?;
-            return owned(
-                alloc,
-                yes_or_no(Holdings::implemented(book, &moment, &service)),
-            );
-        }
-        "book holding" => Holdings::holding(book, &moment, &place_of(alloc, text)?)?,
-        "book at" => {
-            let service = service(alloc, fields.bytes(3)?)?;
-            Holdings::at(book, &moment, &place_of(alloc, text)?, &service)?
-        }
-        "book defaults" => Holdings::defaults(book, &moment, &service(alloc, text.as_bytes())?)?,
-        "book of" => Holdings::of_service(book, &moment, &service(alloc, text.as_bytes())?)?,
-        _ => return Err(Trouble::NoCase),
-    };
+    match call {
+        "book key" => shown_position(alloc, Holdings::by_key(book, &moment, text)),
+        "book implemented" => implemented(alloc, book, &moment, text),
+        "book holding" => holding(alloc, book, &moment, text),
+        "book at" => at(alloc, book, &moment, text, fields.bytes(3)?),
+        "book defaults" => defaults(alloc, book, &moment, text),
+        "book of" => of_service(alloc, book, &moment, text),
+        _ => Err(Trouble::NoCase),
+    }
+}
+
+fn implemented(alloc: Global, book: &Book, moment: &Moment, text: &str) -> Result<String, Trouble> {
+    let service = service(alloc, text.as_bytes())?;
+    owned(
+        alloc,
+        yes_or_no(Holdings::implemented(book, moment, &service)),
+    )
+}
+
+fn holding(alloc: Global, book: &Book, moment: &Moment, text: &str) -> Result<String, Trouble> {
+    let positions = Holdings::holding(book, moment, &place_of(alloc, text)?)?;
+    ids(alloc, book, positions.as_slice())
+}
+
+fn at(
+    alloc: Global,
+    book: &Book,
+    moment: &Moment,
+    text: &str,
+    urn: &[u8],
+) -> Result<String, Trouble> {
+    let place = place_of(alloc, text)?;
+    let positions = Holdings::at(book, moment, &place, &service(alloc, urn)?)?;
+    ids(alloc, book, positions.as_slice())
+}
+
+fn defaults(alloc: Global, book: &Book, moment: &Moment, text: &str) -> Result<String, Trouble> {
+    let positions = Holdings::defaults(book, moment, &service(alloc, text.as_bytes())?)?;
+    ids(alloc, book, positions.as_slice())
+}
+
+fn of_service(alloc: Global, book: &Book, moment: &Moment, text: &str) -> Result<String, Trouble> {
+    let positions = Holdings::of_service(book, moment, &service(alloc, text.as_bytes())?)?;
     ids(alloc, book, positions.as_slice())
 }
 

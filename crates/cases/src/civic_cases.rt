@@ -17,30 +17,43 @@ pub(crate) fn said(alloc: Global, call: &str, fields: &Fields) -> Result<String,
         }
         "civic address" => new_address(alloc, text),
         "civic pattern" => new_pattern(alloc, text),
-        "civic address check" => {
-            let pairs = text_pairs(alloc, text, ';')?;
-            let fault = CivicAddress::check(pairs.as_slice()).err();
-            checked(alloc, fault.map(CivicError::code))
-        }
-        "civic pattern check" => {
-            let pairs = text_pairs(alloc, text, ';')?;
-            let fault = CivicPattern::check(pairs.as_slice()).err();
-            checked(alloc, fault.map(CivicError::code))
-        }
-        "civic same addresses" => {
-            let other = address(alloc, fields.text(2)?)?;
-            owned(alloc, compared(&address(alloc, text)?, &other))
-        }
-        "civic same patterns" => {
-            let same = pattern(alloc, text)? == pattern(alloc, fields.text(2)?)?;
-            owned(alloc, yes_or_no(same))
-        }
-        "civic matches" => {
-            let address = address(alloc, fields.text(2)?)?;
-            owned(alloc, yes_or_no(pattern(alloc, text)?.matches(&address)))
-        }
+        "civic address check" => check_address(alloc, text),
+        "civic pattern check" => check_pattern(alloc, text),
+        "civic same addresses" => same_addresses(alloc, text, fields.text(2)?),
+        "civic same patterns" => same_patterns(alloc, text, fields.text(2)?),
+        "civic matches" => matches(alloc, text, fields.text(2)?),
         _ => Err(Trouble::NoCase),
     }
+}
+
+fn check_address(alloc: Global, text: &str) -> Result<String, Trouble> {
+    let pairs = text_pairs(alloc, text, ';')?;
+    let fault = CivicAddress::check(pairs.as_slice()).err();
+    checked(alloc, fault.map(CivicError::code))
+}
+
+fn check_pattern(alloc: Global, text: &str) -> Result<String, Trouble> {
+    let pairs = text_pairs(alloc, text, ';')?;
+    let fault = CivicPattern::check(pairs.as_slice()).err();
+    checked(alloc, fault.map(CivicError::code))
+}
+
+fn same_addresses(alloc: Global, text: &str, other: &str) -> Result<String, Trouble> {
+    let one = address(alloc, text)?;
+    owned(alloc, compared(&one, &address(alloc, other)?))
+}
+
+fn same_patterns(alloc: Global, text: &str, other: &str) -> Result<String, Trouble> {
+    let one = pattern(alloc, text)?;
+    owned(alloc, yes_or_no(one == pattern(alloc, other)?))
+}
+
+fn matches(alloc: Global, text: &str, address_text: &str) -> Result<String, Trouble> {
+    let pattern = pattern(alloc, text)?;
+    owned(
+        alloc,
+        yes_or_no(pattern.matches(&address(alloc, address_text)?)),
+    )
 }
 
 /// The address of pairs that make one.
@@ -100,38 +113,42 @@ fn order(one: Element, other: Element) -> &'static str {
 /// The pairs of a copy of an address, and its comparison texts.
 fn new_address(alloc: Global, text: &str) -> Result<String, Trouble> {
     match CivicAddress::from_pairs(alloc, text_pairs(alloc, text, ';')?) {
-        Ok(address) => {
-            let copy = address.clone()?;
-            let mut said = owned(alloc, compared(&copy, &address))?;
-            said.push_str(" ")?;
-            push_pairs(&mut said, copy.pairs())?;
-            said.push_str(" as ")?;
-            for element in Element::ALL {
-                push_text(&mut said, element, copy.text(element))?;
-            }
-            Ok(said)
-        }
+        Ok(address) => shown_address(alloc, &address),
         Err(CivicError::Memory) => Err(Trouble::Memory),
         Err(refusal) => refused(alloc, refusal.code()),
     }
 }
 
+fn shown_address(alloc: Global, address: &CivicAddress) -> Result<String, Trouble> {
+    let copy = address.clone()?;
+    let mut said = owned(alloc, compared(&copy, address))?;
+    said.push_str(" ")?;
+    push_pairs(&mut said, copy.pairs())?;
+    said.push_str(" as ")?;
+    for element in Element::ALL {
+        push_text(&mut said, element, copy.text(element))?;
+    }
+    Ok(said)
+}
+
 /// The pairs of a copy of a pattern, and its comparison texts.
 fn new_pattern(alloc: Global, text: &str) -> Result<String, Trouble> {
     match CivicPattern::from_pairs(alloc, text_pairs(alloc, text, ';')?) {
-        Ok(pattern) => {
-            let copy = pattern.clone()?;
-            let mut said = owned(alloc, if copy == pattern { "same " } else { "other " })?;
-            push_pairs(&mut said, copy.pairs())?;
-            said.push_str(" as ")?;
-            for element in Element::ALL {
-                push_text(&mut said, element, copy.text(element))?;
-            }
-            Ok(said)
-        }
+        Ok(pattern) => shown_pattern(alloc, &pattern),
         Err(CivicError::Memory) => Err(Trouble::Memory),
         Err(refusal) => refused(alloc, refusal.code()),
     }
+}
+
+fn shown_pattern(alloc: Global, pattern: &CivicPattern) -> Result<String, Trouble> {
+    let copy = pattern.clone()?;
+    let mut said = owned(alloc, if copy == *pattern { "same " } else { "other " })?;
+    push_pairs(&mut said, copy.pairs())?;
+    said.push_str(" as ")?;
+    for element in Element::ALL {
+        push_text(&mut said, element, copy.text(element))?;
+    }
+    Ok(said)
 }
 
 /// Appends an element's comparison text, where it has one.

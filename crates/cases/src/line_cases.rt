@@ -29,11 +29,7 @@ pub(crate) fn said(alloc: Global, call: &str, fields: &Fields) -> Result<String,
             write_desk(&DeskReply::Committed(fields.count(1)?)).bytes(),
         ),
         "line refused" => write_refusal(alloc, fields.count(1)?),
-        "line error" => {
-            let edition = fields.count(2)?;
-            let error = error(fields.text(1)?)?;
-            written(alloc, &Reply::Errors { edition, error })
-        }
+        "line error" => write_error(alloc, error(fields.text(1)?)?, fields.count(2)?),
         "line bad request" => written(alloc, &Reply::BadRequest),
         "line internal error" => written(alloc, &Reply::InternalError),
         _ => Err(Trouble::NoCase),
@@ -42,10 +38,12 @@ pub(crate) fn said(alloc: Global, call: &str, fields: &Fields) -> Result<String,
 
 /// The reply of `lost.example` at the first instant of 2026.
 pub(crate) fn reply(alloc: Global, book: &Book, line: &[u8]) -> Result<String, Trouble> {
-    let name = source(alloc, b"lost.example")?;
     let moment = stamp(alloc, b"2026-01-01T00:00:00Z")?.moment();
-    let reply = reply_line(alloc, book, &name, &moment, line)?;
-    without_its_end(alloc, reply.as_slice())
+    let name = source(alloc, b"lost.example")?;
+    without_its_end(
+        alloc,
+        reply_line(alloc, book, &name, &moment, line)?.as_slice(),
+    )
 }
 
 fn written(alloc: Global, reply: &Reply) -> Result<String, Trouble> {
@@ -68,6 +66,10 @@ fn write_refusal(alloc: Global, code: u64) -> Result<String, Trouble> {
     without_its_end(alloc, write_desk(&DeskReply::Refused(code)).bytes())
 }
 
+fn write_error(alloc: Global, error: AnswerError, edition: u64) -> Result<String, Trouble> {
+    written(alloc, &Reply::Errors { edition, error })
+}
+
 fn error(name: &str) -> Result<AnswerError, Trouble> {
     match name {
         "loop" => Ok(AnswerError::Loop),
@@ -83,10 +85,10 @@ fn error(name: &str) -> Result<AnswerError, Trouble> {
 /// Where a line may be cut short and is read all the same.
 fn cut_short(alloc: Global, line: &[u8]) -> Result<String, Trouble> {
     for end in 0..line.len() {
-        match read_request(alloc, &line[..end]) {
-            Ok(_) => return Ok(format!(in alloc; "read to {end}")?),
-            Err(ReadError::Memory) => return Err(Trouble::Memory),
-            Err(ReadError::BadRequest) => {}
+        match read_request(alloc, &line[..end]).err() {
+            None => return Ok(format!(in alloc; "read to {end}")?),
+            Some(ReadError::Memory) => return Err(Trouble::Memory),
+            Some(ReadError::BadRequest) => {}
         }
     }
     owned(alloc, "never read")

@@ -11,29 +11,42 @@ pub(crate) fn said(alloc: Global, call: &str, fields: &Fields) -> Result<String,
         "stamp" => new_stamp(alloc, fields.bytes(1)?),
         "stamp check" => owned(alloc, yes_or_no(Stamp::is_stamp(fields.bytes(1)?))),
         "source" => new_source(alloc, fields.bytes(1)?),
-        "same sources" => {
-            let other = source(alloc, fields.bytes(2)?)?;
-            owned(alloc, compared(&source(alloc, fields.bytes(1)?)?, &other))
-        }
+        "same sources" => same_sources(alloc, fields.bytes(1)?, fields.bytes(2)?),
         "identity" => new_identity(alloc, fields.text(1)?, fields.text(2)?),
-        "identity check" => {
-            let fault = Identity::check(fields.text(1)?, fields.text(2)?).err();
-            checked(alloc, fault.map(MappingError::code))
-        }
-        "same identities" => {
-            let other = identity(alloc, fields.text(3)?, fields.text(4)?)?;
-            let one = identity(alloc, fields.text(1)?, fields.text(2)?)?;
-            owned(alloc, compared(&one, &other))
-        }
-        "moment" => match moment(fields, 1)? {
-            Some(_) => owned(alloc, "kept"),
-            None => owned(alloc, "none"),
-        },
-        "moments" => {
-            let one = moment(fields, 1)?.ok_or(Trouble::NoCase)?;
-            let other = moment(fields, 3)?.ok_or(Trouble::NoCase)?;
-            owned(alloc, order(&one, &other))
-        }
+        "identity check" => check_identity(alloc, fields.text(1)?, fields.text(2)?),
+        "same identities" => same_identities(alloc, fields),
+        "moment" => new_moment(alloc, fields),
+        "moments" => two_moments(alloc, fields),
+        _ => Err(Trouble::NoCase),
+    }
+}
+
+fn same_sources(alloc: Global, text: &[u8], other: &[u8]) -> Result<String, Trouble> {
+    let one = source(alloc, text)?;
+    owned(alloc, compared(&one, &source(alloc, other)?))
+}
+
+fn check_identity(alloc: Global, source: &str, id: &str) -> Result<String, Trouble> {
+    let fault = Identity::check(source, id).err();
+    checked(alloc, fault.map(MappingError::code))
+}
+
+fn same_identities(alloc: Global, fields: &Fields) -> Result<String, Trouble> {
+    let one = identity(alloc, fields.text(1)?, fields.text(2)?)?;
+    let other = identity(alloc, fields.text(3)?, fields.text(4)?)?;
+    owned(alloc, compared(&one, &other))
+}
+
+fn new_moment(alloc: Global, fields: &Fields) -> Result<String, Trouble> {
+    match moment(fields, 1)? {
+        Some(_) => owned(alloc, "kept"),
+        None => owned(alloc, "none"),
+    }
+}
+
+fn two_moments(alloc: Global, fields: &Fields) -> Result<String, Trouble> {
+    match (moment(fields, 1)?, moment(fields, 3)?) {
+        (Some(one), Some(other)) => owned(alloc, order(&one, &other)),
         _ => Err(Trouble::NoCase),
     }
 }
@@ -96,15 +109,17 @@ fn new_source(alloc: Global, text: &[u8]) -> Result<String, Trouble> {
 /// The texts of a copy of an identity.
 fn new_identity(alloc: Global, source: &str, id: &str) -> Result<String, Trouble> {
     match Identity::parse(alloc, source, id) {
-        Ok(identity) => {
-            let copy = identity.clone()?;
-            let same = compared(&copy, &identity);
-            let (source, id) = (copy.source().text(), copy.source_id());
-            Ok(format!(in alloc; "{source} {id} {same}")?)
-        }
+        Ok(identity) => shown_identity(alloc, &identity),
         Err(MappingError::Memory) => Err(Trouble::Memory),
         Err(refusal) => refused(alloc, refusal.code()),
     }
+}
+
+fn shown_identity(alloc: Global, identity: &Identity) -> Result<String, Trouble> {
+    let copy = identity.clone()?;
+    let same = compared(&copy, identity);
+    let (source, id) = (copy.source().text(), copy.source_id());
+    Ok(format!(in alloc; "{source} {id} {same}")?)
 }
 
 /// The instant of a day and a nanosecond, which stand from a position on.

@@ -31,14 +31,23 @@ pub(crate) fn names<R: Env + Files + AllocGlobal + Clone + Drop>(
 /// Runs a table, prints each case that is wrong or no case and how many are as wanted, and says whether all are.
 pub(crate) fn is_as_wanted<R: Files + Print + AllocGlobal>(rt: &R, name: &str) -> io::Result<bool> {
     let table = fs::read_to_string(rt, format!(in rt.alloc(); "{name}{ENDING}")?.as_str())?;
-    let mut shelf = Shelf::new();
+    judge_lines(rt, name, table.as_str(), &mut Shelf::new())
+}
+
+/// Runs the lines of a table, and prints what they come to.
+fn judge_lines<R: Print + AllocGlobal>(
+    rt: &R,
+    name: &str,
+    table: &str,
+    shelf: &mut Shelf,
+) -> io::Result<bool> {
     let (mut all, mut count) = (true, 0u32);
     for (number, line) in table.lines().enumerate() {
         if line.is_empty() || line.starts_with('#') {
             continue;
         }
         let line_number = number.saturating_add(1);
-        match judge(rt.alloc(), &mut shelf, line) {
+        match judge(rt.alloc(), shelf, line) {
             Ok(None) => count = count.saturating_add(1),
             Ok(Some(said)) => {
                 println!(rt; "{name}, line {line_number}, gives {said}")?;

@@ -22,14 +22,21 @@ pub(crate) fn said(alloc: Global, call: &str, fields: &Fields) -> Result<String,
 /// What a request line of a common shape is read as, or `none`. Nothing is said of a line for want of memory too, so it is
 /// then read once more.
 fn common(alloc: Global, line: &[u8]) -> Result<String, Trouble> {
-    let mut scratch = Scratch::new(alloc);
-    if let Some(request) = read_common(alloc, line, &mut scratch) {
-        return shown_request(alloc, &request);
+    if let Some(text) = read_once(alloc, line)? {
+        return Ok(text);
     }
-    let mut again = Scratch::new(alloc);
-    match read_common(alloc, line, &mut again) {
+    match read_once(alloc, line)? {
         Some(_) => Err(Trouble::Memory),
         None => owned(alloc, "none"),
+    }
+}
+
+/// What a request line of a common shape is read as, or `None`.
+fn read_once(alloc: Global, line: &[u8]) -> Result<Option<String>, Trouble> {
+    let mut scratch = Scratch::new(alloc);
+    match read_common(alloc, line, &mut scratch) {
+        Some(request) => Ok(Some(shown_request(alloc, &request)?)),
+        None => Ok(None),
     }
 }
 

@@ -16,19 +16,23 @@ pub(crate) fn said(alloc: Global, call: &str, fields: &Fields) -> Result<String,
         "urn check" => checked(alloc, ServiceUrn::check(text).err().map(UrnError::code)),
         "urn cut" => cut(alloc, &service(alloc, text)?, fields.count(2)?),
         "urn front" => front(alloc, &service(alloc, text)?, fields.count(2)?),
-        "urn at or below" => {
-            let other = service(alloc, fields.bytes(2)?)?;
-            owned(
-                alloc,
-                yes_or_no(service(alloc, text)?.is_at_or_below(&other)),
-            )
-        }
-        "urn order" => {
-            let other = service(alloc, fields.bytes(2)?)?;
-            owned(alloc, order(&service(alloc, text)?, &other))
-        }
+        "urn at or below" => at_or_below(alloc, text, fields.bytes(2)?),
+        "urn order" => two_services(alloc, text, fields.bytes(2)?),
         _ => Err(Trouble::NoCase),
     }
+}
+
+fn at_or_below(alloc: Global, text: &[u8], other: &[u8]) -> Result<String, Trouble> {
+    let one = service(alloc, text)?;
+    owned(
+        alloc,
+        yes_or_no(one.is_at_or_below(&service(alloc, other)?)),
+    )
+}
+
+fn two_services(alloc: Global, text: &[u8], other: &[u8]) -> Result<String, Trouble> {
+    let one = service(alloc, text)?;
+    owned(alloc, order(&one, &service(alloc, other)?))
 }
 
 /// The service of a text that is one.
