@@ -54,8 +54,8 @@ fn read_row(line: &str) -> io::Result<Row> {
 
 /// The number that a word is.
 fn number(word: Option<&str>) -> io::Result<u64> {
-    match word {
-        Some(word) => word.parse::<u64>().map_err(|_| unfit()),
-        None => Err(unfit()),
+    match word.unwrap_or("").parse::<u64>() {
+        Ok(number) => Ok(number),
+        Err(_) => Err(unfit()),
     }
 }

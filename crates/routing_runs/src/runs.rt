@@ -33,6 +33,18 @@ struct Tally {
     difference: Option<(u64, &'static str)>,
 }
 
+impl Tally {
+    /// Nothing came yet.
+    fn new(alloc: Global) -> Tally {
+        Tally {
+            accepted: 0,
+            refusals: Vec::new(alloc),
+            questions: 0,
+            difference: None,
+        }
+    }
+}
+
 /// Runs each row, and prints what it came to and how often each refusal came. Says whether nothing differs; what does is
 /// printed, and ends the runs.
 pub(crate) fn print_runs<R: Files + Print + AllocGlobal>(rt: &R) -> io::Result<bool> {
@@ -64,30 +76,39 @@ pub(crate) fn print_runs<R: Files + Print + AllocGlobal>(rt: &R) -> io::Result<b
 
 /// Runs a row, up to its end or to a difference.
 fn run(alloc: Global, row: &Row) -> io::Result<Tally> {
+    let mut tally = Tally::new(alloc);
+    run_edits(alloc, row, &mut Books::new(alloc, row.limits)?, &mut tally)?;
+    Ok(tally)
+}
+
+/// Makes the edits of a row, up to its end or to a difference.
+fn run_edits(alloc: Global, row: &Row, books: &mut Books, tally: &mut Tally) -> io::Result<()> {
     let mut draws = Draws::new(row.seed);
-    let mut books = Books::new(alloc, row.limits)?;
-    let mut tally = Tally {
-        accepted: 0,
-        refusals: Vec::new(alloc),
-        questions: 0,
-        difference: None,
-    };
     for number in 0..row.edits {
-        let edit = edit(alloc, &mut draws, books.book(), number)?;
-        match books.apply(edit)? {
-            Outcome::Accepted => tally.accepted = tally.accepted.saturating_add(1),
-            Outcome::Refused(refusal) => tally.refusals.push(refusal)?,
-            Outcome::Differs => tally.difference = Some((number, "an edit")),
-        }
-        if tally.difference.is_none() {
-            tally.difference = asked(alloc, &mut draws, &books, number)?;
-        }
+        tally.difference = run_edit(alloc, &mut draws, books, tally, number)?;
         if tally.difference.is_some() {
-            return Ok(tally);
+            break;
         }
         tally.questions = tally.questions.saturating_add(ROUNDS * QUESTIONS);
     }
-    Ok(tally)
+    Ok(())
+}
+
+/// Makes the edit of this number, and asks all rounds after it. Says after which edit something differs, and what does.
+fn run_edit(
+    alloc: Global,
+    draws: &mut Draws,
+    books: &mut Books,
+    tally: &mut Tally,
+    number: u64,
+) -> io::Result<Option<(u64, &'static str)>> {
+    let edit = edit(alloc, draws, books.book(), number)?;
+    match books.apply(edit)? {
+        Outcome::Accepted => tally.accepted = tally.accepted.saturating_add(1),
+        Outcome::Refused(refusal) => tally.refusals.push(refusal)?,
+        Outcome::Differs => return Ok(Some((number, "an edit"))),
+    }
+    asked(alloc, draws, books, number)
 }
 
 /// Asks all rounds after the edit of this number: the first question to which the answers differ.

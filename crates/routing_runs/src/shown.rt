@@ -1,18 +1,33 @@
 //! A mapping as a text that has all of it.
+use lost_civic::CivicPattern;
+use lost_geo::Polygon;
 use lost_mapping::{Expires, Mapping};
 use std::alloc::{AllocError, Global};
 
 /// All that a mapping is asked for.
 pub(crate) fn shown(alloc: Global, mapping: &Mapping) -> Result<String, AllocError> {
+    let mut text = head(alloc, mapping)?;
+    push_end(&mut text, mapping)?;
+    for polygon in mapping.polygons() {
+        push_ring(alloc, &mut text, polygon)?;
+    }
+    for pattern in mapping.patterns() {
+        push_pattern(&mut text, pattern)?;
+    }
+    Ok(text)
+}
+
+/// What names it, when it was last changed, its service and its key, or a dash where it has none.
+fn head(alloc: Global, mapping: &Mapping) -> Result<String, AllocError> {
     let identity = mapping.identity();
-    let mut text = format!(in alloc;
-        "{} {} {} {} {:?}",
-        identity.source().text(),
-        identity.source_id(),
-        mapping.stamp().text(),
-        mapping.service().text(),
-        mapping.key()
-    )?;
+    let (source, source_id) = (identity.source().text(), identity.source_id());
+    let (stamp, service) = (mapping.stamp().text(), mapping.service().text());
+    let key = mapping.key().unwrap_or("-");
+    format!(in alloc; "{source} {source_id} {stamp} {service} {key}")
+}
+
+/// Adds when it expires, whether it is a default, and where the service is reached.
+fn push_end(text: &mut String, mapping: &Mapping) -> Result<(), AllocError> {
     text.push_str(match mapping.expires() {
         Expires::NoCache => " not kept",
         Expires::NoExpiration => " without end",
@@ -26,20 +41,25 @@ pub(crate) fn shown(alloc: Global, mapping: &Mapping) -> Result<String, AllocErr
     for uri in mapping.uris() {
         text.push_str(uri.as_str())?;
     }
-    for polygon in mapping.polygons() {
-        for point in polygon.positions() {
-            text.push_str(format!(in alloc; " {},{}", point.lat(), point.lon())?.as_str())?;
-        }
-        text.push_str(" ring")?;
+    Ok(())
+}
+
+/// Adds the positions of a ring.
+fn push_ring(alloc: Global, text: &mut String, polygon: &Polygon) -> Result<(), AllocError> {
+    for point in polygon.positions() {
+        let (lat, lon) = (point.lat(), point.lon());
+        text.push_str(format!(in alloc; " {lat},{lon}")?.as_str())?;
     }
-    for pattern in mapping.patterns() {
-        for pair in pattern.pairs() {
-            text.push_str(pair.0.as_str())?;
-            text.push_str("=")?;
-            text.push_str(pair.1.as_str())?;
-            text.push_str(";")?;
-        }
-        text.push_str(" pattern")?;
+    text.push_str(" ring")
+}
+
+/// Adds the names and the values of a pattern.
+fn push_pattern(text: &mut String, pattern: &CivicPattern) -> Result<(), AllocError> {
+    for pair in pattern.pairs() {
+        text.push_str(pair.0.as_str())?;
+        text.push_str("=")?;
+        text.push_str(pair.1.as_str())?;
+        text.push_str(";")?;
     }
-    Ok(text)
+    text.push_str(" pattern")
 }

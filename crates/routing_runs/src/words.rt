@@ -74,7 +74,10 @@ pub(crate) fn stamp_text(alloc: Global, nanosecond: u64) -> Result<String, Alloc
 /// The moment of such a stamp.
 pub(crate) fn moment(nanosecond: u64) -> io::Result<Moment> {
     let fraction = nanosecond.saturating_add(100_000_000);
-    Moment::new(DAY, fraction).ok_or(unfit())
+    match Moment::new(DAY, fraction) {
+        Some(moment) => Ok(moment),
+        None => Err(unfit()),
+    }
 }
 
 /// Names and values, each name once, and at least one.
