@@ -35,19 +35,24 @@ fn tell_answer<R: Print>(rt: &R, answer: &Answer) -> io::Result<()> {
     println!(rt; "counts {}", u8::from(answer.is_internal_error))
 }
 
-/// A line for each fault of a list.
-fn told<F: Display + Copy>(alloc: Global, faults: &[F]) -> Result<String, AllocError> {
-    let mut text = String::new(alloc);
+/// Adds a line for each fault of a list.
+fn add<F: Display + Copy>(
+    alloc: Global,
+    text: &mut String,
+    faults: &[F],
+) -> Result<(), AllocError> {
     for fault in faults {
         text.push_str(format!(in alloc; "{}\n", *fault)?.as_str())?;
     }
-    Ok(text)
+    Ok(())
 }
 
 /// The texts of what texts, points, rings and pairs are refused for.
 fn value_texts(alloc: Global) -> Result<String, AllocError> {
-    let urns = told(
+    let mut text = String::new(alloc);
+    add(
         alloc,
+        &mut text,
         &[
             UrnError::Prefix,
             UrnError::EmptyLabel,
@@ -58,17 +63,19 @@ fn value_texts(alloc: Global) -> Result<String, AllocError> {
             UrnError::Memory,
         ],
     )?;
-    let points = told(alloc, &[GeoError::Latitude, GeoError::Longitude])?;
-    let rings = told(
+    add(alloc, &mut text, &[GeoError::Latitude, GeoError::Longitude])?;
+    add(
         alloc,
+        &mut text,
         &[
             RingError::TooShort,
             RingError::NotClosed,
             RingError::TooLong,
         ],
     )?;
-    let pairs = told(
+    add(
         alloc,
+        &mut text,
         &[
             CivicError::NoKnownElement,
             CivicError::Repeated,
@@ -77,15 +84,17 @@ fn value_texts(alloc: Global) -> Result<String, AllocError> {
             CivicError::UnknownElement,
         ],
     )?;
-    let sources = told(alloc, &[SourceError::Bad, SourceError::Memory])?;
-    let stamps = told(alloc, &[StampError::Bad, StampError::Memory])?;
-    format!(in alloc; "{urns}{points}{rings}{pairs}{sources}{stamps}")
+    add(alloc, &mut text, &[SourceError::Bad, SourceError::Memory])?;
+    add(alloc, &mut text, &[StampError::Bad, StampError::Memory])?;
+    Ok(text)
 }
 
 /// The texts of what mappings and edits are refused for.
 fn edit_texts(alloc: Global) -> Result<String, AllocError> {
-    let mappings = told(
+    let mut text = String::new(alloc);
+    add(
         alloc,
+        &mut text,
         &[
             MappingError::BadSource,
             MappingError::BadSourceId,
@@ -101,8 +110,9 @@ fn edit_texts(alloc: Global) -> Result<String, AllocError> {
             MappingError::Memory,
         ],
     )?;
-    let edits = told(
+    add(
         alloc,
+        &mut text,
         &[
             EditError::IdentityHeld,
             EditError::IdentityUnknown,
@@ -114,16 +124,22 @@ fn edit_texts(alloc: Global) -> Result<String, AllocError> {
             EditError::Memory,
         ],
     )?;
-    format!(in alloc; "{mappings}{edits}")
+    Ok(text)
 }
 
 /// The texts of what lines and streams end in.
 fn line_texts(alloc: Global) -> Result<String, AllocError> {
-    let requests = told(alloc, &[ReadError::BadRequest, ReadError::Memory])?;
-    let refused = DeskFault::Mapping(MappingError::BadKey);
-    let desk_lines = told(alloc, &[DeskFault::BadLine, refused])?;
-    let streams = told(
+    let mut text = String::new(alloc);
+    add(
         alloc,
+        &mut text,
+        &[ReadError::BadRequest, ReadError::Memory],
+    )?;
+    let refused = DeskFault::Mapping(MappingError::BadKey);
+    add(alloc, &mut text, &[DeskFault::BadLine, refused])?;
+    add(
+        alloc,
+        &mut text,
         &[
             ServeError::Read,
             ServeError::Write,
@@ -131,5 +147,5 @@ fn line_texts(alloc: Global) -> Result<String, AllocError> {
             ServeError::Memory,
         ],
     )?;
-    format!(in alloc; "{requests}{desk_lines}{streams}")
+    Ok(text)
 }

@@ -10,9 +10,14 @@ use std::sync::Wait;
 
 /// Runs the commands of the standard input.
 pub(crate) fn run<R: Wait + Input + Print + AllocGlobal>(rt: &R) -> io::Result<()> {
-    let Some(setting) = Setting::new(rt.alloc()) else {
-        return Err(AllocError.into());
-    };
+    run_commands(rt, &Setting::new(rt.alloc())?)
+}
+
+/// Runs the commands, each stream as it is ready.
+fn run_commands<R: Wait + Input + Print + AllocGlobal>(
+    rt: &R,
+    setting: &Setting,
+) -> io::Result<()> {
     let mut bytes = Vec::new(rt.alloc());
     let mut line = String::new(rt.alloc());
     for _ in 0..u64::MAX {
@@ -22,7 +27,7 @@ pub(crate) fn run<R: Wait + Input + Print + AllocGlobal>(rt: &R) -> io::Result<(
         }
         if !prepare(&mut bytes, line.trim_end())? {
             println!(rt; "-- {}", line.trim_end())?;
-            serve(rt, &setting, bytes.as_slice(), line.trim_end())?;
+            serve(rt, setting, bytes.as_slice(), line.trim_end())?;
             bytes.clear();
         }
     }

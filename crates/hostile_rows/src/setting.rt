@@ -1,7 +1,7 @@
 //! The server of every stream.
 use lost_mapping::{Moment, Source, Stamp};
 use lost_worker::Moments;
-use std::alloc::Global;
+use std::alloc::{AllocError, Global};
 
 /// The server's name and the moment of every stream.
 #[derive(Drop)]
@@ -12,10 +12,10 @@ pub(crate) struct Setting {
 
 impl Setting {
     /// The server of every row, at its moment.
-    pub(crate) fn new(alloc: Global) -> Option<Setting> {
-        Some(Setting {
-            name: Source::parse(alloc, b"lost.example").ok()?,
-            moment: Stamp::parse(alloc, b"2026-01-01T00:00:00Z").ok()?.moment(),
+    pub(crate) fn new(alloc: Global) -> Result<Setting, AllocError> {
+        Ok(Setting {
+            name: source(alloc, "lost.example")?,
+            moment: moment(alloc, "2026-01-01T00:00:00Z")?,
         })
     }
 
@@ -24,6 +24,22 @@ impl Setting {
         Always {
             moment: self.moment,
         }
+    }
+}
+
+/// The source of a name.
+fn source(alloc: Global, name: &str) -> Result<Source, AllocError> {
+    match Source::parse(alloc, name.as_bytes()) {
+        Ok(source) => Ok(source),
+        Err(_) => Err(AllocError),
+    }
+}
+
+/// The moment of a stamp.
+fn moment(alloc: Global, stamp: &str) -> Result<Moment, AllocError> {
+    match Stamp::parse(alloc, stamp.as_bytes()) {
+        Ok(stamp) => Ok(stamp.moment()),
+        Err(_) => Err(AllocError),
     }
 }
 

@@ -1,8 +1,8 @@
 //! A worker with a connection that fails and a good one.
 use crate::setting::Setting;
-use crossbeam_channel::unbounded;
+use crossbeam_channel::{Receiver, unbounded};
 use lost_book::Limits;
-use lost_desk::{Readers, open_desk};
+use lost_desk::{Reader, open_desk};
 use lost_worker::{Connection, NoGate, Turns, worker_loop};
 use std::alloc::{AllocError, Global};
 use std::collections::VecDeque;
@@ -34,6 +34,24 @@ struct Counting {
     lines: Arc<AtomicU64>,
 }
 
+impl Counting {
+    /// Nothing is counted yet.
+    fn new(alloc: Global) -> Result<Counting, AllocError> {
+        Ok(Counting {
+            bytes: Arc::new(alloc, AtomicU64::new(0))?,
+            lines: Arc::new(alloc, AtomicU64::new(0))?,
+        })
+    }
+
+    /// One that counts to the same sums.
+    fn shared(&self) -> Result<Counting, AllocError> {
+        Ok(Counting {
+            bytes: self.bytes.clone()?,
+            lines: self.lines.clone()?,
+        })
+    }
+}
+
 impl Write for Counting {
     fn write(&mut self, buf: &[u8]) -> io::Result<usize> {
         for byte in buf {
@@ -63,7 +81,10 @@ pub(crate) fn work<R: Wait + Print + AllocGlobal>(
     let Ok((desk, mut readers)) = open_desk(rt, rt.alloc(), Limits::widest(), 1) else {
         return Err(AllocError.into());
     };
-    let result = serve_both(rt, setting, bytes, &mut readers);
+    let result = match readers.take() {
+        Some(mut reader) => serve_both(rt, setting, bytes, &mut reader),
+        None => Err(AllocError.into()),
+    };
     desk.close(rt);
     result
 }
@@ -73,40 +94,15 @@ fn serve_both<R: Wait + Print + AllocGlobal>(
     rt: &R,
     setting: &Setting,
     bytes: &[u8],
-    readers: &mut Readers,
+    reader: &mut Reader,
 ) -> io::Result<()> {
-    let alloc = rt.alloc();
-    let (Some(mut reader), Ok((sender, connections))) = (
-        readers.take(),
-        unbounded::<InMemory, Global>(alloc),
-    ) else {
-        return Err(AllocError.into());
-    };
-    let written = Arc::new(alloc, AtomicU64::new(0))?;
-    let lines = Arc::new(alloc, AtomicU64::new(0))?;
-    for is_failing in [true, false] {
-        let mut given = VecDeque::new(alloc);
-        given.write_all(bytes)?;
-        let connection = Connection {
-            input: Given {
-                bytes: given,
-                is_failing,
-            },
-            output: Counting {
-                bytes: written.clone()?,
-                lines: lines.clone()?,
-            },
-        };
-        if sender.send(rt, connection).is_err() {
-            return Err(AllocError.into());
-        }
-    }
-    drop(sender);
+    let written = Counting::new(rt.alloc())?;
+    let connections = connections(rt, bytes, &written)?;
     let counts = worker_loop(
         rt,
-        alloc,
+        rt.alloc(),
         &connections,
-        &mut reader,
+        reader,
         &setting.name,
         &mut setting.moments(),
         &NoGate,
@@ -118,7 +114,43 @@ fn serve_both<R: Wait + Print + AllocGlobal>(
     )?;
     println!(rt;
         "{} lines and {} bytes were written",
-        lines.load(Ordering::SeqCst),
-        written.load(Ordering::SeqCst)
+        written.lines.load(Ordering::SeqCst),
+        written.bytes.load(Ordering::SeqCst)
     )
+}
+
+/// Both connections, the failing one first, over a channel that has ended.
+fn connections<R: Wait + AllocGlobal>(
+    rt: &R,
+    bytes: &[u8],
+    written: &Counting,
+) -> io::Result<Receiver<InMemory>> {
+    let Ok((sender, connections)) = unbounded::<InMemory, Global>(rt.alloc()) else {
+        return Err(AllocError.into());
+    };
+    for is_failing in [true, false] {
+        let connection = connection(rt.alloc(), bytes, written.shared()?, is_failing)?;
+        if sender.send(rt, connection).is_err() {
+            return Err(AllocError.into());
+        }
+    }
+    Ok(connections)
+}
+
+/// A connection that gives bytes, or fails at once.
+fn connection(
+    alloc: Global,
+    bytes: &[u8],
+    output: Counting,
+    is_failing: bool,
+) -> io::Result<InMemory> {
+    let mut given = VecDeque::new(alloc);
+    given.write_all(bytes)?;
+    Ok(Connection {
+        input: Given {
+            bytes: given,
+            is_failing,
+        },
+        output,
+    })
 }
