@@ -22,17 +22,18 @@ is_closed-ends (p ∷ rest) first last some at_first at_last =
 
 -- ---- latitudes and longitudes
 
-last_of_pairs : (p : ℤ × ℤ) (rest : List (ℤ × ℤ)) (d : ℤ × ℤ) → point_of (get_or (p ∷ rest) (length rest) d) ≡ last_after (point_of p) (map point_of rest)
-last_of_pairs p [] d = refl
-last_of_pairs p (q ∷ rest) d = last_of_pairs q rest d
+last_of_items : {Item : Type 0} (position_of : Item → ℤ × ℤ) (item : Item) (rest : List Item) (d : Item) → point_of (position_of (get_or (item ∷ rest) (length rest) d)) ≡ last_after (point_of (position_of item)) (map point_of (map position_of rest))
+last_of_items position_of item [] d = refl
+last_of_items position_of item (other ∷ rest) d = last_of_items position_of other rest d
 
 -- what stands at the two ends of what the points are made of
-pub is_closed-pairs : (pairs : List (ℤ × ℤ)) (d : ℤ × ℤ) → 0 < length pairs → same_point (point_of (get_or pairs 0 d)) (point_of (get_or pairs (length pairs - 1) d)) ≡ is_closed (map point_of pairs)
-is_closed-pairs [] d some = absurd (omega arith)
-is_closed-pairs (p ∷ rest) d some =
-    let place : length (p ∷ rest) - 1 ≡ length rest = omega arith in
-    let e : point_of (get_or (p ∷ rest) (length (p ∷ rest) - 1) d) ≡ last_after (point_of p) (map point_of rest) = ap (λ (k : ℕ). point_of (get_or (p ∷ rest) k d)) place ∙ last_of_pairs p rest d in
-    ap (same_point (point_of p)) e
+pub is_closed-positions : {Item : Type 0} (position_of : Item → ℤ × ℤ) (items : List Item) (first last : Item) → 0 < length items →
+    first ≡ get_or items 0 first → last ≡ get_or items (length items - 1) last → same_point (point_of (position_of first)) (point_of (position_of last)) ≡ is_closed (map point_of (map position_of items))
+is_closed-positions position_of [] first last some at_first at_last = absurd (omega arith)
+is_closed-positions position_of (item ∷ rest) first last some at_first at_last =
+    let place : length (item ∷ rest) - 1 ≡ length rest = omega arith in
+    let e : point_of (position_of last) ≡ last_after (point_of (position_of item)) (map point_of (map position_of rest)) = ap (λ i. point_of (position_of i)) (at_last ∙ ap (λ (k : ℕ). get_or (item ∷ rest) k last) place) ∙ last_of_items position_of item rest last in
+    rw at_first (ap (same_point (point_of (position_of item))) e)
 
 -- ---- joined lists
 

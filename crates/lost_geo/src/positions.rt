@@ -9,18 +9,51 @@ ghost use Rattle.lost_spec.specs.Mapping.{is_ring, point_of};
 use crate::point::GeoPoint;
 use crate::polygon::{MAX_POSITIONS, MIN_POSITIONS};
 
+/// How the positions of a list are told from what stands for them, as a pair of numbers or a value of a tree.
+pub trait Positions {
+    ghost use Rattle.std.specs.Prelude.{◌≡◌, ℤ};
+
+    /// What stands for a position.
+    type Item;
+
+    // The latitude and the longitude of an item.
+    ghost position_of: { Self.Item → ℤ × ℤ };
+
+    /// The latitude and the longitude of an item, in whole 1e-7 degrees.
+    fn position(item: &Self::Item) -> (i64, i64)
+        ensures { result ≡ position_of item.now };
+}
+
+/// A pair is its own position.
+impl Positions for (i64, i64) {
+    type Item = (i64, i64);
+
+    ghost position_of = { λ pair. pair };
+
+    fn position(item: &(i64, i64)) -> (i64, i64) {
+        *item
+    }
+}
+
 /// Whether each of these latitudes and longitudes is a point, and together they are a ring: whether `GeoPoint::new` takes
 /// each of them, and `Polygon::new` all the points (RFC 5222, section 12.2; own bounds). It takes no memory.
 pub fn is_ring(positions: &[(i64, i64)]) -> bool
     ensures { result ≡ is_ring positions.now }
 {
-    are_points(positions) && make_ring(positions)
+    is_ring_of::<(i64, i64)>(positions)
 }
 
-fn are_points(positions: &[(i64, i64)]) -> bool
-    ensures { result ≡ list_all (λ position. is_none (point_fault position.0 position.1)) positions.now }
+/// The same of items from which positions are told.
+pub fn is_ring_of<T: Positions>(items: &[T::Item]) -> bool
+    ensures { result ≡ is_ring (map T.position_of items.now) }
 {
-    positions.iter().all(|position| is_point(*position))
+    are_points::<T>(items) && make_ring::<T>(items)
+}
+
+fn are_points<T: Positions>(items: &[T::Item]) -> bool
+    ensures { result ≡ list_all (λ position. is_none (point_fault position.0 position.1)) (map T.position_of items.now) }
+{
+    items.iter().all(|item| is_point(T::position(item)))
 }
 
 fn is_point(position: (i64, i64)) -> bool
@@ -33,22 +66,22 @@ fn is_point(position: (i64, i64)) -> bool
 }
 
 /// Whether there are 4 to 4,096 positions, and the last is equal to the first.
-fn make_ring(positions: &[(i64, i64)]) -> bool
-    ensures { result ≡ is_none (ring_fault (map point_of positions.now)) }
+fn make_ring<T: Positions>(items: &[T::Item]) -> bool
+    ensures { result ≡ is_none (ring_fault (map point_of (map T.position_of items.now))) }
 {
-    positions.len() >= MIN_POSITIONS && positions.len() <= MAX_POSITIONS && is_closed(positions)
+    items.len() >= MIN_POSITIONS && items.len() <= MAX_POSITIONS && is_closed::<T>(items)
 }
 
 /// Whether the last position is equal to the first.
-fn is_closed(positions: &[(i64, i64)]) -> bool
-    requires { 0 < length positions.now }
-    ensures { result ≡ is_closed_list (map point_of positions.now) }
+fn is_closed<T: Positions>(items: &[T::Item]) -> bool
+    requires { 0 < length items.now }
+    ensures { result ≡ is_closed_list (map point_of (map T.position_of items.now)) }
 {
-    is_same(&positions[0], &positions[positions.len() - 1])
+    is_same(T::position(&items[0]), T::position(&items[items.len() - 1]))
 }
 
-fn is_same(first: &(i64, i64), last: &(i64, i64)) -> bool
-    ensures { result ≡ same_point (point_of first.now) (point_of last.now) }
+fn is_same(first: (i64, i64), last: (i64, i64)) -> bool
+    ensures { result ≡ same_point (point_of first) (point_of last) }
 {
     first.0 == last.0 && first.1 == last.1
 }
