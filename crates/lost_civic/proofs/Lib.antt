@@ -1,6 +1,7 @@
 pub mod ElementLemmas
 pub mod PairCopies
 pub mod PairLemmas
+pub mod PatternLemmas
 pub mod Present
 pub mod SqueezedLemmas
 pub mod TextLemmas

@@ -1,18 +1,22 @@
 -- Pairs of a name and a value as the definitions see them: by the bytes of both.
-use Rattle.std.specs.Prelude.{Bool, List, map, ◌++◌, ◌&&◌, String, string_bytes}
+use Rattle.std.specs.Prelude.{Bool, List, map, length, not, nat_lt, ◌++◌, ◌&&◌, ◌||◌, String, string_bytes}
 use Rattle.std.specs.Cmp.{IsEquivalence, and_equiv, on_equiv}
 use Rattle.std.specs.Cmp.Lexicographic.{lists_equiv, nat_list_eq_equiv}
 use Rattle.std.specs.Hash as fed
 use Rattle.std.proofs.lemmas.Slice.Eq.{bytes_eq-Decides}
 use lib.Pointwise.{pointwise}
 use Rattle.lost_spec.specs.Text.{Text, same_text}
-use Rattle.lost_spec.specs.Civic.{Pairs}
+use Rattle.lost_spec.specs.Civic.{Pairs, is_known}
 
 abbrev pub seen_pair : {A : Type 0} → String A × String A → Text × Text
 seen_pair pair = (string_bytes pair.0, string_bytes pair.1)
 
 abbrev pub seen_pairs : {A : Type 0} → List (String A × String A) → Pairs
 seen_pairs pairs = map seen_pair pairs
+
+-- a pair that a pattern takes: neither text has over 512 bytes, and the name is known (own)
+abbrev pub is_pattern_pair : Text × Text → Bool
+is_pattern_pair pair = not (nat_lt 512 (length pair.0) || nat_lt 512 (length pair.1)) && is_known pair.0
 
 -- two pairs are the same, name and value, byte for byte
 abbrev pub same_pair : Text × Text → Text × Text → Bool

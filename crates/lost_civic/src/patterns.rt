@@ -5,10 +5,10 @@ ghost use Rattle.std.specs.Option.{option_copied};
 ghost use Rattle.std.specs.Result.{result_err};
 ghost use Rattle.std.specs.Cmp.{partial_equiv_from_equiv};
 ghost use Rattle.lost_spec.specs.Civic.{pattern_fault, matches};
-ghost use Rattle.lost_civic.specs.Pairs.{seen_pairs, same_pairs, same_pairs-equiv};
+ghost use Rattle.lost_civic.specs.Pairs.{seen_pairs, same_pairs, same_pairs-equiv, is_pattern_pair};
 ghost use Rattle.lost_civic.specs.Texts.{text_of, HasElement};
 
-use crate::refusals::first_pattern_fault;
+use crate::refusals::{self, first_pattern_fault};
 use crate::texts::{Compared, compare_pairs, find_text};
 use crate::{CivicAddress, Element};
 use lost_spec::faults::CivicError;
@@ -46,6 +46,17 @@ impl Model for CivicPattern {
 }
 
 impl CivicPattern {
+    /// The most pairs that a pattern has (own bound).
+    pub const MAX_PAIRS: usize = refusals::MAX_PAIRS;
+
+    /// Whether a pattern takes a pair of this name and this value: the name is that of an element, and neither text has
+    /// more than 512 bytes. So 1 to 128 such pairs, no name twice, are a pattern.
+    pub fn takes_pair(name: &str, value: &str) -> bool
+        ensures { result ≡ is_pattern_pair (name.now, value.now) }
+    {
+        !refusals::is_long(name, value) && refusals::knows(name)
+    }
+
     /// The pattern of these pairs. The refusals, in the order of the checks: `TooLong` for more than 128
     /// pairs, or a name or a value of more than 512 bytes; `Repeated` for a name that stands twice; `UnknownElement`
     /// where a name is that of no element; `NoKnownElement` where there is no pair; `Memory`.

@@ -1,6 +1,6 @@
 //! Which lists of pairs are no address, and which are no pattern (own rule).
 
-ghost use Rattle.std.specs.Prelude.{◌≡◌, ◌<◌, map, length};
+ghost use Rattle.std.specs.Prelude.{◌≡◌, ◌<◌, ◌||◌, map, length, nat_lt};
 ghost use Rattle.std.specs.List.{list_any, list_all};
 ghost use Rattle.lost_spec.specs.Text.{is_among, has_repeat};
 ghost use Rattle.lost_spec.specs.Civic.{names_of, is_known, is_too_long, address_fault, pattern_fault};
@@ -10,7 +10,7 @@ use crate::Element;
 use lost_spec::faults::CivicError;
 
 /// The most pairs that an address or a pattern has.
-const MAX_PAIRS: usize = 128;
+pub(crate) const MAX_PAIRS: usize = 128;
 
 /// The most bytes that a name or a value has.
 const MAX_BYTES: usize = 512;
@@ -51,7 +51,17 @@ fn exceeds_limits(pairs: &[(String, String)]) -> bool
     ensures { result ≡ is_too_long (seen_pairs pairs.now) }
 {
     pairs.len() > MAX_PAIRS
-        || pairs.iter().any(|pair| pair.0.len() > MAX_BYTES || pair.1.len() > MAX_BYTES)
+        || pairs
+            .iter()
+            .any(|pair| is_long(pair.0.as_str(), pair.1.as_str()))
+}
+
+/// Whether a name or a value has too many bytes.
+#[tactic(auto, using(std::proofs::lemmas::Bool::Decides::nat_tests))]
+pub(crate) fn is_long(name: &str, value: &str) -> bool
+    ensures { result ≡ (nat_lt 512 (length name.now) || nat_lt 512 (length value.now)) }
+{
+    name.len() > MAX_BYTES || value.len() > MAX_BYTES
 }
 
 /// Whether a name stands twice. It takes the square of their number, which is at most 128 where this is asked.
@@ -86,7 +96,7 @@ fn knows_each_name(pairs: &[(String, String)]) -> bool
     pairs.iter().all(|pair| knows(pair.0.as_str()))
 }
 
-fn knows(name: &str) -> bool
+pub(crate) fn knows(name: &str) -> bool
     ensures { result ≡ is_known name.now }
 {
     Element::by_name(name).is_some()
