@@ -2,9 +2,9 @@ pub mod AsciiLemmas
 pub mod BoolLemmas
 pub mod CalendarLemmas
 pub mod DigitLemmas
-mod DisplayNameLemmas
 mod HeadLemmas
 pub mod IdLemmas
+mod MappedLemmas
 pub mod PartsLemmas
 mod RegionLemmas
 pub mod ShapeLemmas

@@ -78,8 +78,8 @@ no_areas_fault p none = (both_none (contact_fault p) (areas_fault p) (both_none 
 pub no_regions_fault : (p : Parts) → None ≡ parts_fault p → regions_fault p.regions ≡ None
 no_regions_fault p none = (both_none (regions_fault p.regions) _ (no_areas_fault p none)).0
 
-no_shape_fault : (p : Parts) → None ≡ parts_fault p → shape_fault p.is_default (length p.regions) (polygons_of p.regions) (patterns_of p.regions) p.display_names p.key ≡ None
-no_shape_fault p none = (both_none (regions_fault p.regions) (shape_fault p.is_default (length p.regions) (polygons_of p.regions) (patterns_of p.regions) p.display_names p.key) (no_areas_fault p none)).1
+no_shape_fault : (p : Parts) → None ≡ parts_fault p → shape_fault p.is_default (length p.regions) (length (polygons_of p.regions)) (length (patterns_of p.regions)) p.display_names p.key ≡ None
+no_shape_fault p none = (both_none (regions_fault p.regions) (shape_fault p.is_default (length p.regions) (length (polygons_of p.regions)) (length (patterns_of p.regions)) p.display_names p.key) (no_areas_fault p none)).1
 
 -- a part that is not refused gives no other refusal
 pub refused_by_none : (fault whole : Option MappingError) (e : MappingError) → fault ≡ None → (e ≢ Memory → fault ≡ Some e) → e ≢ Memory → whole ≡ Some e
@@ -109,7 +109,7 @@ bare_default false regions right default = (cc, cc)
 
 pub shaped_where_accepted : (m : Mapping) (p : Parts) → None ≡ parts_fault p → m.is_default ≡ p.is_default → m.key ≡ p.key → m.polygons ≡ polygons_of p.regions → m.patterns ≡ patterns_of p.regions → IsShaped m
 shaped_where_accepted m p accepted default_is key_is polygons_are patterns_are =
-    let right = none_of_three (has_right_count p.is_default (length p.regions)) (is_oversized (polygons_of p.regions) (patterns_of p.regions) p.display_names) (has_right_key p.is_default p.key) (no_shape_fault p accepted) in
+    let right = none_of_three (has_right_count p.is_default (length p.regions)) (is_oversized (length (polygons_of p.regions)) (length (patterns_of p.regions)) p.display_names) (has_right_key p.is_default p.key) (no_shape_fault p accepted) in
     record {
       key = rw (default_is, key_is) right.1;
       polygons = λ default. polygons_are ∙ (bare_default p.is_default p.regions right.0 (sym default_is ∙ default)).0;

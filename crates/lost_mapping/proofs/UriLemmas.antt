@@ -1,18 +1,9 @@
--- A test of each text of a list is a test of the texts that definitions see.
-use Rattle.std.proofs.Common.{◌≡◌, ℕ, ◌≤◌, Bool, true, false, not, cond, nat_lt, ◌==◌, ltb-false, List, [], ◌∷◌, take, length, String, string_bytes, Some, None, position, refl, sym, ap, ◌||◌, ◌&&◌}
-use Rattle.std.specs.List.{list_any, list_all, prefix_len}
+-- What stands before the first colon of a text.
+use Rattle.std.proofs.Common.{◌≡◌, ℕ, ◌≤◌, Bool, true, false, not, cond, nat_lt, ◌==◌, ltb-false, take, length, Some, None, position, refl, sym, ap}
+use Rattle.std.specs.List.{prefix_len}
 use Rattle.std.proofs.lemmas.List.{take_all}
-use Rattle.lost_spec.specs.Text.{Text, lowered}
+use Rattle.lost_spec.specs.Text.{Text}
 use Rattle.lost_spec.specs.Mapping.{scheme_of}
-use Rattle.lost_mapping.specs.Texts.{texts_of, schemes_of}
-
-pub list_all-texts : {A : Type 0} (test : Text → Bool) (texts : List (String A)) → list_all (λ text. test (string_bytes text)) texts ≡ list_all test (texts_of texts)
-list_all-texts test [] = refl
-list_all-texts test (text ∷ rest) = ap (λ found. test (string_bytes text) && found) (list_all-texts test rest)
-
-pub list_any-schemes : {A : Type 0} (test : Text → Bool) (uris : List (String A)) → list_any (λ uri. test (lowered (scheme_of (string_bytes uri)))) uris ≡ list_any test (schemes_of (texts_of uris))
-list_any-schemes test [] = refl
-list_any-schemes test (uri ∷ rest) = ap (λ found. test (lowered (scheme_of (string_bytes uri))) || found) (list_any-schemes test rest)
 
 place_of_some : (found : Bool) (n place : ℕ) → cond found (Some n) None ≡ Some place → n ≡ place
 place_of_some true n place e = cc

@@ -6,8 +6,7 @@ use Rattle.lost_spec.specs.declared.faults.MappingError.{MappingError}
 use Rattle.lost_spec.specs.declared.faults.MappingError.TheVariants.{BadStamp, BadExpires, BadService, BadUri, BadNumber, BadRegion, RegionMissing, TooLarge, BadKey, Memory}
 use Rattle.lost_spec.specs.Text.{Text, first_fault}
 use Rattle.lost_spec.specs.Service.{read_service}
-use Rattle.lost_spec.specs.Ring.{Point, point_fault}
-use Rattle.lost_spec.specs.Civic.{Pairs}
+use Rattle.lost_spec.specs.Ring.{point_fault}
 use Rattle.lost_spec.specs.Moment.{is_stamp}
 use Rattle.lost_mapping.specs.Identity.{identity_fault}
 use Rattle.lost_spec.specs.Mapping.{Parts, Region, DisplayName, is_expires, are_uris, is_number, is_region, polygons_of, patterns_of, has_right_key}
@@ -58,13 +57,13 @@ abbrev pub has_right_count : Bool → ℕ → Bool
 has_right_count true count = count == 0
 has_right_count false count = nat_lt 0 count
 
--- too many polygons, patterns or display names, or a display name that is too long
-abbrev pub is_oversized : List (List Point) → List Pairs → List DisplayName → Bool
+-- too many polygons, patterns or display names, or a display name that is too long: by the numbers of polygons and patterns
+abbrev pub is_oversized : ℕ → ℕ → List DisplayName → Bool
 is_oversized polygons patterns names =
-    nat_lt 64 (length polygons) || nat_lt 256 (length patterns) || nat_lt 16 (length names)
+    nat_lt 64 polygons || nat_lt 256 patterns || nat_lt 16 (length names)
     || list_any (λ name. nat_lt 1024 (length name.lang) || nat_lt 1024 (length name.text)) names
 
-abbrev pub shape_fault : Bool → ℕ → List (List Point) → List Pairs → List DisplayName → Option Text → Option MappingError
+abbrev pub shape_fault : Bool → ℕ → ℕ → ℕ → List DisplayName → Option Text → Option MappingError
 shape_fault is_default count polygons patterns names key =
     first_fault (
     (not (has_right_count is_default count), RegionMissing)
@@ -75,4 +74,4 @@ shape_fault is_default count polygons patterns names key =
 abbrev pub areas_fault : Parts → Option MappingError
 areas_fault parts =
     option_or (regions_fault parts.regions)
-    (shape_fault parts.is_default (length parts.regions) (polygons_of parts.regions) (patterns_of parts.regions) parts.display_names parts.key)
+    (shape_fault parts.is_default (length parts.regions) (length (polygons_of parts.regions)) (length (patterns_of parts.regions)) parts.display_names parts.key)

@@ -1,7 +1,10 @@
 -- The parts of a mapping as the definitions see them: texts by their bytes.
 use Rattle.std.specs.Prelude.{List, map, option_map, string_bytes}
+use Rattle.std.specs.Option.{option_copied}
+use Rattle.lost_spec.specs.Text.{Text}
 use Rattle.lost_spec.specs.Mapping as spec
 use Rattle.lost_civic.specs.Pairs.{seen_pairs}
+use Rattle.lost_mapping.specs.declared.parts.BorrowedParts.{BorrowedParts}
 use Rattle.lost_mapping.specs.declared.parts.DisplayName.{DisplayName}
 use Rattle.lost_mapping.specs.declared.parts.Parts.{Parts}
 use Rattle.lost_mapping.specs.declared.parts.Region.{Region}
@@ -35,4 +38,20 @@ parts_of parts = record {
   is_default = parts.is_default;
   display_names = display_names_of parts.display_names.items;
   key = option_map string_bytes parts.key;
+}
+
+-- parts where they lie, by what the items of their lists tell
+abbrev pub parts_told : {U R N : Type 0} → (U → Text) → (R → spec.Region) → (N → spec.DisplayName) → BorrowedParts U R N → spec.Parts
+parts_told uri_of region_of display_name_of parts = record {
+  source = parts.source.now;
+  source_id = parts.source_id.now;
+  last_updated = parts.last_updated.now;
+  expires = parts.expires.now;
+  service = parts.service.now;
+  uris = map uri_of parts.uris.now;
+  number = option_copied parts.number;
+  regions = map region_of parts.regions.now;
+  is_default = parts.is_default;
+  display_names = map display_name_of parts.display_names.now;
+  key = option_copied parts.key;
 }

@@ -1,51 +1,47 @@
-//! The first refusal of parts, found before any memory is taken for them. Rules without a section are this profile's own.
+//! The first refusal of what does not stand at the head of parts, found before any memory is taken for it. Rules without a
+//! section are this profile's own.
 ghost use Rattle.std.specs.Prelude.{◌≡◌};
 ghost use Rattle.std.specs.Result.{result_err};
-ghost use Rattle.lost_spec.specs.Mapping.{parts_fault};
 ghost use Rattle.lost_mapping.specs.Faults.{contact_fault, areas_fault};
-ghost use Rattle.lost_mapping.specs.Parts.{parts_of};
+ghost use Rattle.lost_mapping.specs.Parts.{parts_told};
 
-use crate::head::check_head;
 use crate::number::is_number;
-use crate::parts::Parts;
-use crate::regions::are_regions;
+use crate::parts::BorrowedParts;
+use crate::regions::count_regions;
 use crate::shape::check_shape;
+use crate::telling::Telling;
 use crate::uris::are_uris;
 use lost_spec::faults::MappingError;
 
-/// Ok where parts are those of a mapping, and else their refusal, the first in the order of the codes.
-pub(crate) fn check_parts(parts: &Parts) -> Result<(), MappingError>
-    ensures { result_err result ≡ parts_fault (parts_of parts.now) }
-{
-    check_head(parts)?;
-    check_contact(parts)?;
-    check_areas(parts)
-}
-
 /// Refuses bad URIs, and then a bad number.
-fn check_contact(parts: &Parts) -> Result<(), MappingError>
-    ensures { result_err result ≡ contact_fault (parts_of parts.now) }
+pub(crate) fn check_contact<T: Telling>(
+    parts: &BorrowedParts<'_, T::Uri, T::Region, T::DisplayName>,
+) -> Result<(), MappingError>
+    ensures { result_err result ≡ contact_fault (parts_told T.uri_of T.region_of T.display_name_of parts.now) }
 {
-    if !are_uris(parts.uris.as_slice()) {
+    if !are_uris::<T>(parts.uris) {
         return Err(MappingError::BadUri);
     }
-    if !is_number(parts.number.as_deref()) {
+    if !is_number(parts.number) {
         return Err(MappingError::BadNumber);
     }
     Ok(())
 }
 
 /// Refuses bad regions, and then what does not go together or is too much.
-fn check_areas(parts: &Parts) -> Result<(), MappingError>
-    ensures { result_err result ≡ areas_fault (parts_of parts.now) }
+pub(crate) fn check_areas<T: Telling>(
+    parts: &BorrowedParts<'_, T::Uri, T::Region, T::DisplayName>,
+) -> Result<(), MappingError>
+    ensures { result_err result ≡ areas_fault (parts_told T.uri_of T.region_of T.display_name_of parts.now) }
 {
-    if !are_regions(parts.regions.as_slice()) {
+    let Some(counts) = count_regions::<T>(parts.regions) else {
         return Err(MappingError::BadRegion);
-    }
-    check_shape(
+    };
+    check_shape::<T>(
         parts.is_default,
-        parts.regions.as_slice(),
-        parts.display_names.as_slice(),
-        parts.key.as_deref(),
+        parts.regions.len(),
+        counts,
+        parts.display_names,
+        parts.key,
     )
 }

@@ -64,19 +64,6 @@ impl Head {
     }
 }
 
-/// Refuses what stands at the head of parts, the first that is bad.
-pub(crate) fn check_head(parts: &Parts) -> Result<(), MappingError>
-    ensures { result_err result ≡ head_fault (parts_of parts.now) }
-{
-    Head::check(
-        parts.source.as_str(),
-        parts.source_id.as_str(),
-        parts.last_updated.as_str(),
-        parts.expires.as_str(),
-        parts.service.as_str(),
-    )
-}
-
 /// Refuses the stamp, the end or the service, the first that is bad.
 fn check_terms(last_updated: &str, expires: &str, service: &str) -> Result<(), MappingError>
     ensures { result_err result ≡ terms_fault last_updated.now expires.now service.now }

@@ -19,6 +19,7 @@ mod shape;
 mod source;
 mod stamp;
 mod stamp_text;
+mod telling;
 mod uris;
 
 pub use expires::Expires;
@@ -26,6 +27,7 @@ pub use identity::Identity;
 pub use lost_spec::faults::{MappingError, SourceError, StampError};
 pub use mapping::Mapping;
 pub use moment::Moment;
-pub use parts::{DisplayName, Parts, Region};
+pub use parts::{BorrowedParts, DisplayName, Parts, Region, RegionKind};
 pub use source::Source;
 pub use stamp::Stamp;
+pub use telling::Telling;

@@ -6,18 +6,19 @@ ghost use Rattle.lost_spec.specs.Mapping.{parts_fault, mapping_of, is_live};
 ghost use Rattle.lost_spec.specs.Book.{identity_of};
 ghost use Rattle.lost_mapping.specs.Expires.{expires_seen};
 ghost use Rattle.lost_mapping.specs.Faults.{Refuses, head_fault_of};
-ghost use Rattle.lost_mapping.specs.Parts.{parts_of, display_names_of};
+ghost use Rattle.lost_mapping.specs.Parts.{parts_of, parts_told, display_names_of};
 ghost use Rattle.lost_mapping.specs.Shape.{IsShaped};
 ghost use Rattle.lost_mapping.specs.Texts.{texts_of};
 
-use crate::checks::check_parts;
+use crate::checks::{check_areas, check_contact};
 use crate::expires::Expires;
 use crate::head::Head;
 use crate::identity::Identity;
 use crate::moment::Moment;
-use crate::parts::{DisplayName, Parts};
+use crate::parts::{BorrowedParts, DisplayName, Parts};
 use crate::regions::Areas;
 use crate::stamp::Stamp;
+use crate::telling::Telling;
 use lost_civic::CivicPattern;
 use lost_geo::Polygon;
 use lost_spec::faults::MappingError;
@@ -83,7 +84,7 @@ impl Mapping {
         // Memory comes only after the checks.
         ensures checked_first { IfSome (parts_fault (parts_of parts)) (λ e. result ≡ Err e) }
     {
-        check_parts(&parts)?;
+        Mapping::check::<Parts>(&parts.borrowed())?;
         let head = Head::read(alloc, &parts)?;
         let areas = Areas::read(alloc, parts.regions)?;
         Mapping::share(
@@ -102,6 +103,28 @@ impl Mapping {
                 key: parts.key,
             },
         )
+    }
+
+    /// Ok where `build` takes parts like these, and else their refusal, the first in the order of the codes. It takes no
+    /// memory, and the parts may lie anywhere: `T` says how the items of their lists are told.
+    ///
+    /// # Errors
+    ///
+    /// Those of `build`, but for [`MappingError::Memory`].
+    pub fn check<T: Telling>(
+        parts: &BorrowedParts<'_, T::Uri, T::Region, T::DisplayName>,
+    ) -> Result<(), MappingError>
+        ensures { result_err result ≡ parts_fault (parts_told T.uri_of T.region_of T.display_name_of parts.now) }
+    {
+        Head::check(
+            parts.source,
+            parts.source_id,
+            parts.last_updated,
+            parts.expires,
+            parts.service,
+        )?;
+        check_contact::<T>(parts)?;
+        check_areas::<T>(parts)
     }
 
     /// Ok where the source, the sourceId, the stamp, the end and the service of a mapping are those that `build` takes,

@@ -28,6 +28,58 @@ pub struct Parts {
     pub key: Option<String>,
 }
 
+impl Parts {
+    ghost use Rattle.std.specs.Prelude.{◌≡◌, string_bytes};
+    ghost use Rattle.lost_mapping.specs.Parts.{region_of, display_name_of, parts_of, parts_told};
+
+    /// The same parts, borrowed.
+    pub fn borrowed(&self) -> BorrowedParts<'_, String, Region, DisplayName>
+        ensures { parts_told string_bytes region_of display_name_of result ≡ parts_of self.now }
+    {
+        BorrowedParts {
+            source: self.source.as_str(),
+            source_id: self.source_id.as_str(),
+            last_updated: self.last_updated.as_str(),
+            expires: self.expires.as_str(),
+            service: self.service.as_str(),
+            uris: self.uris.as_slice(),
+            number: self.number.as_deref(),
+            regions: self.regions.as_slice(),
+            is_default: self.is_default,
+            display_names: self.display_names.as_slice(),
+            key: self.key.as_deref(),
+        }
+    }
+}
+
+/// The parts of a mapping where they lie, as they are looked at before memory is taken for them: what [`Parts`] has, in
+/// lists of any items from which the URIs, the regions and the display names are told.
+#[derive(Drop)]
+pub struct BorrowedParts<'a, U, R, N> {
+    /// The name of the server that the mapping comes from (RFC 5222, section 5.1).
+    pub source: &'a str,
+    /// What names the mapping at its source (RFC 5222, section 5.1).
+    pub source_id: &'a str,
+    /// When the mapping was last changed (RFC 5222, section 5.1).
+    pub last_updated: &'a str,
+    /// `NO-CACHE`, `NO-EXPIRATION`, or until when the mapping holds (RFC 5222, section 5.2).
+    pub expires: &'a str,
+    /// The service URN (RFC 5222, section 5.4).
+    pub service: &'a str,
+    /// Where the service is reached (RFC 5222, section 5.8).
+    pub uris: &'a [U],
+    /// The number to dial for the service (RFC 5222, section 5.7).
+    pub number: Option<&'a str>,
+    /// Where the mapping holds (RFC 5222, section 5.5).
+    pub regions: &'a [R],
+    /// Whether the mapping is given where no other holds.
+    pub is_default: bool,
+    /// Names to show for the service (RFC 5222, section 5.3).
+    pub display_names: &'a [N],
+    /// What names the regions (RFC 5222, section 5.6).
+    pub key: Option<&'a str>,
+}
+
 /// One region of a mapping (RFC 5222, section 5.5).
 #[derive(Debug, Drop)]
 pub enum Region {
@@ -37,6 +89,15 @@ pub enum Region {
     Pattern(Vec<(String, String)>),
     /// A region of no known form.
     Unreadable,
+}
+
+/// What a region is that can be read (RFC 5222, section 5.5).
+#[derive(Clone, Copy, PartialEq, Eq, Debug)]
+pub enum RegionKind {
+    /// A ring of positions.
+    Polygon,
+    /// A civic pattern.
+    Pattern,
 }
 
 /// A name to show for the service (RFC 5222, section 5.3).

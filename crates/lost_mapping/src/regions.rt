@@ -7,10 +7,12 @@ ghost use Rattle.lost_spec.specs.Civic.{pattern_fault};
 ghost use Rattle.lost_civic.specs.Pairs.{seen_pairs};
 ghost use Rattle.lost_mapping.specs.Faults.{Refuses, fault_if, regions_fault, is_position};
 ghost use Rattle.lost_mapping.specs.Parts.{region_of, regions_of};
+ghost use Rattle.lost_mapping.specs.Regions.{region_counts};
 
-use crate::parts::Region;
+use crate::parts::{Region, RegionKind};
+use crate::telling::Telling;
 use lost_civic::{CivicError, CivicPattern};
-use lost_geo::{GeoPoint, Polygon, is_ring};
+use lost_geo::{GeoPoint, Polygon};
 use lost_spec::faults::MappingError;
 use std::alloc::Global;
 
@@ -74,21 +76,31 @@ impl Areas {
     }
 }
 
-/// Whether each region can be read: a ring of points, or a pattern that is not refused. It takes no memory.
-pub(crate) fn are_regions(regions: &[Region]) -> bool
-    ensures { result ≡ list_all is_region (regions_of regions.now) }
-{
-    regions.iter().all(is_region)
+/// How many regions are polygons, and how many are patterns.
+#[derive(Clone, Copy)]
+pub(crate) struct Counts {
+    pub polygons: usize,
+    pub patterns: usize,
 }
 
-fn is_region(region: &Region) -> bool
-    ensures { result ≡ is_region (region_of region.now) }
+/// How many regions are polygons and how many are patterns, or nothing where one of them cannot be read. It takes no
+/// memory.
+pub(crate) fn count_regions<T: Telling>(regions: &[T::Region]) -> Option<Counts>
+    ensures { result ≡ region_counts (map T.region_of regions.now) }
 {
-    match region {
-        Region::Ring(positions) => is_ring(positions.as_slice()),
-        Region::Pattern(pairs) => CivicPattern::check(pairs.as_slice()).is_ok(),
-        Region::Unreadable => false,
+    let mut counts = Counts {
+        polygons: 0,
+        patterns: 0,
+    };
+    let mut rest = regions;
+    while let Some((region, others)) = rest.split_first() {
+        match T::region_kind(region)? {
+            RegionKind::Polygon => counts.polygons += 1,
+            RegionKind::Pattern => counts.patterns += 1,
+        }
+        rest = others;
     }
+    Some(counts)
 }
 
 fn read_polygon(alloc: Global, positions: &[(i64, i64)]) -> Result<Polygon, MappingError>

@@ -1,9 +1,11 @@
 //! Which texts are URIs, and which lists of them a mapping may have. Rules without a section are this profile's own.
-ghost use Rattle.std.specs.Prelude.{◌≡◌, ◌==◌, position};
+ghost use Rattle.std.specs.Prelude.{◌≡◌, ◌==◌, map, position};
 ghost use Rattle.std.specs.List.{list_all};
 ghost use Rattle.lost_spec.specs.Text.{same_text, lowered, is_between, is_among, has_repeat};
 ghost use Rattle.lost_spec.specs.Mapping.{is_uri as is_uri_text, are_uris as are_uri_texts, is_scheme as is_scheme_text, is_scheme_byte as is_scheme_byte_code, scheme_of as scheme_of_text};
-ghost use Rattle.lost_mapping.specs.Texts.{texts_of, schemes_of};
+ghost use Rattle.lost_mapping.specs.Texts.{schemes_of};
+
+use crate::telling::Telling;
 
 /// The most bytes that a URI has.
 const MAX_LEN: usize = 2048;
@@ -14,16 +16,19 @@ const MAX_COUNT: usize = 16;
 /// Whether there are 1 to 16 URIs, and no scheme stands twice, in any case (RFC 5222, section 5.8; the number is an
 /// own rule). Schemes are compared only where the number is right, so the work stays linear in the bytes given.
 #[tactic(auto, using(std::proofs::lemmas::Bool::Decides::nat_tests))]
-pub(crate) fn are_uris(uris: &[String]) -> bool
-    ensures { result ≡ are_uri_texts (texts_of uris.now) }
+pub(crate) fn are_uris<T: Telling>(uris: &[T::Uri]) -> bool
+    ensures { result ≡ are_uri_texts (map T.uri_of uris.now) }
 {
-    !uris.is_empty() && uris.len() <= MAX_COUNT && each_is_uri(uris) && !repeats_scheme(uris)
+    !uris.is_empty()
+        && uris.len() <= MAX_COUNT
+        && each_is_uri::<T>(uris)
+        && !repeats_scheme::<T>(uris)
 }
 
-fn each_is_uri(uris: &[String]) -> bool
-    ensures { result ≡ list_all is_uri_text (texts_of uris.now) }
+fn each_is_uri<T: Telling>(uris: &[T::Uri]) -> bool
+    ensures { result ≡ list_all is_uri_text (map T.uri_of uris.now) }
 {
-    uris.iter().all(|uri| is_uri(uri.as_bytes()))
+    uris.iter().all(|uri| is_uri(T::uri(uri).as_bytes()))
 }
 
 /// Whether a text is a URI: a scheme, a colon and at least one more byte, all of them visible ASCII, and at most
@@ -83,12 +88,12 @@ fn is_scheme_byte(byte: u8) -> bool
 }
 
 /// Whether a scheme stands twice, in any case. It takes the square of the number of URIs.
-fn repeats_scheme(uris: &[String]) -> bool
-    ensures { result ≡ has_repeat (schemes_of (texts_of uris.now)) }
+fn repeats_scheme<T: Telling>(uris: &[T::Uri]) -> bool
+    ensures { result ≡ has_repeat (schemes_of (map T.uri_of uris.now)) }
 {
     let mut rest = uris;
     while let Some((uri, others)) = rest.split_first() {
-        if has_scheme(others, scheme_of(uri.as_bytes())) {
+        if has_scheme::<T>(others, scheme_of(T::uri(uri).as_bytes())) {
             return true;
         }
         rest = others;
@@ -96,11 +101,10 @@ fn repeats_scheme(uris: &[String]) -> bool
     false
 }
 
-fn has_scheme(uris: &[String], scheme: &[u8]) -> bool
-    ensures { result ≡ is_among (lowered scheme.now) (schemes_of (texts_of uris.now)) }
+fn has_scheme<T: Telling>(uris: &[T::Uri], scheme: &[u8]) -> bool
+    ensures { result ≡ is_among (lowered scheme.now) (schemes_of (map T.uri_of uris.now)) }
 {
-    uris.iter()
-        .any(|uri| is_same_scheme(scheme, scheme_of(uri.as_bytes())))
+    uris.iter().any(|uri| is_same_scheme(scheme, scheme_of(T::uri(uri).as_bytes())))
 }
 
 fn is_same_scheme(scheme: &[u8], other: &[u8]) -> bool

@@ -1,4 +1,4 @@
-use Rattle.std.proofs.Common.{◌≡◌, refl, sym, ◌∙◌}
+use Rattle.std.proofs.Common.{◌≡◌, refl, sym, ap, ◌∙◌}
 use Rattle.std.proofs.lemmas.Result.{err_from_is_err_and, IfOk-weaker}
 use Rattle.lost_spec.specs.Mapping.{parts_fault, mapping_of}
 use Rattle.lost_mapping.specs.Faults.{head_fault, regions_fault}
@@ -10,19 +10,19 @@ pub returns-in_err-head-clause-refused : goal.returns-in_err-head-clause-refused
 returns-in_err-head-clause-refused c =
     let parts = parts_of c.args.parts in
     let seen = err_from_is_err_and c.from_residual-in_err-head.result c.from_residual-in_err-head.ensures.1 in
-    rw (seen.1, seen.2) (refused_by_none (head_fault parts) (parts_fault parts) _ (no_head_fault parts c.in_ok-check_parts.ensures) c.in_err-head.ensures.refuses)
+    rw (seen.1, seen.2) (refused_by_none (head_fault parts) (parts_fault parts) _ (no_head_fault parts (c.in_ok-check.ensures ∙ ap parts_fault c.borrowed.ensures)) c.in_err-head.ensures.refuses)
 
 pub returns-in_err-areas-clause-refused : goal.returns-in_err-areas-clause-refused
 returns-in_err-areas-clause-refused c =
     let parts = parts_of c.args.parts in
     let seen = err_from_is_err_and c.from_residual-in_err-areas.result c.from_residual-in_err-areas.ensures.1 in
-    rw (seen.1, seen.2) (refused_by_none (regions_fault parts.regions) (parts_fault parts) _ (no_regions_fault parts c.in_ok-check_parts.ensures) c.in_err-areas.ensures.refuses)
+    rw (seen.1, seen.2) (refused_by_none (regions_fault parts.regions) (parts_fault parts) _ (no_regions_fault parts (c.in_ok-check.ensures ∙ ap parts_fault c.borrowed.ensures)) c.in_err-areas.ensures.refuses)
 
 pub share-requires : goal.share-requires
-share-requires c = shaped_where_accepted _ (parts_of c.args.parts) c.in_ok-check_parts.ensures refl refl c.in_ok-areas.ensures.polygons c.in_ok-areas.ensures.patterns
+share-requires c = shaped_where_accepted _ (parts_of c.args.parts) (c.in_ok-check.ensures ∙ ap parts_fault c.borrowed.ensures) refl refl c.in_ok-areas.ensures.polygons c.in_ok-areas.ensures.patterns
 
 pub returns-clause-accepted : goal.returns-clause-accepted
-returns-clause-accepted c = on_ok_always _ (sym c.in_ok-check_parts.ensures)
+returns-clause-accepted c = on_ok_always _ (sym (c.in_ok-check.ensures ∙ ap parts_fault c.borrowed.ensures))
 
 pub returns-clause-mapping : goal.returns-clause-mapping
 returns-clause-mapping c =
