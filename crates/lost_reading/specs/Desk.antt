@@ -1,6 +1,5 @@
 -- Desk lines: edits, commits, and the refusals of what is neither. (Own format.)
-use Rattle.std.specs.Prelude.{ℕ, Bool, false, if◌then◌else◌, ◌||◌, ◌&&◌, List, [], Option, Some, None, is_some, option_map, option_and_then, unwrap_or, Result, Ok, Err, codes}
-use Rattle.std.specs.Result.{result_err}
+use Rattle.std.specs.Prelude.{ℕ, Bool, false, if◌then◌else◌, ◌||◌, List, [], Option, Some, None, is_some, option_map, option_and_then, unwrap_or, Result, Ok, Err, codes}
 use Rattle.serde_json.specs.Data.{Data, Members}
 use Rattle.serde_json.specs.Find.{as_bool, as_str, as_object}
 use Rattle.lost_spec.specs.declared.faults.MappingError.{MappingError}
@@ -12,7 +11,6 @@ use Rattle.lost_spec.specs.Mapping.{Region, RingRegion, PatternRegion, Unreadabl
 use Rattle.lost_spec.specs.Book.{Edit, Publish, Replace, Withdraw}
 use Rattle.lost_spec.specs.Answer.{is_geodetic, is_civic}
 use Rattle.lost_mapping.specs.Identity.{identity_fault}
-use Rattle.lost_mapping.specs.Faults.{head_fault}
 use Rattle.lost_reading.specs.declared.desk.DeskFault.{DeskFault}
 use Rattle.lost_reading.specs.declared.desk.DeskFault.TheVariants.{BadLine, Mapping as MappingFault}
 use Rattle.lost_reading.specs.Members.{tree_of, the_member, required, optional, defaulting, list_in, position_in, pairs_in, only_member}
@@ -93,16 +91,6 @@ parts_of_members members =
     (required as_str (codes "sourceId") members))
     (required as_str (codes "source") members)
 
--- what does not stand at a mapping's head is there, each member of its kind
-abbrev pub has_other_parts : Members → Bool
-has_other_parts members =
-    is_some (required (list_in as_str) (codes "uri") members)
-    && is_some (optional as_str (codes "serviceNumber") members)
-    && is_some (optional regions_kind (codes "serviceBoundary") members)
-    && is_some (optional as_bool (codes "default") members)
-    && is_some (optional (list_in display_name_in) (codes "displayName") members)
-    && is_some (optional as_str (codes "key") members)
-
 -- an order, or the refusal of what it was made of
 abbrev pub unless_fault : Option MappingError → Order → Result Order DeskFault
 unless_fault None order = Ok order
@@ -112,12 +100,6 @@ unless_fault (Some fault) order = Err (MappingFault fault)
 abbrev pub mapping_order : (Mapping → Edit) → Option Parts → Result Order DeskFault
 mapping_order edit None = Err BadLine
 mapping_order edit (Some parts) = unless_fault (parts_fault parts) (Stage (edit (mapping_of parts)))
-
--- the refusal of a mapping that is found before memory is taken: its parts are missing or of another kind, or what stands
--- at its head is refused
-abbrev pub mapping_refusal : Option Parts → Option DeskFault
-mapping_refusal None = Some BadLine
-mapping_refusal (Some parts) = option_map MappingFault (head_fault parts)
 
 -- ---- withdrawals
 
@@ -155,17 +137,6 @@ order_named name members =
     if same_text (codes "publish") name then mapping_order Publish (parts_of_members members)
     else (if same_text (codes "replace") name then mapping_order Replace (parts_of_members members)
     else (if same_text (codes "withdraw") name then withdrawal_order members else Ok Commit))
-
--- the refusal of an order of this name that is found before memory is taken
-abbrev pub refusal_named : Text → Members → Option DeskFault
-refusal_named name members =
-    if same_text (codes "publish") name then mapping_refusal (parts_of_members members)
-    else (if same_text (codes "replace") name then mapping_refusal (parts_of_members members)
-    else (if same_text (codes "withdraw") name then result_err (withdrawal_order members) else None))
-
--- the same of a value: one that is no object is a bad line
-abbrev pub refusal_in : Text → Data → Option DeskFault
-refusal_in name value = unwrap_or (option_map (refusal_named name) (as_object value)) (Some BadLine)
 
 -- a value that is no object is a bad line
 abbrev pub order_of_member : Text × Data → Option (Result Order DeskFault)

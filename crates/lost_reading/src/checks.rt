@@ -1,53 +1,96 @@
 //! The first refusal of a mapping that a map desk hands in, found in the tree before any memory is taken. Rules without a
 //! section are this profile's own.
-ghost use Rattle.std.specs.Prelude.{◌≡◌};
+ghost use Rattle.std.specs.Prelude.{◌≡◌, false, [], map, option_map};
+ghost use Rattle.std.specs.Option.{option_copied};
 ghost use Rattle.std.specs.Result.{result_err};
-ghost use Rattle.serde_json.specs.View.{members_view};
-ghost use Rattle.lost_reading.specs.Desk.{parts_of_members, has_other_parts, mapping_refusal};
+ghost use Rattle.serde_json.specs.Find.{as_bool, as_str};
+ghost use Rattle.serde_json.specs.View.{view, members_view};
+ghost use Rattle.lost_spec.specs.Book as book;
+ghost use Rattle.lost_spec.specs.Mapping as spec;
+ghost use Rattle.lost_reading.specs.Members.{required, optional, defaulting, list_in};
+ghost use Rattle.lost_reading.specs.Desk.{parts_of_members, mapping_order};
+ghost use Rattle.lost_reading.specs.Told.{tree_parts};
 
 use crate::desk::DeskFault;
-use crate::fits::{has, may_have};
-use crate::reading::text_member;
-use lost_mapping::{DisplayName, Mapping, Region};
+use crate::fits::{Fits, list};
+use crate::reading::{member, text_member};
+use crate::tree::Tree;
+use lost_mapping::{BorrowedParts, DisplayName, Mapping, Region};
 use serde_json::{Map, Value};
 
-/// Ok where the members of an object are the parts of a mapping, each of its kind, and what stands at its head is not
-/// refused, and else the first refusal.
+/// Ok where the members of an object are the parts of a mapping, each of its kind, and none is refused, and else the first
+/// refusal.
 pub(crate) fn check_members(members: &Map<String, Value>) -> Result<(), DeskFault>
-    ensures { result_err result ≡ mapping_refusal (parts_of_members (members_view members.now.entries)) }
+    ensures { (edit : spec.Mapping → book.Edit)
+        → result_err result ≡ result_err (mapping_order edit (parts_of_members (members_view members.now.entries))) }
 {
-    let Some(source) = text_member(members, "source") else {
+    let Some(parts) = tell_parts(members) else {
         return Err(DeskFault::BadLine);
     };
-    let Some(source_id) = text_member(members, "sourceId") else {
-        return Err(DeskFault::BadLine);
-    };
-    let Some(last_updated) = text_member(members, "lastUpdated") else {
-        return Err(DeskFault::BadLine);
-    };
-    let Some(expires) = text_member(members, "expires") else {
-        return Err(DeskFault::BadLine);
-    };
-    let Some(service) = text_member(members, "service") else {
-        return Err(DeskFault::BadLine);
-    };
-    if !has_other_parts(members) {
-        return Err(DeskFault::BadLine);
-    }
-    match Mapping::check_head(source, source_id, last_updated, expires, service) {
+    match Mapping::check::<Tree>(&parts) {
         Ok(()) => Ok(()),
         Err(fault) => Err(DeskFault::Mapping(fault)),
     }
 }
 
-/// Whether what does not stand at the head is there, each member of its kind.
-fn has_other_parts(members: &Map<String, Value>) -> bool
-    ensures { result ≡ has_other_parts (members_view members.now.entries) }
+/// The parts of a mapping as they lie in the tree, or nothing where a required member is missing or a member is of another
+/// kind.
+fn tell_parts(members: &Map<String, Value>) -> Option<BorrowedParts<'_, Value, Value, Value>>
+    ensures { option_map tree_parts result ≡ parts_of_members (members_view members.now.entries) }
 {
-    has::<Vec<String>>(members, "uri")
-        && may_have::<String>(members, "serviceNumber")
-        && may_have::<Vec<Region>>(members, "serviceBoundary")
-        && may_have::<bool>(members, "default")
-        && may_have::<Vec<DisplayName>>(members, "displayName")
-        && may_have::<String>(members, "key")
+    Some(BorrowedParts {
+        source: text_member(members, "source")?,
+        source_id: text_member(members, "sourceId")?,
+        last_updated: text_member(members, "lastUpdated")?,
+        expires: text_member(members, "expires")?,
+        service: text_member(members, "service")?,
+        uris: list_member::<String>(members, "uri")?,
+        number: text_if_any(members, "serviceNumber")?,
+        regions: list_if_any::<Region>(members, "serviceBoundary")?,
+        is_default: truth_if_any(members, "default")?,
+        display_names: list_if_any::<DisplayName>(members, "displayName")?,
+        key: text_if_any(members, "key")?,
+    })
+}
+
+/// The items of a required list, each of a kind.
+fn list_member<'v, T: Fits>(members: &'v Map<String, Value>, name: &str) -> Option<&'v [Value]>
+    ensures { option_map (λ items. map (λ item. T.told (view item)) items.now) result
+        ≡ required (list_in T.meant) name.now (members_view members.now.entries) }
+{
+    match member(members, name) {
+        Some(value) => list::<T>(value),
+        None => None,
+    }
+}
+
+/// The items of an optional list, each of a kind: none where it is absent.
+fn list_if_any<'v, T: Fits>(members: &'v Map<String, Value>, name: &str) -> Option<&'v [Value]>
+    ensures { option_map (λ items. map (λ item. T.told (view item)) items.now) result
+        ≡ defaulting (list_in T.meant) [] name.now (members_view members.now.entries) }
+{
+    match member(members, name) {
+        Some(value) => list::<T>(value),
+        None => Some(&[]),
+    }
+}
+
+/// An optional text.
+fn text_if_any<'v>(members: &'v Map<String, Value>, name: &str) -> Option<Option<&'v str>>
+    ensures { option_map (λ text. option_copied text) result ≡ optional as_str name.now (members_view members.now.entries) }
+{
+    match member(members, name) {
+        Some(value) => Some(Some(value.as_str()?)),
+        None => Some(None),
+    }
+}
+
+/// An optional truth value: false where it is absent.
+fn truth_if_any(members: &Map<String, Value>, name: &str) -> Option<bool>
+    ensures { result ≡ defaulting as_bool false name.now (members_view members.now.entries) }
+{
+    match member(members, name) {
+        Some(value) => value.as_bool(),
+        None => Some(false),
+    }
 }

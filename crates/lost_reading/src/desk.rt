@@ -7,7 +7,7 @@ ghost use Rattle.lost_spec.specs.Book as book;
 ghost use Rattle.lost_spec.specs.Mapping as spec;
 ghost use Rattle.lost_spec.specs.Moment.{is_stamp, stamp_of};
 ghost use Rattle.lost_spec.specs.Text.{lowered};
-ghost use Rattle.lost_reading.specs.Desk.{Stage, parts_of_members, mapping_order, mapping_refusal, withdrawal_fault, withdrawal, withdrawal_order, is_desk_name, order_named, refusal_named, refusal_in, order_of_member, order_in, desk_line, desk_fault_code};
+ghost use Rattle.lost_reading.specs.Desk.{Stage, parts_of_members, mapping_order, withdrawal_fault, withdrawal, withdrawal_order, is_desk_name, order_named, order_of_member, order_in, desk_line, desk_fault_code};
 ghost use Rattle.lost_reading.specs.DeskLines.{order_of, fault_of, GivesOrder, GivesLine};
 
 use crate::checks::check_members;
@@ -110,11 +110,10 @@ pub(crate) fn is_desk_name(name: &str) -> bool
     "publish" == name || "replace" == name || "withdraw" == name || "commit" == name
 }
 
-/// The order of this name: a value that is no object is a bad line. What is refused before memory is taken is refused though
-/// memory is short.
+/// The order of this name: a value that is no object is a bad line. What is refused is refused though memory is short.
 pub(crate) fn read_order(alloc: Global, name: &str, value: &Value) -> Result<DeskLine, DeskFault>
     ensures given { GivesOrder result (unwrap_or (option_map (order_named name.now) (as_object (view value.now))) (Err DeskFault.BadLine)) }
-    ensures checked_first { IfSome (refusal_in name.now (view value.now)) (λ fault. result ≡ Err fault) }
+    ensures checked_first { IfErr (unwrap_or (option_map (order_named name.now) (as_object (view value.now))) (Err DeskFault.BadLine)) (λ fault. result ≡ Err fault) }
 {
     match value.as_object() {
         Some(members) => read_named_order(alloc, name, members),
@@ -122,14 +121,14 @@ pub(crate) fn read_order(alloc: Global, name: &str, value: &Value) -> Result<Des
     }
 }
 
-/// The order of this name, by the members of its value.
+/// The order of this name, by the members of its value. What is refused is refused though memory is short.
 fn read_named_order(
     alloc: Global,
     name: &str,
     members: &Map<String, Value>,
 ) -> Result<DeskLine, DeskFault>
     ensures given { GivesOrder result (order_named name.now (members_view members.now.entries)) }
-    ensures checked_first { IfSome (refusal_named name.now (members_view members.now.entries)) (λ fault. result ≡ Err fault) }
+    ensures checked_first { IfErr (order_named name.now (members_view members.now.entries)) (λ fault. result ≡ Err fault) }
 {
     if "publish" == name {
         Ok(DeskLine::Edit(Edit::Publish(read_mapping(alloc, members)?)))
@@ -142,14 +141,15 @@ fn read_named_order(
     }
 }
 
-/// The mapping of an object, or the first refusal of its parts. Parts that are missing or of another kind, and a refusal of
-/// what stands at the head, are answered though memory is short.
+/// The mapping of an object, or the first refusal of its parts. What is refused is refused though memory is short: all is
+/// looked at in the tree before anything is copied out of it.
 fn read_mapping(alloc: Global, members: &Map<String, Value>) -> Result<Mapping, DeskFault>
     ensures mapping { IfOk result (λ mapping. (edit : spec.Mapping → book.Edit)
         → mapping_order edit (parts_of_members (members_view members.now.entries)) ≡ Ok (Stage (edit mapping))) }
     ensures refused { IfErr result (λ fault. fault ≢ DeskFault.Mapping MappingError.Memory → (edit : spec.Mapping → book.Edit)
         → mapping_order edit (parts_of_members (members_view members.now.entries)) ≡ Err fault) }
-    ensures checked_first { IfSome (mapping_refusal (parts_of_members (members_view members.now.entries))) (λ fault. result ≡ Err fault) }
+    ensures checked_first { (edit : spec.Mapping → book.Edit)
+        → IfErr (mapping_order edit (parts_of_members (members_view members.now.entries))) (λ fault. result ≡ Err fault) }
 {
     check_members(members)?;
     let parts = read_parts(alloc, members)?;

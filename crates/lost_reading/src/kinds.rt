@@ -109,31 +109,38 @@ impl Kind for (i64, i64) {
     ghost meant = { position_in };
 
     fn read(_alloc: Global, value: &Value) -> Result<(i64, i64), ReadError> {
-        match value.as_array() {
-            Some(items) => read_position(items.as_slice()),
+        match position(value) {
+            Some(position) => Ok(position),
             None => Err(ReadError::BadRequest),
         }
     }
 }
 
-/// The position of two whole numbers.
-fn read_position(items: &[Value]) -> Result<(i64, i64), ReadError>
-    ensures { Gives (λ position. position) result (option_and_then two_of (each_of whole_in (items_view items.now))) }
+/// The position that a value is: a list of two whole numbers. It takes no memory.
+pub(crate) fn position(value: &Value) -> Option<(i64, i64)>
+    ensures { result ≡ position_in (view value.now) }
 {
-    match items {
-        [lat, lon] => Ok((read_whole(lat)?, read_whole(lon)?)),
-        _ => Err(ReadError::BadRequest),
+    match value.as_array() {
+        Some(items) => position_of(items.as_slice()),
+        None => None,
     }
 }
 
-/// A whole number.
-fn read_whole(value: &Value) -> Result<i64, ReadError>
-    ensures { Gives (λ number. number) result (whole_in (view value.now)) }
+/// The position of two whole numbers.
+fn position_of(items: &[Value]) -> Option<(i64, i64)>
+    ensures { result ≡ option_and_then two_of (each_of whole_in (items_view items.now)) }
 {
-    match value.as_i64() {
-        Some(number) => Ok(number),
-        None => Err(ReadError::BadRequest),
+    match items {
+        [lat, lon] => Some((whole(lat)?, whole(lon)?)),
+        _ => None,
     }
+}
+
+/// The whole number that a value is.
+fn whole(value: &Value) -> Option<i64>
+    ensures { result ≡ whole_in (view value.now) }
+{
+    value.as_i64()
 }
 
 /// A list of things of one kind.

@@ -13,6 +13,7 @@ mod reading;
 mod regions;
 mod request;
 mod services;
+mod tree;
 mod whole;
 
 pub use desk::{DeskFault, DeskLine, read_desk};
