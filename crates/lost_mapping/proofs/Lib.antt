@@ -2,7 +2,6 @@ pub mod AsciiLemmas
 pub mod BoolLemmas
 pub mod CalendarLemmas
 pub mod DigitLemmas
-mod HeadLemmas
 pub mod IdLemmas
 mod MappedLemmas
 pub mod PartsLemmas

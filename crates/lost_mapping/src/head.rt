@@ -37,9 +37,9 @@ impl Head {
         ensures service { IfOk result (λ head. read_service_text (parts_of parts.now).service ≡ Ok head.service) }
         ensures refuses { Refuses result (head_fault (parts_of parts.now)) }
     {
-        let identity = read_identity(alloc, parts.source.as_str(), parts.source_id.as_str())?;
+        let identity = Identity::parse(alloc, parts.source.as_str(), parts.source_id.as_str())?;
         let stamp = read_stamp(alloc, parts.last_updated.as_str())?;
-        let expires = read_expires(alloc, parts.expires.as_str())?;
+        let expires = Expires::parse(alloc, parts.expires.as_str())?;
         let service = read_service(alloc, parts.service.as_str())?;
         Ok(Head {
             identity,
@@ -84,21 +84,6 @@ fn is_service(text: &str) -> bool
     ensures { result ≡ not (is_err (read_service_text text.now)) }
 {
     ServiceUrn::check(text.as_bytes()).is_ok()
-}
-
-fn read_identity(alloc: Global, source: &str, source_id: &str) -> Result<Identity, MappingError>
-    ensures source { IfOk result (λ identity. identity.source ≡ lowered source.now) }
-    ensures source_id { IfOk result (λ identity. identity.source_id ≡ source_id.now) }
-    ensures refuses { Refuses result (identity_fault source.now source_id.now) }
-{
-    Identity::parse(alloc, source, source_id)
-}
-
-fn read_expires(alloc: Global, text: &str) -> Result<Expires, MappingError>
-    ensures expires { IfOk result (λ expires. expires_seen expires ≡ expires_of text.now) }
-    ensures refuses { Refuses result (fault_if (not (is_expires text.now)) MappingError.BadExpires) }
-{
-    Expires::parse(alloc, text)
 }
 
 fn read_stamp(alloc: Global, text: &str) -> Result<Stamp, MappingError>

@@ -104,11 +104,5 @@ fn repeats_scheme<T: Telling>(uris: &[T::Uri]) -> bool
 fn has_scheme<T: Telling>(uris: &[T::Uri], scheme: &[u8]) -> bool
     ensures { result ≡ is_among (lowered scheme.now) (schemes_of (map T.uri_of uris.now)) }
 {
-    uris.iter().any(|uri| is_same_scheme(scheme, scheme_of(T::uri(uri).as_bytes())))
-}
-
-fn is_same_scheme(scheme: &[u8], other: &[u8]) -> bool
-    ensures { result ≡ same_text (lowered scheme.now) (lowered other.now) }
-{
-    scheme.eq_ignore_ascii_case(other)
+    uris.iter().any(|uri| scheme.eq_ignore_ascii_case(scheme_of(T::uri(uri).as_bytes())))
 }

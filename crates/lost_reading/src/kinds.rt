@@ -131,16 +131,9 @@ fn position_of(items: &[Value]) -> Option<(i64, i64)>
     ensures { result ≡ option_and_then two_of (each_of whole_in (items_view items.now)) }
 {
     match items {
-        [lat, lon] => Some((whole(lat)?, whole(lon)?)),
+        [lat, lon] => Some((lat.as_i64()?, lon.as_i64()?)),
         _ => None,
     }
-}
-
-/// The whole number that a value is.
-fn whole(value: &Value) -> Option<i64>
-    ensures { result ≡ whole_in (view value.now) }
-{
-    value.as_i64()
 }
 
 /// A list of things of one kind.
