@@ -1,6 +1,6 @@
 //! Which lists of pairs are no address, and which are no pattern (own rule).
 
-ghost use Rattle.std.specs.Prelude.{◌≡◌, ◌<◌, ◌||◌, map, length, nat_lt};
+ghost use Rattle.std.specs.Prelude.{◌≡◌, ◌||◌, length, nat_lt};
 ghost use Rattle.std.specs.List.{list_any, list_all};
 ghost use Rattle.lost_spec.specs.Text.{is_among, has_repeat};
 ghost use Rattle.lost_spec.specs.Civic.{names_of, is_known, is_too_long, address_fault, pattern_fault};

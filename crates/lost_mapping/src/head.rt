@@ -4,10 +4,9 @@ ghost use Rattle.std.specs.Result.{result_err};
 ghost use Rattle.lost_spec.specs.Text.{lowered};
 ghost use Rattle.lost_spec.specs.Service.{read_service as read_service_text};
 ghost use Rattle.lost_spec.specs.Moment.{is_stamp, stamp_of};
-ghost use Rattle.lost_spec.specs.Mapping.{is_expires, expires_of};
+ghost use Rattle.lost_spec.specs.Mapping.{expires_of};
 ghost use Rattle.lost_mapping.specs.Expires.{expires_seen};
 ghost use Rattle.lost_mapping.specs.Faults.{Refuses, fault_if, terms_fault, head_fault_of, head_fault};
-ghost use Rattle.lost_mapping.specs.Identity.{identity_fault};
 ghost use Rattle.lost_mapping.specs.Parts.{parts_of};
 
 use crate::expires::Expires;

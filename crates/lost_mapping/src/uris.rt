@@ -1,7 +1,7 @@
 //! Which texts are URIs, and which lists of them a mapping may have. Rules without a section are this profile's own.
 ghost use Rattle.std.specs.Prelude.{◌≡◌, ◌==◌, map, position};
 ghost use Rattle.std.specs.List.{list_all};
-ghost use Rattle.lost_spec.specs.Text.{same_text, lowered, is_between, is_among, has_repeat};
+ghost use Rattle.lost_spec.specs.Text.{lowered, is_between, is_among, has_repeat};
 ghost use Rattle.lost_spec.specs.Mapping.{is_uri as is_uri_text, are_uris as are_uri_texts, is_scheme as is_scheme_text, is_scheme_byte as is_scheme_byte_code, scheme_of as scheme_of_text};
 ghost use Rattle.lost_mapping.specs.Texts.{schemes_of};
 

@@ -1,6 +1,6 @@
 //! Items of lists as they lie in the tree: whether they are of a kind, and what they then tell. It takes no memory. Rules
 //! without a section are this profile's own.
-ghost use Rattle.std.specs.Prelude.{◌≡◌, [], is_some, map, option_map};
+ghost use Rattle.std.specs.Prelude.{◌≡◌, is_some, map, option_map};
 ghost use Rattle.serde_json.specs.View.{view, items_view, members_view};
 ghost use Rattle.lost_reading.specs.Members.{each_of, list_in};
 ghost use Rattle.lost_reading.specs.Desk.{display_name_of_members, region_in};
