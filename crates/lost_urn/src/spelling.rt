@@ -32,7 +32,8 @@ fn strip_prefix(text: &[u8]) -> Option<&[u8]>
     ensures missing { IfNone result ((rest : Text) → lowered text.now ≢ urn_prefix ++ rest) }
 {
     let (front, labels) = text.split_at_checked(PREFIX.len())?;
-    if front.eq_ignore_ascii_case(PREFIX) {
+    // Mostly it is in lower case, which is seen at once.
+    if front == PREFIX.as_slice() || front.eq_ignore_ascii_case(PREFIX) {
         Some(labels)
     } else {
         None
