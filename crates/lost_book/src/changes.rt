@@ -1,19 +1,9 @@
 //! What each kind of edit does to the list of mappings. Nothing here checks the edit.
-ghost use Rattle.std.specs.Prelude.{◌≡◌, ◌∷◌, ◌++◌, [], OnOk, OnErr};
+ghost use Rattle.std.specs.Prelude.{◌≡◌};
 ghost use Rattle.lost_spec.specs.Book.{replaced, without};
 
 use crate::held::position_of;
 use lost_mapping::{Identity, Mapping};
-use std::alloc::AllocError;
-
-/// Puts a mapping behind the others, or changes nothing for want of memory.
-pub(crate) fn append(mappings: &mut Vec<Mapping>, mapping: Mapping) -> Result<(), AllocError>
-    ensures appended { OnOk result (mappings.new.items ≡ mappings.old.items ++ mapping ∷ []) }
-    ensures unchanged { OnErr result (mappings.new.items ≡ mappings.old.items) }
-{
-    mappings.push(mapping)?;
-    Ok(())
-}
 
 /// Puts a mapping in the place of the one with its identity.
 pub(crate) fn replace(mappings: &mut Vec<Mapping>, mapping: Mapping)

@@ -38,7 +38,7 @@ impl Book {
         ensures { IsApplied self.old (Publish mapping) result self.new }
     {
         check_publish(self, &mapping)?;
-        if changes::append(&mut self.mappings, mapping).is_err() {
+        if self.mappings.push(mapping).is_err() {
             return Err(EditError::Memory);
         }
         self.edits += 1;
