@@ -13,8 +13,8 @@ pub(crate) fn said(alloc: Global, call: &str, fields: &Fields) -> Result<String,
     let text = fields.text(1)?;
     match call {
         "mapping build" => build(alloc, text),
-        "mapping head" => {
-            let fault = head_fault(&parts(alloc, text)?);
+        "mapping check" => {
+            let fault = parts_fault(&parts(alloc, text)?);
             checked(alloc, fault.map(MappingError::code))
         }
         "mapping read" => {
@@ -38,16 +38,9 @@ fn build(alloc: Global, text: &str) -> Result<String, Trouble> {
     }
 }
 
-/// The first refusal of what stands at the head of parts.
-fn head_fault(parts: &Parts) -> Option<MappingError> {
-    Mapping::check_head(
-        parts.source.as_str(),
-        parts.source_id.as_str(),
-        parts.last_updated.as_str(),
-        parts.expires.as_str(),
-        parts.service.as_str(),
-    )
-    .err()
+/// The first refusal of parts, where they lie.
+fn parts_fault(parts: &Parts) -> Option<MappingError> {
+    Mapping::check::<Parts>(&parts.borrowed()).err()
 }
 
 /// Whether a mapping is live at an instant, and when a copy of its end says so.

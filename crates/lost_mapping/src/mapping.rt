@@ -5,7 +5,7 @@ ghost use Rattle.std.specs.Result.{result_err};
 ghost use Rattle.lost_spec.specs.Mapping.{parts_fault, mapping_of, is_live};
 ghost use Rattle.lost_spec.specs.Book.{identity_of};
 ghost use Rattle.lost_mapping.specs.Expires.{expires_seen};
-ghost use Rattle.lost_mapping.specs.Faults.{Refuses, head_fault_of};
+ghost use Rattle.lost_mapping.specs.Faults.{Refuses};
 ghost use Rattle.lost_mapping.specs.Parts.{parts_of, parts_told, display_names_of};
 ghost use Rattle.lost_mapping.specs.Shape.{IsShaped};
 ghost use Rattle.lost_mapping.specs.Texts.{texts_of};
@@ -125,25 +125,6 @@ impl Mapping {
         )?;
         check_contact::<T>(parts)?;
         check_areas::<T>(parts)
-    }
-
-    /// Ok where the source, the sourceId, the stamp, the end and the service of a mapping are those that `build` takes,
-    /// and else their refusal. It takes no memory (RFC 5222, sections 5.1, 5.2 and 5.4; order own).
-    ///
-    /// # Errors
-    ///
-    /// The first that applies: [`MappingError::BadSource`], [`MappingError::BadSourceId`], [`MappingError::BadStamp`],
-    /// [`MappingError::BadExpires`], [`MappingError::BadService`].
-    pub fn check_head(
-        source: &str,
-        source_id: &str,
-        last_updated: &str,
-        expires: &str,
-        service: &str,
-    ) -> Result<(), MappingError>
-        ensures { result_err result ≡ head_fault_of source.now source_id.now last_updated.now expires.now service.now }
-    {
-        Head::check(source, source_id, last_updated, expires, service)
     }
 
     /// The mapping with these fields.
