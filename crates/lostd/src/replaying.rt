@@ -21,8 +21,9 @@ pub(crate) fn replay_standard_streams<R: Print + Eprint + Input + AllocGlobal>(
     is_terminal: bool,
 ) -> Result<(), Trouble> {
     let (name, moment) = begun(rt, given)?;
+    let is_summed = is_terminal || given.get_flag("summary");
     let mut input = Watched::new(rt.reader());
-    let mut output = Watched::new(Summary::new(io::writer(rt)));
+    let mut output = Watched::new(Summary::new(io::writer(rt), is_summed));
     let replayed = replay(
         rt.alloc(),
         &mut input,
@@ -32,7 +33,7 @@ pub(crate) fn replay_standard_streams<R: Print + Eprint + Input + AllocGlobal>(
         turns_of(given),
     );
     if let Ok(counts) = replayed {
-        if is_terminal || given.get_flag("summary") {
+        if is_summed {
             say_summary(rt, counts.lines, output.inner());
         }
     }

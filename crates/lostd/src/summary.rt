@@ -12,10 +12,12 @@ const COMMITTED: &[u8] = b"{\"committed\":{\"edition\":";
 /// The most bytes of a reply that are looked at: no reply to a desk line has more.
 const MOST_SEEN: usize = 64;
 
-/// A writer of replies that counts them: each byte is passed on, and each reply that is written whole is looked at.
+/// A writer of replies that counts them where that is wanted: each byte is passed on, and each reply that is written whole
+/// is looked at.
 #[derive(Drop)]
 pub(crate) struct Summary<W> {
     inner: W,
+    is_wanted: bool,
     /// What the replies said so far.
     pub(crate) told: Told,
 }
@@ -32,15 +34,19 @@ pub(crate) struct Told {
 }
 
 impl<W> Summary<W> {
-    /// Counts what is written to `inner` from here on.
-    pub(crate) fn new(inner: W) -> Summary<W> {
+    /// Passes on to `inner` what is written from here on, and counts it where that is wanted.
+    pub(crate) fn new(inner: W, is_wanted: bool) -> Summary<W> {
         let told = Told {
             seen: [0; MOST_SEEN],
             len: 0,
             refused: 0,
             edition: 0,
         };
-        Summary { inner, told }
+        Summary {
+            inner,
+            is_wanted,
+            told,
+        }
     }
 }
 
@@ -94,13 +100,21 @@ fn leading_number(text: &[u8]) -> u64 {
     number
 }
 
+/// What of some bytes was written.
+fn written<'b>(bytes: &'b [u8], taken: &io::Result<usize>) -> &'b [u8] {
+    match taken {
+        Ok(count) => &bytes[..bytes.len().min(*count)],
+        Err(_) => &bytes[..0],
+    }
+}
+
 impl<W: Write> Write for Summary<W> {
     ghost contents = { λ w. W.contents w.inner };
 
     fn write(&mut self, buf: &[u8]) -> io::Result<usize> {
         let taken = self.inner.write(buf);
-        if let Ok(count) = &taken {
-            self.told.notice(&buf[..buf.len().min(*count)]);
+        if self.is_wanted {
+            self.told.notice(written(buf, &taken));
         }
         taken
     }
