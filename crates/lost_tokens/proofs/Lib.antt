@@ -3,3 +3,4 @@ pub mod TreeLemmas
 pub mod PartLemmas
 pub mod MemberLemmas
 pub mod PartsLemmas
+pub mod ByNameLemmas

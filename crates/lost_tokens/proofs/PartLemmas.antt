@@ -12,7 +12,7 @@ use Rattle.serde_json.specs.Data.{Data, null, boolean, number, string, array, ob
 use Rattle.serde_json.specs.Find.{get_member, as_null, as_bool, as_number, as_str, as_array, as_object}
 use Rattle.serde_json.specs.Read.{number_of, of_json, of_items, of_members}
 use Rattle.serde_json.proofs.Views.{get_member-put, get_member-put_other}
-use Rattle.lost_reading.specs.Members.{unless_null, the_member, only_member, each_of, whole_in, two_of, position_in}
+use Rattle.lost_reading.specs.Members.{unless_null, only_member, each_of, whole_in, two_of, position_in}
 use Rattle.lost_reading.specs.Desk.{is_desk_name}
 use Rattle.lost_tokens.specs.Tapes.{tree_at, data_of, members_of, IsTree, HoldsItems}
 use Rattle.lost_tokens.proofs.TreeLemmas.{held, tree_at-from, data_of-from, IsTree-from}
@@ -183,6 +183,11 @@ null_held ts d b at given =
     let same : x.1 ≡ d = let e = x.4 in cc in
     ap (λ t. is_some (as_null t)) (sym same) ∙ null_of x.0 x.1 x.3 ∙ sym (given x.0 x.2)
 
+pub unless_held : (ts : List Token) (b : Bool) → IsTree ts → ((j : Json) → BeginsWith ts j → b ≡ find.is_null j) → unless_null (data_of ts) ≡ (if b then None else Some (data_of ts))
+unless_held ts b h given =
+    let x = held ts h in
+    ap (λ is. if is then None else Some (data_of ts)) (ap (λ d. is_some (as_null d)) (data_of-from ts x.1 x.4) ∙ null_held ts x.1 b x.4 given)
+
 -- ---- an object of one member
 
 abbrev OneMember : List Token → List ℕ → List Token → Type 0
@@ -229,14 +234,6 @@ next_held old new (Some us) items h next =
     let m = made (item d.0) (of_items n.1) items d.2 in
     let at : tree_at us ≡ Some d.0 = tree_at-from us n.0 d.0 n.3 d.1 in
     ((m.0, sym m.2 ∙ ap (λ t. item t m.0) (sym (data_of-from us d.0 at)), (n.1, n.4, m.1)), IsTree-from us d.0 at)
-
--- ---- a member that is there
-
-pub no_the_member : (name : List ℕ) (ms : Members) (d : Data) → get_member name ms ≡ Some d → is_some (as_null d) ≡ true → the_member name ms ≡ None
-no_the_member name ms d at is = ap (option_and_then unless_null) at ∙ ap (λ b. if b then None else Some d) is
-
-pub is_the_member : (name : List ℕ) (ms : Members) (d : Data) → get_member name ms ≡ Some d → is_some (as_null d) ≡ false → the_member name ms ≡ Some d
-is_the_member name ms d at other = ap (option_and_then unless_null) at ∙ ap (λ b. if b then None else Some d) other
 
 -- ---- lists
 

@@ -1,1 +1,2 @@
 pub mod Tapes
+pub mod ByName

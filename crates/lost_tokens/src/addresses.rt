@@ -1,11 +1,11 @@
 //! The civic address of a location (RFC 5222, section 12.3). Rules without a section are this profile's own.
-ghost use Rattle.std.specs.Prelude.{◌≡◌, Some, IfSome, OnSome, string_bytes, codes};
+ghost use Rattle.std.specs.Prelude.{◌≡◌, Some, IfSome, OnSome, option_map, string_bytes};
 ghost use Rattle.serde_json.specs.Data.{Members as SpecMembers, no_members, string, put};
 ghost use Rattle.lost_civic.specs.Pairs.{seen_pairs};
 ghost use Rattle.lost_query.specs.Request.{body_of};
-ghost use Rattle.lost_reading.specs.Members.{the_member, pairs_of, pairs_in};
+ghost use Rattle.lost_reading.specs.Members.{pairs_of, pairs_in};
 ghost use Rattle.lost_reading.specs.Requests.{address_body};
-ghost use Rattle.lost_tokens.specs.Tapes.{data_of, members_of, text_members, HoldsMembers};
+ghost use Rattle.lost_tokens.specs.Tapes.{data_of, text_members, HoldsMembers};
 
 use crate::part::{add, owned};
 use crate::tree::{Named, Tree};
@@ -14,11 +14,11 @@ use std::alloc::Global;
 use std::collections::BTreeMap;
 
 /// The content of a location of `civic`.
-pub(crate) fn read_address(alloc: Global, object: &Tree<'_, '_>) -> Option<Body>
-    ensures { IfSome result (λ body. address_body (the_member (codes "address") (members_of object.now)) ≡ body_of body) }
+pub(crate) fn read_address(alloc: Global, address: &Option<Tree<'_, '_>>) -> Option<Body>
+    ensures { IfSome result (λ body. address_body (option_map data_of address.now) ≡ body_of body) }
 {
-    match object.member("address") {
-        Some(tree) => read_address_at(alloc, &tree),
+    match address {
+        Some(tree) => read_address_at(alloc, tree),
         None => Some(Body::Unreadable),
     }
 }

@@ -7,6 +7,7 @@ mod addresses;
 mod line;
 mod locations;
 mod mappings;
+mod members;
 mod nesting;
 mod numbers;
 mod options;

@@ -51,7 +51,7 @@ pub(crate) fn read_common_line<'a>(
     if line.len() > MAX_LINE {
         return None;
     }
-    match simdutf8::basic::from_utf8(line) {
+    match std::str::from_utf8(line) {
         Ok(text) => read_text(alloc, text, scratch),
         Err(_) => None,
     }

@@ -1,12 +1,15 @@
 //! The locations of a request (RFC 5222, section 12). Rules without a section are this profile's own.
-ghost use Rattle.std.specs.Prelude.{◌≡◌, Some, IfSome, codes};
+ghost use Rattle.std.specs.Prelude.{◌≡◌, Some, IfSome, option_map, option_and_then, not, ◌||◌, if◌then◌else◌};
+ghost use Rattle.lost_spec.specs.Answer.{is_geodetic, is_civic};
+ghost use Rattle.lost_spec.specs.Request.{UnreadableBody};
 ghost use Rattle.lost_query.specs.Request.{body_of, location_of, locations_of};
-ghost use Rattle.lost_reading.specs.Members.{the_member, required, list_in, pairs_in};
-ghost use Rattle.lost_reading.specs.Requests.{point_body, address_body, body_in, is_known_system, srs_known_in, location_of_members, location_in, locations_in};
+ghost use Rattle.lost_reading.specs.Members.{pairs_in};
+ghost use Rattle.lost_reading.specs.Requests.{point_body, address_body, is_known_system, location_of_members, location_in, locations_in};
 ghost use Rattle.lost_tokens.specs.Tapes.{data_of, members_of};
 
 use crate::addresses::read_address;
-use crate::part::{Part, read_each, read_position, required_member, required_text};
+use crate::members::LocationMembers;
+use crate::part::{Part, read_each, read_position, text_of};
 use crate::tree::Tree;
 use lost_query::{Body, Location, Locations};
 use lost_reading::{CIVIC, GEODETIC, KNOWN_SYSTEM, are_locations};
@@ -14,33 +17,32 @@ use std::alloc::Global;
 use std::borrow::CowStr;
 
 /// The locations that a request must have: 1 to 8, no two of one profile.
-pub(crate) fn read_locations<'a>(alloc: Global, object: &Tree<'_, 'a>) -> Option<Locations<'a>>
-    ensures { IfSome result (λ locations. required locations_in (codes "location") (members_of object.now) ≡ Some (locations_of locations)) }
+pub(crate) fn read_locations<'a>(
+    alloc: Global,
+    member: &Option<Tree<'_, 'a>>,
+) -> Option<Locations<'a>>
+    ensures { IfSome result (λ locations. option_and_then locations_in (option_map data_of member.now) ≡ Some (locations_of locations)) }
 {
-    let tree = required_member(object, "location")?;
-    read_each_location(alloc, &tree)
-}
-
-fn read_each_location<'a>(alloc: Global, tree: &Tree<'_, 'a>) -> Option<Locations<'a>>
-    ensures { IfSome result (λ locations. locations_in (data_of tree.now) ≡ Some (locations_of locations)) }
-{
-    let locations = read_all(alloc, tree)?;
-    if are_locations(&locations) {
-        Some(locations)
-    } else {
-        None
+    match member {
+        Some(tree) => read_each_location(alloc, tree),
+        None => None,
     }
 }
 
-/// The locations of an array, where there is one.
-fn read_all<'a>(alloc: Global, tree: &Tree<'_, 'a>) -> Option<Locations<'a>>
-    ensures { IfSome result (λ locations. list_in location_in (data_of tree.now) ≡ Some (locations_of locations)) }
+/// The locations of an array, where there are as many as there may be.
+fn read_each_location<'a>(alloc: Global, tree: &Tree<'_, 'a>) -> Option<Locations<'a>>
+    ensures { IfSome result (λ locations. locations_in (data_of tree.now) ≡ Some (locations_of locations)) }
 {
     let mut items = tree.items()?;
     let item = items.next()?;
     let first = Location::read(alloc, &item)?;
     let rest = read_each::<Location<'a>>(alloc, items)?;
-    Some(Locations { first, rest })
+    let locations = Locations { first, rest };
+    if are_locations(&locations) {
+        Some(locations)
+    } else {
+        None
+    }
 }
 
 impl<'a> Part<'a> for Location<'a> {
@@ -65,10 +67,12 @@ impl<'a> Part<'a> for Location<'a> {
 fn read_location<'a>(alloc: Global, object: &Tree<'_, 'a>) -> Option<Location<'a>>
     ensures { IfSome result (λ location. location_of_members (members_of object.now) ≡ Some (location_of location)) }
 {
-    let id = required_text(object, "id")?;
-    let profile = required_text(object, "profile")?;
-    let srs_known = is_srs_known(profile, object)?;
-    let body = read_body(alloc, profile, object)?;
+    let mut members = LocationMembers::none();
+    members.read(object)?;
+    let id = text_of(&members.id)?;
+    let profile = text_of(&members.profile)?;
+    let srs_known = is_srs_known(profile, &members.srs_name)?;
+    let body = read_body(alloc, profile, &members.pos, &members.address)?;
     Some(Location {
         id: CowStr::Borrowed(id),
         profile: CowStr::Borrowed(profile),
@@ -78,22 +82,22 @@ fn read_location<'a>(alloc: Global, object: &Tree<'_, 'a>) -> Option<Location<'a
 }
 
 /// Whether the reference system is known: it is looked at for `geodetic-2d` alone.
-fn is_srs_known(profile: &str, object: &Tree<'_, '_>) -> Option<bool>
-    ensures { IfSome result (λ known. srs_known_in profile.now (members_of object.now) ≡ known) }
+fn is_srs_known(profile: &str, srs_name: &Option<Tree<'_, '_>>) -> Option<bool>
+    ensures { IfSome result (λ known. not (is_geodetic profile.now) || is_known_system (option_map data_of srs_name.now) ≡ known) }
 {
     if profile == GEODETIC {
-        has_known_system(object)
+        has_known_system(srs_name)
     } else {
         Some(true)
     }
 }
 
 /// Whether the reference system is absent or the one that is known.
-fn has_known_system(object: &Tree<'_, '_>) -> Option<bool>
-    ensures { IfSome result (λ known. is_known_system (the_member (codes "srsName") (members_of object.now)) ≡ known) }
+fn has_known_system(srs_name: &Option<Tree<'_, '_>>) -> Option<bool>
+    ensures { IfSome result (λ known. is_known_system (option_map data_of srs_name.now) ≡ known) }
 {
-    match object.member("srsName") {
-        Some(tree) => names_known_system(&tree),
+    match srs_name {
+        Some(tree) => names_known_system(tree),
         None => Some(true),
     }
 }
@@ -106,24 +110,30 @@ fn names_known_system(tree: &Tree<'_, '_>) -> Option<bool>
 }
 
 /// The content of a location. That of another profile is not looked at.
-fn read_body(alloc: Global, profile: &str, object: &Tree<'_, '_>) -> Option<Body>
-    ensures { IfSome result (λ body. body_in profile.now (members_of object.now) ≡ body_of body) }
+fn read_body(
+    alloc: Global,
+    profile: &str,
+    pos: &Option<Tree<'_, '_>>,
+    address: &Option<Tree<'_, '_>>,
+) -> Option<Body>
+    ensures { IfSome result (λ body. (if is_geodetic profile.now then point_body (option_map data_of pos.now)
+        else (if is_civic profile.now then address_body (option_map data_of address.now) else UnreadableBody)) ≡ body_of body) }
 {
     if profile == GEODETIC {
-        read_point(object)
+        read_point(pos)
     } else if profile == CIVIC {
-        read_address(alloc, object)
+        read_address(alloc, address)
     } else {
         Some(Body::Unreadable)
     }
 }
 
 /// The content of a location of `geodetic-2d`.
-fn read_point(object: &Tree<'_, '_>) -> Option<Body>
-    ensures { IfSome result (λ body. point_body (the_member (codes "pos") (members_of object.now)) ≡ body_of body) }
+fn read_point(pos: &Option<Tree<'_, '_>>) -> Option<Body>
+    ensures { IfSome result (λ body. point_body (option_map data_of pos.now) ≡ body_of body) }
 {
-    match object.member("pos") {
-        Some(tree) => read_point_at(&tree),
+    match pos {
+        Some(tree) => read_point_at(tree),
         None => Some(Body::Unreadable),
     }
 }

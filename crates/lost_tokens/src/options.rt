@@ -1,12 +1,13 @@
 //! The service, the path and the wishes of a request. Rules without a section are this profile's own.
-ghost use Rattle.std.specs.Prelude.{◌≡◌, Some, IfSome, option_map, false, codes};
+ghost use Rattle.std.specs.Prelude.{◌≡◌, [], Some, IfSome, option_map, option_and_then, false};
 ghost use Rattle.serde_json.specs.Find.{as_bool};
 ghost use Rattle.lost_query.specs.Request.{path_names};
-ghost use Rattle.lost_reading.specs.Members.{service_in, required, optional, defaulting};
-ghost use Rattle.lost_reading.specs.Requests.{path_kind, path_in, by_value_kind};
-ghost use Rattle.lost_tokens.specs.Tapes.{data_of, members_of};
+ghost use Rattle.lost_reading.specs.Members.{service_in, optional_value};
+ghost use Rattle.lost_reading.specs.Requests.{path_kind, by_value_kind};
+ghost use Rattle.lost_tokens.specs.ByName.{or_default};
+ghost use Rattle.lost_tokens.specs.Tapes.{data_of};
 
-use crate::part::{read_list, required_member};
+use crate::part::read_list;
 use crate::tree::Tree;
 use lost_reading::{MAX_NAMES, by_value};
 use lost_urn::ServiceUrn;
@@ -25,39 +26,44 @@ fn read_service(alloc: Global, tree: &Tree<'_, '_>) -> Option<ServiceUrn>
 }
 
 /// The service that a request must have.
-pub(crate) fn required_service(alloc: Global, object: &Tree<'_, '_>) -> Option<ServiceUrn>
-    ensures { IfSome result (λ service. required service_in (codes "service") (members_of object.now) ≡ Some service) }
+pub(crate) fn required_service(alloc: Global, member: &Option<Tree<'_, '_>>) -> Option<ServiceUrn>
+    ensures { IfSome result (λ service. option_and_then service_in (option_map data_of member.now) ≡ Some service) }
 {
-    let tree = required_member(object, "service")?;
-    read_service(alloc, &tree)
+    match member {
+        Some(tree) => read_service(alloc, tree),
+        None => None,
+    }
 }
 
 /// The service that a request may have.
-pub(crate) fn optional_service(alloc: Global, object: &Tree<'_, '_>) -> Option<Option<ServiceUrn>>
-    ensures { IfSome result (λ found. optional service_in (codes "service") (members_of object.now) ≡ Some (option_map (λ service. service) found)) }
+pub(crate) fn optional_service(
+    alloc: Global,
+    member: &Option<Tree<'_, '_>>,
+) -> Option<Option<ServiceUrn>>
+    ensures { IfSome result (λ found. optional_value service_in (option_map data_of member.now) ≡ Some (option_map (λ service. service) found)) }
 {
-    match object.member("service") {
-        Some(tree) => Some(Some(read_service(alloc, &tree)?)),
+    match member {
+        Some(tree) => Some(Some(read_service(alloc, tree)?)),
         None => Some(None),
     }
 }
 
 /// Whether validation is wanted (RFC 5222, section 8.3.3): it is not where nothing is said of it.
-pub(crate) fn read_validate(object: &Tree<'_, '_>) -> Option<bool>
-    ensures { IfSome result (λ wanted. defaulting as_bool false (codes "validateLocation") (members_of object.now) ≡ Some wanted) }
+pub(crate) fn read_validate(member: &Option<Tree<'_, '_>>) -> Option<bool>
+    ensures { IfSome result (λ wanted. or_default as_bool false (option_map data_of member.now) ≡ Some wanted) }
 {
-    match object.member("validateLocation") {
+    match member {
         Some(tree) => tree.truth(),
         None => Some(false),
     }
 }
 
 /// Whether boundaries are wanted by value (RFC 5222, section 8.3.4): by reference where nothing is said of them.
-pub(crate) fn read_by_value(object: &Tree<'_, '_>) -> Option<bool>
-    ensures { IfSome result (λ wanted. defaulting by_value_kind false (codes "serviceBoundary") (members_of object.now) ≡ Some wanted) }
+pub(crate) fn read_by_value(member: &Option<Tree<'_, '_>>) -> Option<bool>
+    ensures { IfSome result (λ wanted. or_default by_value_kind false (option_map data_of member.now) ≡ Some wanted) }
 {
-    match object.member("serviceBoundary") {
-        Some(tree) => read_preference(&tree),
+    match member {
+        Some(tree) => read_preference(tree),
         None => Some(false),
     }
 }
@@ -70,11 +76,11 @@ fn read_preference(tree: &Tree<'_, '_>) -> Option<bool>
 }
 
 /// The path of a request (RFC 5222, section 6), empty where it has none.
-pub(crate) fn read_path<'a>(alloc: Global, object: &Tree<'_, 'a>) -> Option<Vec<CowStr<'a>>>
-    ensures { IfSome result (λ path. path_in (members_of object.now) ≡ Some (path_names path.items)) }
+pub(crate) fn read_path<'a>(alloc: Global, member: &Option<Tree<'_, 'a>>) -> Option<Vec<CowStr<'a>>>
+    ensures { IfSome result (λ path. or_default path_kind [] (option_map data_of member.now) ≡ Some (path_names path.items)) }
 {
-    match object.member("path") {
-        Some(tree) => read_names(alloc, &tree),
+    match member {
+        Some(tree) => read_names(alloc, tree),
         None => Some(Vec::new(alloc)),
     }
 }

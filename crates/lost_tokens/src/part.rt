@@ -1,5 +1,5 @@
 //! Parts of a line that are read by themselves, and lists of them.
-ghost use Rattle.std.specs.Prelude.{◌≡◌, ◌++◌, ◌∷◌, [], Some, IfSome, OnSome, map, option_map, string_bytes};
+ghost use Rattle.std.specs.Prelude.{◌≡◌, ◌++◌, ◌∷◌, [], Some, IfSome, OnSome, map, option_map, option_and_then, string_bytes};
 ghost use Rattle.serde_json.specs.Data.{Items as SpecItems};
 ghost use Rattle.serde_json.specs.Find.{as_str};
 ghost use Rattle.lost_reading.specs.Members.{the_member, required, optional, defaulting, each_of, list_in, position_in};
@@ -135,6 +135,16 @@ pub(crate) fn required_member<'t, 'a>(object: &Tree<'t, 'a>, name: &str) -> Opti
     ensures { IfSome result (λ tree. the_member name.now (members_of object.now) ≡ Some (data_of tree)) }
 {
     object.member(name)
+}
+
+/// The text of a member, which must be there.
+pub(crate) fn text_of<'a>(member: &Option<Tree<'_, 'a>>) -> Option<&'a str>
+    ensures { IfSome result (λ text. option_and_then as_str (option_map data_of member.now) ≡ Some text.now) }
+{
+    match member {
+        Some(tree) => tree.text(),
+        None => None,
+    }
 }
 
 /// The text of this name, which must be there.

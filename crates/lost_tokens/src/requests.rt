@@ -1,6 +1,5 @@
 //! The four requests, and the desk lines with a mapping, by the members of their objects. Rules without a section are this profile's own.
 ghost use Rattle.std.specs.Prelude.{◌≡◌, false, Some, None, Ok, IfSome, OnSome, codes, if◌then◌else◌};
-ghost use Rattle.lost_query.specs.Request.{request_of, locations_of};
 ghost use Rattle.lost_reading.specs.Members.{required};
 ghost use Rattle.lost_reading.specs.Desk.{is_desk_name, order_named, order_in};
 ghost use Rattle.lost_reading.specs.Lines.{GivesWhole};
@@ -9,6 +8,7 @@ ghost use Rattle.lost_tokens.specs.Tapes.{data_of, members_of};
 
 use crate::locations::read_locations;
 use crate::mappings::read_mapping;
+use crate::members::RequestMembers;
 use crate::options::{optional_service, read_by_value, read_path, read_validate, required_service};
 use crate::part::required_text;
 use crate::tree::Tree;
@@ -43,14 +43,13 @@ fn read_member<'a>(alloc: Global, name: &str, object: &Tree<'_, 'a>) -> Option<L
         let mapping = read_mapping(alloc, object)?;
         Some(Line::Desk(DeskLine::Edit(Edit::Replace(mapping))))
     } else {
-        let request = read_named(alloc, name, object)?;
-        Some(Line::Request(request))
+        read_named(alloc, name, object)
     }
 }
 
 /// The request of this name, which is none of a desk line.
-fn read_named<'a>(alloc: Global, name: &str, object: &Tree<'_, 'a>) -> Option<Request<'a>>
-    ensures request { IfSome result (λ request. request_named name.now (members_of object.now) ≡ Some (request_of request)) }
+fn read_named<'a>(alloc: Global, name: &str, object: &Tree<'_, 'a>) -> Option<Line<'a>>
+    ensures request { IfSome result (λ found. GivesWhole (Ok found) None (request_named name.now (members_of object.now))) }
     ensures no_desk_name { OnSome result (is_desk_name name.now ≡ false) }
 {
     if "findService" == name {
@@ -67,54 +66,58 @@ fn read_named<'a>(alloc: Global, name: &str, object: &Tree<'_, 'a>) -> Option<Re
 }
 
 /// `findService` (RFC 5222, section 8).
-fn read_find_service<'a>(alloc: Global, object: &Tree<'_, 'a>) -> Option<Request<'a>>
-    ensures { IfSome result (λ request. find_service_of (members_of object.now) ≡ Some (request_of request)) }
+fn read_find_service<'a>(alloc: Global, object: &Tree<'_, 'a>) -> Option<Line<'a>>
+    ensures { IfSome result (λ found. GivesWhole (Ok found) None (find_service_of (members_of object.now))) }
 {
-    let service = required_service(alloc, object)?;
-    let locations = read_locations(alloc, object)?;
-    let validate = read_validate(object)?;
-    let by_value = read_by_value(object)?;
-    let path = read_path(alloc, object)?;
-    Some(Request::FindService {
+    let mut members = RequestMembers::none();
+    members.read(object)?;
+    let service = required_service(alloc, &members.service)?;
+    let locations = read_locations(alloc, &members.location)?;
+    let validate = read_validate(&members.validate)?;
+    let by_value = read_by_value(&members.boundary)?;
+    let path = read_path(alloc, &members.path)?;
+    Some(Line::Request(Request::FindService {
         service,
         locations,
         validate,
         by_value,
         path,
-    })
+    }))
 }
 
 /// `listServicesByLocation` (RFC 5222, section 11).
-fn read_services_at<'a>(alloc: Global, object: &Tree<'_, 'a>) -> Option<Request<'a>>
-    ensures { IfSome result (λ request. services_at_of (members_of object.now) ≡ Some (request_of request)) }
+fn read_services_at<'a>(alloc: Global, object: &Tree<'_, 'a>) -> Option<Line<'a>>
+    ensures { IfSome result (λ found. GivesWhole (Ok found) None (services_at_of (members_of object.now))) }
 {
-    let service = optional_service(alloc, object)?;
-    let locations = read_locations(alloc, object)?;
-    let path = read_path(alloc, object)?;
-    Some(Request::ListServicesByLocation {
+    let mut members = RequestMembers::none();
+    members.read(object)?;
+    let service = optional_service(alloc, &members.service)?;
+    let locations = read_locations(alloc, &members.location)?;
+    let path = read_path(alloc, &members.path)?;
+    Some(Line::Request(Request::ListServicesByLocation {
         service,
         locations,
         path,
-    })
+    }))
 }
 
 /// `listServices` (RFC 5222, section 10).
-fn read_services<'a>(alloc: Global, object: &Tree<'_, 'a>) -> Option<Request<'a>>
-    ensures { IfSome result (λ request. services_of (members_of object.now) ≡ Some (request_of request)) }
+fn read_services<'a>(alloc: Global, object: &Tree<'_, 'a>) -> Option<Line<'a>>
+    ensures { IfSome result (λ found. GivesWhole (Ok found) None (services_of (members_of object.now))) }
 {
-    let service = optional_service(alloc, object)?;
-    let path = read_path(alloc, object)?;
-    Some(Request::ListServices { service, path })
+    let service = optional_service(alloc, &object.member("service"))?;
+    let path = read_path(alloc, &object.member("path"))?;
+    Some(Line::Request(Request::ListServices { service, path }))
 }
 
 /// `getServiceBoundary` (RFC 5222, section 9).
-fn read_boundary<'a>(alloc: Global, object: &Tree<'_, 'a>) -> Option<Request<'a>>
-    ensures { IfSome result (λ request. boundary_of (members_of object.now) ≡ Some (request_of request)) }
+fn read_boundary<'a>(alloc: Global, object: &Tree<'_, 'a>) -> Option<Line<'a>>
+    ensures { IfSome result (λ found. GivesWhole (Ok found) None (boundary_of (members_of object.now))) }
 {
     let key = required_text(object, "key")?;
-    let path = read_path(alloc, object)?;
-    Some(Request::GetServiceBoundary {
+    let path = read_path(alloc, &object.member("path"))?;
+    Some(Line::Request(Request::GetServiceBoundary {
         key: CowStr::Borrowed(key),
         path,
-    })
+    }))
 }

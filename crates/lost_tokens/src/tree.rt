@@ -3,7 +3,7 @@ ghost use Rattle.std.specs.Prelude.{◌≡◌, Some, None, Option, IfSome, OnSom
 ghost use Rattle.std.specs.Bool.{OnTrue};
 ghost use Rattle.serde_json.specs.Data.{Items as SpecItems, no_items, item, Members as SpecMembers, no_members, put};
 ghost use Rattle.serde_json.specs.Find.{as_bool, as_str, as_array, as_object};
-ghost use Rattle.lost_reading.specs.Members.{the_member, whole_in, only_member};
+ghost use Rattle.lost_reading.specs.Members.{unless_null, the_member, whole_in, only_member};
 ghost use Rattle.lost_tokens.specs.Tapes.{data_of, members_of, HoldsItems, HoldsMembers};
 
 use crate::numbers::whole_number;
@@ -59,16 +59,23 @@ impl<'t, 'a> Tree<'t, 'a> {
         self.element.members().is_some()
     }
 
+    /// This value, where it is not `null`.
+    pub(crate) fn unless_null(self) -> Option<Tree<'t, 'a>>
+        ensures { option_map data_of result ≡ unless_null (data_of self.entry) }
+    {
+        if self.element.is_null() {
+            None
+        } else {
+            Some(self)
+        }
+    }
+
     /// The last member of this name, where there is one that is not `null`.
     pub(crate) fn member(&self, name: &str) -> Option<Tree<'t, 'a>>
         ensures { option_map data_of result ≡ the_member name.now (members_of self.now) }
     {
         let element = self.element.get(name)?;
-        if element.is_null() {
-            None
-        } else {
-            Some(Tree { element })
-        }
+        Tree { element }.unless_null()
     }
 
     /// The name and the value of an object's one member.

@@ -3,7 +3,7 @@ use Rattle.serde_json.specs.Find.{get_member}
 use Rattle.lost_reading.specs.Members.{unless_null}
 use Rattle.lost_tokens.specs.Tapes.{data_of, members_of}
 use Rattle.lost_tokens.proofs.TreeLemmas.{data_of-from, IsTree-from}
-use Rattle.lost_tokens.proofs.PartLemmas.{FoundTree, member_held, null_held, is_the_member, no_the_member}
+use Rattle.lost_tokens.proofs.PartLemmas.{FoundTree, member_held}
 use Rattle.lost_tokens.proofs.tree.Tree.member.Goals as goal
 
 pub returns-in_err-element : goal.returns-in_err-element
@@ -12,19 +12,13 @@ returns-in_err-element c =
     let found = subst (λ ts. FoundTree None (get_member c.args.name.now (members_of ts))) c.self.view_is (member_held c.args.name.now _ None c.self.invariant c.in_err-element.ensures) in
     ap (option_map data_of) gone ∙ sym (ap (option_and_then unless_null) found)
 
-pub invariant_of-result : goal.invariant_of-result
-invariant_of-result c =
+pub invariant_of-unless_null : goal.invariant_of-unless_null
+invariant_of-unless_null c =
     let found = member_held c.args.name.now _ (Some c.in_ok-element.element) c.self.invariant c.in_ok-element.ensures in
     IsTree-from c.in_ok-element.element found.0 found.1
 
-pub returns-then-is_null : goal.returns-then-is_null
-returns-then-is_null c =
+pub returns : goal.returns
+returns c =
     let us = c.in_ok-element.element in
     let found = subst (λ ts. FoundTree (Some us) (get_member c.args.name.now (members_of ts))) c.self.view_is (member_held c.args.name.now _ (Some us) c.self.invariant c.in_ok-element.ensures) in
-    sym (no_the_member c.args.name.now (members_of c.args.self.now) found.0 found.2 (null_held us found.0 _ found.1 c.if-is_null.ensures))
-
-pub returns-else-is_null : goal.returns-else-is_null
-returns-else-is_null c =
-    let us = c.in_ok-element.element in
-    let found = subst (λ ts. FoundTree (Some us) (get_member c.args.name.now (members_of ts))) c.self.view_is (member_held c.args.name.now _ (Some us) c.self.invariant c.in_ok-element.ensures) in
-    ap Some (data_of-from us found.0 found.1) ∙ sym (is_the_member c.args.name.now (members_of c.args.self.now) found.0 found.2 (null_held us found.0 _ found.1 c.if-is_null.ensures))
+    c.unless_null.ensures ∙ ap unless_null (data_of-from us found.0 found.1) ∙ sym (ap (option_and_then unless_null) found.2)
