@@ -76,7 +76,7 @@ def house():
     edits = [
         ("lost_lines", "cuts lines, writes replies in order"),
         ("lost_reading, lost_writing", "desk line to edit, or its refusal"),
-        ("lost_server", "stages an edit, commits what is staged"),
+        ("lost_replay", "stages an edit, commits what is staged"),
         ("lost_book", "the first refusal, or the next book"),
         ("lost_urn, lost_mapping", "builds and checks the mapping"),
     ]

@@ -6,7 +6,7 @@ use crate::crowds::{Crowd, repeated};
 use crate::streams::{joined, long_requests, publishes, requests};
 use lost_lines::MAX_LINE;
 use lost_mapping::{Moment, Source};
-use lost_server::{Turns, Watched, replay};
+use lost_replay::{Turns, Watched, replay};
 use std::alloc::Global;
 use std::io;
 use std::rt::Clock;

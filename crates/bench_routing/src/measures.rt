@@ -7,7 +7,7 @@ use crate::script::{Pen, Script};
 use bench_parts::{Flood, Spans, mean, nanoseconds, share};
 use lost_lines::{Turns, Watched};
 use lost_mapping::{Moment, Source};
-use lost_server::replay;
+use lost_replay::replay;
 use std::alloc::{AllocError, Global};
 use std::cell::Cell;
 use std::io;

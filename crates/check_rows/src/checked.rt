@@ -1,7 +1,7 @@
 //! The check of one row.
 use lost_check::{Findings, check_lines};
 use lost_mapping::{Moment, Source, Stamp};
-use lost_server::{Counts, NoGate, Turns, Watched};
+use lost_replay::{Counts, NoGate, Turns, Watched};
 use std::alloc::Global;
 
 /// The server's name in every row.

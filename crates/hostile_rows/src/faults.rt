@@ -1,7 +1,7 @@
 //! The texts of all faults, and what is answered where memory is refused.
 use lost_json::{DeskFault, DeskReply, ReadError};
 use lost_lines::Answer;
-use lost_server::ServeError;
+use lost_replay::ServeError;
 use lost_spec::faults::{
     CivicError, EditError, GeoError, MappingError, RingError, SourceError, StampError, UrnError,
 };

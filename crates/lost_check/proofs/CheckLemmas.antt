@@ -13,9 +13,9 @@ use Rattle.lost_lines.specs.Stream.{IsServed, IsCutOff, IsWholeSoFar}
 use Rattle.lost_stream.specs.Stream.{Lists}
 use Rattle.lost_stream.specs.Step.{Step}
 use Rattle.lost_stream.proofs.OutcomeLemmas.{streamed}
-use Rattle.lost_server.specs.Replay.{replay_terms, no_edits, IsReplayed}
-use Rattle.lost_server.specs.Replayer.{Begins, books_of}
-use Rattle.lost_server.proofs.ReplayLemmas.{from_none}
+use Rattle.lost_replay.specs.Replay.{replay_terms, no_edits, IsReplayed}
+use Rattle.lost_replay.specs.Replayer.{Begins, books_of}
+use Rattle.lost_replay.proofs.ReplayLemmas.{from_none}
 use Rattle.lost_check.specs.declared.kind.Kind.{Kind}
 use Rattle.lost_check.specs.declared.tally.Tally.{Tally}
 use Rattle.lost_check.specs.declared.checker.Checker.{Checker}

@@ -3,7 +3,7 @@ use Rattle.std.proofs.Common.{◌≡◌, ℕ, suc, ◌+◌, ◌-◌, ◌^◌, mi
 use Rattle.lost_spec.specs.Text.{Text}
 use Rattle.lost_lines.specs.Run.{Cut, Reply, Run, text_of}
 use Rattle.lost_stream.proofs.ListLemmas.{count_by_front}
-use Rattle.lost_server.specs.Replayer.{Replays}
+use Rattle.lost_replay.specs.Replayer.{Replays}
 use Rattle.lost_check.specs.declared.kind.Kind.{Kind}
 use Rattle.lost_check.specs.declared.tally.Tally.{Tally}
 use Rattle.lost_check.specs.declared.checker.Checker.{Checker}

@@ -1,7 +1,7 @@
 -- What a clause reads of what checks the lines of a stream.
 use Rattle.std.specs.Prelude.{◌≡◌}
 use Rattle.lost_lines.specs.Run.{Cut, Reply}
-use Rattle.lost_server.specs.Replayer.{Replays}
+use Rattle.lost_replay.specs.Replayer.{Replays}
 use Rattle.lost_check.specs.declared.checker.Checker.{Checker}
 use Rattle.lost_check.specs.Kinds.{kind_of}
 use Rattle.lost_check.specs.Said.{IsSaid}

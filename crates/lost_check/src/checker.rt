@@ -1,7 +1,7 @@
 //! What checks the lines of a stream.
 ghost use Rattle.std.specs.Prelude.{◌≡◌};
 ghost use Rattle.lost_lines.specs.Answer.{reply_of};
-ghost use Rattle.lost_server.specs.Replayer.{books_of};
+ghost use Rattle.lost_replay.specs.Replayer.{books_of};
 ghost use Rattle.lost_check.specs.Checker.{Judges};
 
 use crate::findings::Findings;
@@ -10,7 +10,7 @@ use crate::saying::say;
 use crate::tally::Tally;
 use lost_causes::{bad_request_cause, refusal_cause};
 use lost_lines::{Answer, Answerer, MAX_LINE};
-use lost_server::Replayer;
+use lost_replay::Replayer;
 use std::alloc::{AllocError, Global};
 
 /// What checks the lines of a stream: a replay answers each line, and what is said of the line is by that answer.

@@ -9,7 +9,7 @@ use crate::findings::Findings;
 use crate::tally::Tally;
 use lost_lines::{Counts, Gate, ServeError, Turns, Watched, run_lines};
 use lost_mapping::{Moment, Source};
-use lost_server::Replayer;
+use lost_replay::Replayer;
 use std::alloc::Global;
 use std::io::{Read, Write};
 

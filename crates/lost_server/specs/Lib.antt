@@ -1,5 +1,1 @@
-pub mod Books
-pub mod Pair
-pub mod Replay
-pub mod Replayer
 pub mod RunFault

@@ -3,7 +3,7 @@ ghost use Rattle.std.specs.Prelude.{IfSome};
 ghost use Rattle.sessions.specs.Session.{AreReplies};
 
 use lost_mapping::{Moment, Source, Stamp};
-use lost_server::{Turns, Watched, replay};
+use lost_replay::{Turns, Watched, replay};
 use std::alloc::Global;
 
 /// The server's name in every session.

@@ -12,8 +12,8 @@ ghost use Rattle.lost_reading.specs.Requests.{line_request};
 ghost use Rattle.lost_lines.specs.Answer.{reply_of};
 ghost use Rattle.lost_lines.specs.Run.{Whole};
 ghost use Rattle.lost_stream.specs.Stream.{edit_text, refused_text};
-ghost use Rattle.lost_server.specs.Books.{BooksStep};
-ghost use Rattle.lost_server.specs.Replay.{replay_terms};
+ghost use Rattle.lost_replay.specs.Books.{BooksStep};
+ghost use Rattle.lost_replay.specs.Replay.{replay_terms};
 
 use crate::pair::Pair;
 use lost_book::{Edit, EditError, Limits};
@@ -33,7 +33,7 @@ pub(crate) struct Books {
 }
 
 impl Model for Books {
-    ghost use Rattle.lost_server.specs.Books as spec;
+    ghost use Rattle.lost_replay.specs.Books as spec;
 
     ghost Value = { spec.Books };
 

@@ -1,6 +1,6 @@
 //! What answers the lines of a replay. Rules without a section are this profile's own.
 ghost use Rattle.std.specs.Prelude.{◌≡◌, IfOk};
-ghost use Rattle.lost_server.specs.Replayer.{Begins, books_of};
+ghost use Rattle.lost_replay.specs.Replayer.{Begins, books_of};
 
 use crate::books::Books;
 use lost_json::{DeskFault, DeskLine, DeskReply};
@@ -52,7 +52,7 @@ impl<'a> Replayer<'a> {
 }
 
 impl Answerer for Replayer<'_> {
-    ghost use Rattle.lost_server.specs.Replayer.{Replays};
+    ghost use Rattle.lost_replay.specs.Replayer.{Replays};
 
     ghost step = { Replays };
 

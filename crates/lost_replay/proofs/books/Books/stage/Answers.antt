@@ -1,7 +1,7 @@
 use Rattle.lost_book.specs.Edit.{edit_of}
 use Rattle.lost_lines.specs.Answer.{reply_of}
-use Rattle.lost_server.proofs.BooksLemmas.{staged_step}
-use Rattle.lost_server.proofs.books.Books.stage.Goals as goal
+use Rattle.lost_replay.proofs.BooksLemmas.{staged_step}
+use Rattle.lost_replay.proofs.books.Books.stage.Goals as goal
 
 pub returns-clause-answered : goal.returns-clause-answered
 returns-clause-answered c = λ name t line is.

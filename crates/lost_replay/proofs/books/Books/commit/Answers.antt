@@ -1,6 +1,6 @@
 use Rattle.lost_lines.specs.Answer.{reply_of}
-use Rattle.lost_server.proofs.BooksLemmas.{committed_step}
-use Rattle.lost_server.proofs.books.Books.commit.Goals as goal
+use Rattle.lost_replay.proofs.BooksLemmas.{committed_step}
+use Rattle.lost_replay.proofs.books.Books.commit.Goals as goal
 
 pub returns-clause-answered : goal.returns-clause-answered
 returns-clause-answered c = λ name t line is.

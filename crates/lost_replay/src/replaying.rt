@@ -2,7 +2,7 @@
 ghost use Rattle.std.specs.Prelude.{◌≡◌, Err};
 ghost use Rattle.lost_lines.specs.Calls.{AreFresh, StreamFaults};
 ghost use Rattle.lost_lines.specs.Outcome.{passage_of};
-ghost use Rattle.lost_server.specs.Replay.{IsReplayOutcome};
+ghost use Rattle.lost_replay.specs.Replay.{IsReplayOutcome};
 
 use crate::replayer::Replayer;
 use lost_lines::{Counts, NoGate, ServeError, Turns, Watched, run_lines};

@@ -5,9 +5,9 @@ use Rattle.lost_spec.specs.Moment.{Instant}
 use Rattle.lost_spec.specs.Book.{empty_book}
 use Rattle.lost_book.specs.Bounds.{widest}
 use Rattle.lost_lines.specs.Run.{Cut, Reply}
-use Rattle.lost_server.specs.declared.replayer.Replayer.{Replayer}
-use Rattle.lost_server.specs.Books.{Books, BooksStep}
-use Rattle.lost_server.specs.Replay.{replay_terms}
+use Rattle.lost_replay.specs.declared.replayer.Replayer.{Replayer}
+use Rattle.lost_replay.specs.Books.{Books, BooksStep}
+use Rattle.lost_replay.specs.Replay.{replay_terms}
 
 -- its books
 abbrev pub books_of : Replayer → Books

@@ -3,7 +3,7 @@ ghost use Rattle.std.specs.Prelude.{◌≡◌, ◌≢◌, ◌+◌, ◌-◌, ◌<
 ghost use Rattle.std.specs.Result.{result_err};
 ghost use Rattle.lost_spec.specs.Book.{empty_book, refusal, after, after_all};
 ghost use Rattle.lost_book.specs.Edit.{edit_of};
-ghost use Rattle.lost_server.specs.Pair.{with_staged, with_committed};
+ghost use Rattle.lost_replay.specs.Pair.{with_staged, with_committed};
 
 use lost_book::{Edit, EditError, Limits};
 use lost_routing::Routing;
@@ -31,8 +31,8 @@ pub(crate) struct Pair {
 impl Model for Pair {
     ghost use Rattle.std.specs.Prelude.{map};
     ghost use Rattle.lost_book.specs.Edit.{edit_of};
-    ghost use Rattle.lost_server.specs.Pair.{IsPair, pair_seen};
-    ghost use Rattle.lost_server.specs.Books.{Books};
+    ghost use Rattle.lost_replay.specs.Pair.{IsPair, pair_seen};
+    ghost use Rattle.lost_replay.specs.Books.{Books};
 
     ghost Value = { Books };
 

@@ -14,9 +14,9 @@ use Rattle.lost_writing.specs.DeskReplies.{desk_text}
 use Rattle.lost_lines.specs.Run.{Whole, Reply}
 use Rattle.lost_stream.specs.Stream.{Lists, Unmarked, RefusedMemory, edit_text}
 use Rattle.lost_stream.specs.Step.{IsAnswered}
-use Rattle.lost_server.specs.Books.{Books, AreBooksOf, BooksStep}
-use Rattle.lost_server.specs.Pair.{with_staged, with_committed}
-use Rattle.lost_server.specs.Replay.{replay_terms}
+use Rattle.lost_replay.specs.Books.{Books, AreBooksOf, BooksStep}
+use Rattle.lost_replay.specs.Pair.{with_staged, with_committed}
+use Rattle.lost_replay.specs.Replay.{replay_terms}
 
 -- ---- the lists after an edit
 

@@ -1,6 +1,6 @@
 use Rattle.std.proofs.Common.{◌≡◌, ℕ, Bool, true, false, refl}
-use Rattle.lost_server.proofs.ReplayLemmas.{replay_outcome}
-use Rattle.lost_server.proofs.replaying.replay.Goals as goal
+use Rattle.lost_replay.proofs.ReplayLemmas.{replay_outcome}
+use Rattle.lost_replay.proofs.replaying.replay.Goals as goal
 
 -- what `NoGate` says: each line is let through
 abbrev always : ℕ → Bool → Type 0

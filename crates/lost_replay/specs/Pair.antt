@@ -1,7 +1,7 @@
 -- Two books, of which one is published and one takes edits (own).
 use Rattle.std.specs.Prelude.{◌≡◌, Bool, true, false, List}
 use Rattle.lost_spec.specs.Book.{Book, Edit, after, after_all}
-use Rattle.lost_server.specs.Books.{Books}
+use Rattle.lost_replay.specs.Books.{Books}
 
 -- what they are seen as: while the other book lacks edits nothing is staged that is not published
 abbrev pub pair_seen : Book → Book → Bool → Books

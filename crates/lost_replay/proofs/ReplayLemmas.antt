@@ -14,10 +14,10 @@ use Rattle.lost_lines.specs.Outcome.{Passage, IsOutcome}
 use Rattle.lost_stream.specs.Stream.{Lists}
 use Rattle.lost_stream.specs.Step.{Step}
 use Rattle.lost_stream.proofs.OutcomeLemmas.{streamed, streamed_in_part, streamed_so_far, stream_spent}
-use Rattle.lost_server.specs.declared.replayer.Replayer.{Replayer}
-use Rattle.lost_server.specs.Books.{Books, AreBooksOf, BooksStep}
-use Rattle.lost_server.specs.Replay.{replay_terms, no_edits, IsReplayed, IsReplayedInPart, IsReplayedSoFar, IsReplaySpent, IsReplayOutcome}
-use Rattle.lost_server.specs.Replayer.{Replays}
+use Rattle.lost_replay.specs.declared.replayer.Replayer.{Replayer}
+use Rattle.lost_replay.specs.Books.{Books, AreBooksOf, BooksStep}
+use Rattle.lost_replay.specs.Replay.{replay_terms, no_edits, IsReplayed, IsReplayedInPart, IsReplayedSoFar, IsReplaySpent, IsReplayOutcome}
+use Rattle.lost_replay.specs.Replayer.{Replays}
 
 -- two empty books
 abbrev pub no_books : Books

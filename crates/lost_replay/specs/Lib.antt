@@ -1,0 +1,4 @@
+pub mod Books
+pub mod Pair
+pub mod Replay
+pub mod Replayer
