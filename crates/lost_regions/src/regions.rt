@@ -155,7 +155,9 @@ impl Regions {
     pub fn at_point(&self, point: &GeoPoint) -> Result<Vec<u64>, AllocError>
         ensures { IfOk result (λ numbers. numbers.items ≡ holders inside point.now self.now.points) }
     {
-        self.points.holding(point)
+        // A copy of its own is not read anew for each region.
+        let place = *point;
+        self.points.holding(&place)
     }
 
     /// The numbers with a pattern that matches the address (RFC 5222, section 12.3), rising, or want of memory.

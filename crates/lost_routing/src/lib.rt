@@ -11,6 +11,7 @@ mod holdings;
 mod placed;
 mod questions;
 mod routing;
+mod scan;
 mod services;
 mod validating;
 mod walk;

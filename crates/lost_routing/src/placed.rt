@@ -8,6 +8,7 @@ ghost use Rattle.lost_spec.specs.Find.{AtPoint, AtAddress, holds, is_holder};
 ghost use Rattle.lost_spec.specs.Services.{is_holding};
 
 use crate::held::Held;
+use crate::scan::{FEW, scan};
 use lost_book::{holds_address, holds_point, serves};
 use lost_civic::CivicAddress;
 use lost_geo::GeoPoint;
@@ -29,6 +30,9 @@ impl Held {
             → ((m : spec.Mapping) → test m ≡ true → holds m (AtPoint point.now) ≡ true)
             → IfOk result (λ found. found.items ≡ positions test self.now.mappings) }
     {
+        if self.mappings.len() <= FEW {
+            return scan(self.alloc, &self.mappings, passes);
+        }
         let candidates = self.regions.at_point(point)?;
         picks::select(
             self.alloc,
@@ -58,6 +62,9 @@ impl Held {
             → ((m : spec.Mapping) → test m ≡ true → holds m (AtAddress address.now) ≡ true)
             → IfOk result (λ found. found.items ≡ positions test self.now.mappings) }
     {
+        if self.mappings.len() <= FEW {
+            return scan(self.alloc, &self.mappings, passes);
+        }
         let candidates = self.regions.at_address(address)?;
         picks::select(
             self.alloc,

@@ -4,14 +4,27 @@
 #[derive(Drop)]
 pub(crate) struct Draws {
     state: u64,
+    /// How many ids a source has, at most; keys are three times as many.
+    ids: u64,
 }
 
 impl Draws {
-    /// Draws from a seed.
-    pub(crate) fn new(seed: u64) -> Draws {
+    /// Draws from a seed, with so many ids of a source.
+    pub(crate) fn new(seed: u64, ids: u64) -> Draws {
         Draws {
             state: seed.wrapping_mul(0x9e37_79b9_7f4a_7c15),
+            ids,
         }
+    }
+
+    /// The number of an id.
+    pub(crate) fn id(&mut self) -> u64 {
+        self.below(self.ids)
+    }
+
+    /// The number of a key.
+    pub(crate) fn key(&mut self) -> u64 {
+        self.below(self.ids.saturating_mul(3))
     }
 
     /// A number below a limit; 0 where the limit is 0.

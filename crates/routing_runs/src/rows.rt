@@ -1,4 +1,5 @@
-//! The table of runs: each row has a seed, how many edits are drawn, and the limits of mappings and of accepted edits.
+//! The table of runs: each row has a seed, how many edits are drawn, the limits of mappings and of accepted edits, and how many
+//! ids a source has.
 use crate::words::unfit;
 use lost_book::Limits;
 use std::rt::Files;
@@ -16,6 +17,8 @@ pub(crate) struct Row {
     pub(crate) edits: u64,
     /// How many mappings may be held, and how many edits accepted.
     pub(crate) limits: Limits,
+    /// How many ids a source has.
+    pub(crate) ids: u64,
 }
 
 /// The rows of the table. An empty line is none, nor is one that begins with `#`.
@@ -31,13 +34,14 @@ pub(crate) fn rows<R: Files + AllocGlobal>(rt: &R) -> io::Result<Vec<Row>> {
     Ok(rows)
 }
 
-/// The run of a line of four numbers.
+/// The run of a line of five numbers.
 fn read_row(line: &str) -> io::Result<Row> {
     let mut words = line.split_whitespace();
     let seed = number(words.next())?;
     let edits = number(words.next())?;
     let most_mappings = number(words.next())?;
     let most_edits = number(words.next())?;
+    let ids = number(words.next())?;
     let limits = Limits::new(
         u32::try_from(most_mappings).unwrap_or(0),
         u32::try_from(most_edits).unwrap_or(0),
@@ -47,6 +51,7 @@ fn read_row(line: &str) -> io::Result<Row> {
             seed,
             edits,
             limits,
+            ids,
         }),
         None => Err(unfit()),
     }

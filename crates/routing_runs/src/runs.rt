@@ -83,7 +83,7 @@ fn run(alloc: Global, row: &Row) -> io::Result<Tally> {
 
 /// Makes the edits of a row, up to its end or to a difference.
 fn run_edits(alloc: Global, row: &Row, books: &mut Books, tally: &mut Tally) -> io::Result<()> {
-    let mut draws = Draws::new(row.seed);
+    let mut draws = Draws::new(row.seed, row.ids);
     for number in 0..row.edits {
         tally.difference = run_edit(alloc, &mut draws, books, tally, number)?;
         if tally.difference.is_some() {

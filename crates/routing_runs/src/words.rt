@@ -45,13 +45,13 @@ const DAY: i32 = 20_423;
 
 /// A sourceId.
 pub(crate) fn source_id(alloc: Global, draws: &mut Draws) -> Result<String, AllocError> {
-    let number = draws.below(8);
+    let number = draws.id();
     format!(in alloc; "m{number}")
 }
 
 /// A key.
 pub(crate) fn key(alloc: Global, draws: &mut Draws) -> Result<String, AllocError> {
-    let number = draws.below(24);
+    let number = draws.key();
     format!(in alloc; "k{number}")
 }
 

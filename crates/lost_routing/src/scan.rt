@@ -1,0 +1,32 @@
+//! The questions of a small book, in which each mapping is looked at. Rules without a section are this profile's own.
+ghost use Rattle.std.specs.Prelude.{◌≡◌, Bool, IfOk};
+ghost use Rattle.std.specs.Fn.{FnReturnsAt};
+ghost use Rattle.lost_spec.specs.Mapping as spec;
+ghost use Rattle.lost_spec.specs.Positions.{positions};
+
+use lost_mapping::Mapping;
+use lost_query::Positions;
+use lost_tiered::TieredVec;
+use std::alloc::{AllocError, Global};
+
+/// Among how many mappings, at most, each is looked at: to ask the index about a place costs as much as some thirty looks.
+pub(crate) const FEW: usize = 16;
+
+/// The positions, rising, of the mappings that pass a test, by a look at each of them; or want of memory.
+pub(crate) fn scan<F: Fn(&Mapping) -> bool>(
+    alloc: Global,
+    mappings: &TieredVec<Mapping>,
+    passes: F,
+) -> Result<Positions, AllocError>
+    requires { F.IsAlwaysCallable passes }
+    ensures { (test : spec.Mapping → Bool) → ((m : spec.Mapping) (r : Bool) → FnReturnsAt F.Fn passes m r → r ≡ test m)
+        → IfOk result (λ found. found.items ≡ positions test mappings.now) }
+{
+    let mut found = Positions::new(alloc);
+    for position in 0..mappings.len() {
+        if passes(mappings.at(position)) {
+            found.push(position)?;
+        }
+    }
+    Ok(found)
+}
