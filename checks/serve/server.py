@@ -132,7 +132,7 @@ class Server:
             stdin=subprocess.DEVNULL,
             stdout=subprocess.PIPE,
             stderr=self.errors,
-            preexec_fn=lambda: limit_memory(megabytes),
+            preexec_fn=lambda: prepare(megabytes),
             env=os.environ | ({"MALLOC_ARENA_MAX": "1"} if megabytes else {}),
         )
         self.first_line = self.process.stdout.readline()
@@ -199,8 +199,12 @@ def addresses(queries, desk):
     return ["--queries", f"127.0.0.1:{queries}", "--desk", f"127.0.0.1:{desk}"]
 
 
-def limit_memory(megabytes):
-    """Allows this process so many megabytes of addresses; None allows any number."""
+def prepare(megabytes):
+    """Lets an interrupt end this process, and allows it so many megabytes of addresses; None allows any number.
+
+    What a shell begins in the background without job control ignores interrupts, and all that it begins do.
+    """
+    signal.signal(signal.SIGINT, signal.SIG_DFL)
     if megabytes is not None:
         resource.setrlimit(resource.RLIMIT_AS, (megabytes << 20, megabytes << 20))
 

@@ -208,7 +208,9 @@ class Desk(unittest.TestCase):
 
     def keep_open(self, server: str, file: str) -> Any:
         words = [f"{TOOLS}/lost-client", "desk", "--server", server, "--keep-open", file]
-        return subprocess.Popen(words, stdin=subprocess.PIPE, stdout=subprocess.PIPE, stderr=subprocess.PIPE)
+        pipes = {"stdin": subprocess.PIPE, "stdout": subprocess.PIPE, "stderr": subprocess.PIPE}
+        # What a shell begins in the background without job control ignores interrupts, and all that it begins do.
+        return subprocess.Popen(words, **pipes, preexec_fn=lambda: signal.signal(signal.SIGINT, signal.SIG_DFL))
 
     def test_keep_open_takes_standard_input_and_ends_with_it(self) -> None:
         server, got = serve_once(desk_replier())
