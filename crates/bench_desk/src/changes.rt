@@ -66,19 +66,33 @@ impl Taken {
     }
 }
 
-/// Publishes a district beside the map, replaces one in it, and withdraws the first, so many times, each with a commit of
-/// its own. Where there is a flood, it empties the caches before each. Gives the medians of each kind.
-pub(crate) fn changed<R: Wait + Clock + AllocGlobal>(
-    rt: &R,
-    map: &mut Map,
-    rounds: u32,
-    flood: &mut Option<Flood>,
-) -> io::Result<Costs> {
-    let alloc = rt.alloc();
-    let mut publish = Taken::none(alloc);
-    let mut replace = Taken::none(alloc);
-    let mut withdraw = Taken::none(alloc);
-    for round in 0..rounds {
+/// How long edits of each kind took.
+#[derive(Drop)]
+struct TakenByKind {
+    publish: Taken,
+    replace: Taken,
+    withdraw: Taken,
+}
+
+impl TakenByKind {
+    /// None.
+    fn none(alloc: Global) -> TakenByKind {
+        TakenByKind {
+            publish: Taken::none(alloc),
+            replace: Taken::none(alloc),
+            withdraw: Taken::none(alloc),
+        }
+    }
+
+    /// Publishes a district beside the map, replaces one in it, and withdraws the first, each with a commit of its own.
+    fn take<R: Wait + Clock + AllocGlobal>(
+        &mut self,
+        rt: &R,
+        map: &mut Map,
+        round: u32,
+        flood: &mut Option<Flood>,
+    ) -> io::Result<()> {
+        let alloc = rt.alloc();
         let beside = Place {
             row: map.rows,
             column: below(map.rows, round, 1),
@@ -88,15 +102,29 @@ pub(crate) fn changed<R: Wait + Clock + AllocGlobal>(
             column: below(map.rows, round, 3),
         };
         let edit = beside.publish(alloc, map.next_time())?;
-        publish.take(rt, map, edit, flood)?;
+        self.publish.take(rt, map, edit, flood)?;
         let edit = within.replace(alloc, map.next_time())?;
-        replace.take(rt, map, edit, flood)?;
+        self.replace.take(rt, map, edit, flood)?;
         let edit = beside.withdraw(alloc, map.next_time())?;
-        withdraw.take(rt, map, edit, flood)?;
+        self.withdraw.take(rt, map, edit, flood)
+    }
+}
+
+/// Publishes a district beside the map, replaces one in it, and withdraws the first, so many times, each with a commit of
+/// its own. Where there is a flood, it empties the caches before each. Gives the medians of each kind.
+pub(crate) fn changed<R: Wait + Clock + AllocGlobal>(
+    rt: &R,
+    map: &mut Map,
+    rounds: u32,
+    flood: &mut Option<Flood>,
+) -> io::Result<Costs> {
+    let mut taken = TakenByKind::none(rt.alloc());
+    for round in 0..rounds {
+        taken.take(rt, map, round, flood)?;
     }
     Ok(Costs {
-        publish: publish.cost(),
-        replace: replace.cost(),
-        withdraw: withdraw.cost(),
+        publish: taken.publish.cost(),
+        replace: taken.replace.cost(),
+        withdraw: taken.withdraw.cost(),
     })
 }

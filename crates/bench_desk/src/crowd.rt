@@ -7,7 +7,7 @@ use crate::edits::Place;
 use crate::map::Map;
 use crate::questions::Questions;
 use lost_desk::{Reader, Readers};
-use std::alloc::Global;
+use std::alloc::{AllocError, Global};
 use std::rt::Clock;
 use std::sync::{Arc, Wait};
 use std::thread::{Threads, join_mut};
@@ -30,6 +30,23 @@ struct Asker {
 }
 
 impl Asker {
+    /// A reader, by its number in the crowd, which has not asked yet.
+    fn new(
+        alloc: Global,
+        reader: Reader,
+        questions: &Arc<Questions>,
+        number: u32,
+    ) -> Result<Asker, AllocError> {
+        Ok(Asker {
+            alloc,
+            questions: Arc::try_clone(questions)?,
+            reader,
+            first: (number as usize).saturating_mul(questions.len() / 4),
+            count: 0,
+            answered: None,
+        })
+    }
+
     /// Asks all questions.
     fn ask<R: Clock>(&mut self, rt: &R) {
         self.answered = self.answers(rt);
@@ -56,6 +73,26 @@ pub(crate) struct Crowd {
     askers: Vec<Asker>,
 }
 
+/// A crowd of one reader, and one of four.
+#[derive(Drop)]
+pub(crate) struct Crowds {
+    pub(crate) one: Crowd,
+    pub(crate) four: Crowd,
+}
+
+impl Crowds {
+    /// Five readers, with these questions.
+    pub(crate) fn new(
+        alloc: Global,
+        readers: &mut Readers,
+        questions: &Arc<Questions>,
+    ) -> io::Result<Crowds> {
+        let one = Crowd::new(alloc, readers, questions, 1)?;
+        let four = Crowd::new(alloc, readers, questions, 4)?;
+        Ok(Crowds { one, four })
+    }
+}
+
 /// What a crowd was answered: how many questions by a mapping, and how long the longest of it took.
 #[derive(Clone, Copy, Drop)]
 pub(crate) struct Answers {
@@ -65,7 +102,7 @@ pub(crate) struct Answers {
 
 impl Crowd {
     /// So many readers, or as many as are left.
-    pub(crate) fn new(
+    fn new(
         alloc: Global,
         readers: &mut Readers,
         questions: &Arc<Questions>,
@@ -76,14 +113,7 @@ impl Crowd {
             let Some(reader) = readers.take() else {
                 break;
             };
-            askers.push(Asker {
-                alloc,
-                questions: Arc::try_clone(questions)?,
-                reader,
-                first: (number as usize).saturating_mul(questions.len() / 4),
-                count: 0,
-                answered: None,
-            })?;
+            askers.push(Asker::new(alloc, reader, questions, number)?)?;
         }
         Ok(Crowd { askers })
     }

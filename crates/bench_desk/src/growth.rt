@@ -26,11 +26,7 @@ impl Rounds {
     ) -> io::Result<Grown> {
         let mut grown = Grown::none(rt.alloc());
         for _ in 0..self.rounds {
-            let few = changed(rt, small, self.edits, flood)?;
-            let many = changed(rt, large, self.edits, flood)?;
-            grown.publish.add(few.publish, many.publish)?;
-            grown.replace.add(few.replace, many.replace)?;
-            grown.withdraw.add(few.withdraw, many.withdraw)?;
+            grown.add(rt, small, large, self.edits, flood)?;
         }
         Ok(grown)
     }
@@ -53,13 +49,37 @@ impl Grown {
             withdraw: GrownCost::none(alloc),
         }
     }
+
+    /// One more round, of so many edits of each kind.
+    fn add<R: Clock + Wait + AllocGlobal>(
+        &mut self,
+        rt: &R,
+        small: &mut Map,
+        large: &mut Map,
+        edits: u32,
+        flood: &mut Option<Flood>,
+    ) -> io::Result<()> {
+        let few = changed(rt, small, edits, flood)?;
+        let many = changed(rt, large, edits, flood)?;
+        self.publish.add(few.publish, many.publish)?;
+        self.replace.add(few.replace, many.replace)?;
+        self.withdraw.add(few.withdraw, many.withdraw)?;
+        Ok(())
+    }
 }
 
 /// What edits of a kind cost at both maps, round by round: with their commits, and their commits alone.
 #[derive(Drop)]
 pub(crate) struct GrownCost {
-    pub(crate) whole: GrownSpan,
-    pub(crate) commit: GrownSpan,
+    whole: GrownSpan,
+    commit: GrownSpan,
+}
+
+/// The middle of the rounds of edits of a kind: with their commits, and their commits alone.
+#[derive(Clone, Copy, Drop)]
+pub(crate) struct MiddleCost {
+    pub(crate) whole: Middle,
+    pub(crate) commit: Middle,
 }
 
 impl GrownCost {
@@ -76,11 +96,19 @@ impl GrownCost {
         self.whole.add(few.whole, many.whole)?;
         self.commit.add(few.commit, many.commit)
     }
+
+    /// The middle of the rounds.
+    pub(crate) fn middle(self) -> MiddleCost {
+        MiddleCost {
+            whole: self.whole.middle(),
+            commit: self.commit.middle(),
+        }
+    }
 }
 
 /// What took how long at both maps, round by round: in nanoseconds, and the large map's of a hundred of the small one's.
 #[derive(Drop)]
-pub(crate) struct GrownSpan {
+struct GrownSpan {
     few: Vec<u64>,
     many: Vec<u64>,
     shares: Vec<u64>,
@@ -115,7 +143,7 @@ impl GrownSpan {
     }
 
     /// The middle of the rounds.
-    pub(crate) fn middle(self) -> Middle {
+    fn middle(self) -> Middle {
         let shares = Spans::of(self.shares);
         Middle {
             few: Spans::of(self.few).at(50),

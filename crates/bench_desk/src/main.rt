@@ -3,7 +3,9 @@
 #![tactic(auto)]
 
 mod answering;
+mod asking;
 mod changes;
+mod counts;
 mod crowd;
 mod edits;
 mod growth;
@@ -18,7 +20,7 @@ fn main(rt: HostRuntime) -> io::Result<()> {
     if is_measuring(&rt)? {
         measures::print_costs(&rt)
     } else {
-        measures::print_counts(&rt)
+        counts::print_counts(&rt)
     }
 }
 

@@ -1,13 +1,14 @@
 //! What is measured, and how it is printed.
 
 use crate::answering::{Answering, ByTokens, ByTree, found};
-use crate::changes::changed;
-use crate::crowd::{Answers, Crowd};
-use crate::growth::{Grown, GrownCost, Rounds};
-use crate::map::{Map, book_of};
+use crate::asking::{Asking, ask_alone};
+use crate::crowd::{Answers, Crowds};
+use crate::growth::{Grown, MiddleCost, Rounds};
+use crate::map::Map;
 use crate::questions::Questions;
 use bench_parts::{Flood, mean, nanoseconds, share};
 use lost_desk::{Reader, Readers};
+use lost_routing::Routing;
 use std::io;
 use std::rt::Clock;
 use std::sync::{Arc, Wait};
@@ -37,112 +38,58 @@ const COLD_CHANGES: u32 = 50;
 /// How many of these rounds there are.
 const COLD_ROUNDS: u32 = 9;
 
-/// Asks and edits a small map, and prints how many questions were answered by a mapping.
-pub(crate) fn print_counts<R: Print + Clock + Threads + Wait + Sync + AllocGlobal>(
-    rt: &R,
-) -> io::Result<()> {
-    let (mut map, mut readers) = Map::open(rt, 4, 6)?;
-    let result = count(rt, &mut map, &mut readers);
-    map.close(rt);
-    result
-}
-
-/// Asks and edits a map of 16 districts.
-fn count<R: Print + Clock + Threads + Wait + Sync + AllocGlobal>(
-    rt: &R,
-    map: &mut Map,
-    readers: &mut Readers,
-) -> io::Result<()> {
-    let alloc = rt.alloc();
-    let book = book_of(alloc, map.rows)?;
-    let questions = Arc::new(alloc, Questions::middles(alloc, map.rows)?)?;
-    let mut reader = taken(readers)?;
-    println!(rt;
-        "16 districts: {} found by a reader, {} by tokens, {} by trees",
-        found(alloc, &mut reader, &questions, 0, 16)?,
-        found(alloc, &mut ByTokens::new(alloc, &book), &questions, 0, 16)?,
-        found(alloc, &mut ByTree { book: &book }, &questions, 0, 16)?
-    )?;
-    let one = Crowd::new(alloc, readers, &questions, 1)?.ask(rt, 16, map, 0)?;
-    let mut crowd = Crowd::new(alloc, readers, &questions, 4)?;
-    let four = crowd.ask(rt, 16, map, 0)?;
-    println!(rt; "{} found in one thread, {} in four", one.found, four.found)?;
-    let beside = crowd.ask(rt, 16, map, 3)?;
-    println!(rt;
-        "{} found in four beside 3 commits: edition {}",
-        beside.found,
-        map.edition()
-    )?;
-    changed(rt, map, 2, &mut None)?;
-    println!(rt;
-        "2 publishes, replacements and withdrawals: edition {}",
-        map.edition()
-    )
-}
-
-/// A reader.
-fn taken(readers: &mut Readers) -> io::Result<Reader> {
-    match readers.take() {
-        Some(reader) => Ok(reader),
-        None => Err(io::Error::from(io::ErrorKind::Other)),
-    }
-}
-
 /// Measures, and prints the costs.
 pub(crate) fn print_costs<R: Print + Clock + Threads + Wait + Sync + AllocGlobal>(
     rt: &R,
 ) -> io::Result<()> {
     let (mut small, mut readers) = Map::open(rt, SMALL, 6)?;
-    let mut result = print_small(rt, &mut small, &mut readers);
-    if result.is_ok() {
-        result = match Map::open(rt, LARGE, 1) {
-            Ok((mut large, _readers)) => {
-                let result = print_changes(rt, &mut small, &mut large);
-                large.close(rt);
-                result
-            }
-            Err(error) => Err(error),
-        };
-    }
+    let result = measure(rt, &mut small, &mut readers);
     small.close(rt);
     result
 }
 
-/// Measures readers over the small map.
-fn print_small<R: Print + Clock + Threads + Wait + Sync + AllocGlobal>(
+/// Measures readers over the small map, and edits of both maps.
+fn measure<R: Print + Clock + Threads + Wait + Sync + AllocGlobal>(
     rt: &R,
-    map: &mut Map,
+    small: &mut Map,
     readers: &mut Readers,
 ) -> io::Result<()> {
     let alloc = rt.alloc();
-    let questions = Arc::new(alloc, Questions::all_over(alloc, map.rows, POINTS)?)?;
-    print_alone(rt, &mut taken(readers)?, &questions)?;
-    let mut one = Crowd::new(alloc, readers, &questions, 1)?;
-    let mut four = Crowd::new(alloc, readers, &questions, 4)?;
-    print_crowds(rt, map, &mut one, &mut four)
+    let questions = Arc::new(alloc, Questions::all_over(alloc, small.rows, POINTS)?)?;
+    ask_alone(rt, &Measuring, small.rows, readers, &questions)?;
+    print_crowds(rt, small, &mut Crowds::new(alloc, readers, &questions)?)?;
+    let (mut large, _readers) = Map::open(rt, LARGE, 1)?;
+    let result = print_changes(rt, small, &mut large);
+    large.close(rt);
+    result
 }
 
 /// Measures a reader beside the book alone, by one thread.
-fn print_alone<R: Print + Clock + AllocGlobal>(
-    rt: &R,
-    reader: &mut Reader,
-    questions: &Questions,
-) -> io::Result<()> {
-    let alloc = rt.alloc();
-    let book = book_of(alloc, SMALL)?;
-    let mut by_reader = u64::MAX;
-    let mut by_tokens = u64::MAX;
-    let mut by_trees = u64::MAX;
-    for _ in 0..ROUNDS {
-        by_reader = by_reader.min(asked(rt, reader, questions)?);
-        by_tokens = by_tokens.min(asked(rt, &mut ByTokens::new(alloc, &book), questions)?);
-        by_trees = by_trees.min(asked(rt, &mut ByTree { book: &book }, questions)?);
+#[derive(Clone, Copy, Drop)]
+struct Measuring;
+
+impl Asking for Measuring {
+    fn alone<R: Print + Clock + AllocGlobal>(
+        &self,
+        rt: &R,
+        reader: &mut Reader,
+        book: &Routing,
+        questions: &Questions,
+    ) -> io::Result<()> {
+        let mut by_reader = u64::MAX;
+        let mut by_tokens = u64::MAX;
+        let mut by_trees = u64::MAX;
+        for _ in 0..ROUNDS {
+            by_reader = by_reader.min(asked(rt, reader, questions)?);
+            by_tokens = by_tokens.min(asked(rt, &mut ByTokens::new(rt.alloc(), book), questions)?);
+            by_trees = by_trees.min(asked(rt, &mut ByTree { book }, questions)?);
+        }
+        println!(rt;
+            "one thread: {by_reader} nanoseconds a reply by a reader, {by_tokens} by tokens over the book alone, {} of a hundred; {by_trees} by trees, {} of a hundred; the least of {ROUNDS} rounds",
+            share(by_reader, by_tokens),
+            share(by_reader, by_trees)
+        )
     }
-    println!(rt;
-        "one thread: {by_reader} nanoseconds a reply by a reader, {by_tokens} by tokens over the book alone, {} of a hundred; {by_trees} by trees, {} of a hundred; the least of {ROUNDS} rounds",
-        share(by_reader, by_tokens),
-        share(by_reader, by_trees)
-    )
 }
 
 /// Nanoseconds a reply.
@@ -160,18 +107,17 @@ fn asked<A: Answering, R: Clock + AllocGlobal>(
 fn print_crowds<R: Print + Clock + Threads + Wait + Sync + AllocGlobal>(
     rt: &R,
     map: &mut Map,
-    one: &mut Crowd,
-    four: &mut Crowd,
+    crowds: &mut Crowds,
 ) -> io::Result<()> {
     let mut alone = u64::MAX;
     let mut together = u64::MAX;
     let mut beside = u64::MAX;
     for _ in 0..ROUNDS {
-        alone = alone.min(spent_by(one.ask(rt, ASKED, map, 0)?));
-        let spent = spent_by(four.ask(rt, ASKED, map, 0)?);
+        alone = alone.min(spent_by(crowds.one.ask(rt, ASKED, map, 0)?));
+        let spent = spent_by(crowds.four.ask(rt, ASKED, map, 0)?);
         together = together.min(spent);
         let commits = u32::try_from(spent / 10_000_000).unwrap_or(u32::MAX);
-        beside = beside.min(spent_by(four.ask(rt, ASKED, map, commits)?));
+        beside = beside.min(spent_by(crowds.four.ask(rt, ASKED, map, commits)?));
     }
     println!(rt;
         "four readers: {} of a hundred of the replies of one; while the desk commits 100 times a second, {} of a hundred; the least of {ROUNDS} rounds",
@@ -221,6 +167,7 @@ fn print_grown<R: Print + AllocGlobal>(rt: &R, how: &str, grown: Grown) -> io::R
         replace,
         withdraw,
     } = grown;
+    let (publish, replace, withdraw) = (publish.middle(), replace.middle(), withdraw.middle());
     print_kind(rt, how, "publish", publish)?;
     print_kind(rt, how, "replacement", replace)?;
     print_kind(rt, how, "withdrawal", withdraw)
@@ -231,10 +178,9 @@ fn print_kind<R: Print + AllocGlobal>(
     rt: &R,
     how: &str,
     kind: &str,
-    costs: GrownCost,
+    costs: MiddleCost,
 ) -> io::Result<()> {
-    let whole = costs.whole.middle();
-    let commit = costs.commit.middle();
+    let MiddleCost { whole, commit } = costs;
     println!(rt;
         "{how}, a {kind} with its commit: {} and {} nanoseconds at 1,024 and 60,025 mappings, {} of a hundred ({} to {}); its commit alone: {} and {}, {} of a hundred ({} to {}); the middle of the rounds, and their bounds",
         whole.few,
