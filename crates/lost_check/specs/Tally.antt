@@ -1,5 +1,5 @@
 -- What is counted of lines, by the replies of a replay to them. (Own.)
-use Rattle.std.specs.Prelude.{◌≡◌, ℕ, ◌+◌, ◌-◌, ◌^◌, min, Bool, cond, List, length}
+use Rattle.std.specs.Prelude.{◌≡◌, ℕ, ◌+◌, ◌-◌, ◌^◌, ◌==◌, ◌&&◌, min, Bool, cond, List, length}
 use Rattle.std.specs.List.{count_by}
 use Rattle.lost_lines.specs.Run.{Reply}
 use Rattle.lost_stream.specs.Stream.{Lists}
@@ -29,3 +29,7 @@ pub record AreFindings (findings : Findings) (replies : List Reply) (end : Lists
   pub bad_requests : findings.bad_requests ≡ count_of is_bad_request replies
   pub unjudged : findings.unjudged ≡ count_of is_unjudged replies
   pub edition : findings.edition ≡ length end.published
+
+-- nothing was said of any line: none is refused, answered badRequest or left unjudged
+abbrev pub finds_nothing : Findings → Bool
+finds_nothing found = found.refused == 0 && found.bad_requests == 0 && found.unjudged == 0

@@ -1,14 +1,11 @@
 //! `lostd check`: what a replay of standard input would refuse is said on standard output.
-ghost use Rattle.std.specs.Prelude.{◌≡◌, true, false, OnOk, IfErr, Ok, Err};
-ghost use Rattle.lostd.specs.Trouble.{finds_nothing};
-
 use crate::progress::Progress;
 use crate::replaying::{begun, turns_of};
-use crate::trouble::Trouble;
 use clap::ArgMatches;
 use lost_check::{Findings, check_lines};
 use lost_mapping::{Moment, Source};
 use lost_server::{Counts, ServeError, Turns, Watched};
+use lost_trouble::{Trouble, check_outcome};
 use std::io;
 use std::io::Write;
 
@@ -42,7 +39,7 @@ pub(crate) fn check_standard_input<R: Print + Eprint + Input + AllocGlobal>(
     if let Ok(counts) = checked {
         say_counts(rt, counts.lines, &found)?;
     }
-    outcome_of(checked, &found)
+    check_outcome(checked, found.is_nothing())
 }
 
 /// Checks standard input, and writes what is said of its lines to `output`.
@@ -76,24 +73,4 @@ fn say_counts<R: Print>(rt: &R, lines: u64, found: &Findings) -> Result<(), Trou
         found.refused, found.bad_requests, found.unjudged, found.edition
     )
     .map_err(|_| Trouble::Run(ServeError::Write))
-}
-
-/// How the program ends after a check: well where nothing was said of a line, with what was, or in the check's fault.
-fn outcome_of(checked: Result<Counts, ServeError>, found: &Findings) -> Result<(), Trouble>
-    ensures nothing { OnOk checked (finds_nothing found.now ≡ true → result ≡ Ok tt) }
-    ensures something { OnOk checked (finds_nothing found.now ≡ false → result ≡ Err Trouble.Found) }
-    ensures fault { IfErr checked (λ fault. result ≡ Err (Trouble.Run fault)) }
-{
-    match checked {
-        Ok(_) if finds_nothing(found) => Ok(()),
-        Ok(_) => Err(Trouble::Found),
-        Err(fault) => Err(Trouble::Run(fault)),
-    }
-}
-
-/// Whether a check said nothing of any line.
-fn finds_nothing(found: &Findings) -> bool
-    ensures { result ≡ finds_nothing found.now }
-{
-    found.refused == 0 && found.bad_requests == 0 && found.unjudged == 0
 }

@@ -2,18 +2,15 @@
 //! check` says what of it would be refused, and `lostd serve` answers connections.
 #![tactic(auto)]
 
-ghost use Rattle.std.specs.Prelude.{◌≡◌};
-ghost use Rattle.std.specs.Process.{exit_status};
-ghost use Rattle.lostd.specs.Trouble.{status_of};
-
 mod arguments;
 mod checking;
+mod mistake;
 mod progress;
 mod replaying;
 mod serving;
 mod summary;
-mod trouble;
 
+use lost_trouble::{Trouble, end};
 use serving::ServeOrder;
 use std::env;
 use std::io::IsTerminal;
@@ -24,20 +21,9 @@ use std::rt::Env;
 use std::sync::Wait;
 use std::thread::Threads;
 use std::time::Clock;
-use trouble::Trouble;
 
 fn main(rt: HostRuntime) -> ExitCode {
     end(&rt, run(&rt, rt.stderr().is_terminal()))
-}
-
-/// Says what went wrong, if anything did, and gives the exit status: 0 where all went well.
-fn end<R: Eprint>(rt: &R, outcome: Result<(), Trouble>) -> ExitCode
-    ensures { exit_status result ≡ status_of outcome }
-{
-    match outcome {
-        Ok(()) => ExitCode::SUCCESS,
-        Err(trouble) => trouble.report(rt),
-    }
 }
 
 /// Reads the words of the command line, and does what they say. `is_terminal` says whether standard error is one.
@@ -90,7 +76,7 @@ fn obey<'a, R: Print + Eprint + Input + AllocGlobal>(
         },
         Err(error) => {
             let first = words.get(1).map(|word| word.as_str());
-            trouble::show(rt, rt.alloc(), first, &error)?;
+            mistake::show(rt, rt.alloc(), first, &error)?;
             Ok(None)
         }
     }

@@ -1,9 +1,12 @@
 //! `lostd serve`: connections to two addresses are answered.
-use crate::replaying::{name_of, said_of};
-use crate::trouble::Trouble;
+ghost use Rattle.std.specs.Prelude.{◌≡◌};
+ghost use Rattle.lostd.specs.Trouble.{serve_trouble};
+
+use crate::replaying::said_of;
 use clap::ArgMatches;
 use lost_mapping::Source;
 use lost_server::{Manners, NoGate, RunFault, ServeError, serve};
+use lost_trouble::{Trouble, server_name};
 use std::io::ErrorKind;
 use std::net::{Net, TcpListener, TcpStream};
 use std::random::RandomSource;
@@ -28,7 +31,7 @@ pub(crate) fn order_of<'a, R: Eprint + AllocGlobal>(
     given: &ArgMatches<'a>,
 ) -> Result<ServeOrder<'a>, Trouble> {
     let name = given.get_str("name").unwrap_or("");
-    let name = match name_of(rt.alloc(), name) {
+    let name = match server_name(rt.alloc(), name) {
         Ok(name) => name,
         Err(trouble) => return Err(said_of(rt, trouble, name, "")),
     };
@@ -77,10 +80,21 @@ pub(crate) fn serve_addresses<
         &NoGate,
         order.manners,
     )
-    .map_err(Trouble::Serve)?;
+    .map_err(trouble_of)?;
     println!(rt; "done lines={} faults={}", counts.lines, counts.faults).map_err(|_| Trouble::Run(
         ServeError::Write,
     ))
+}
+
+/// What of a server's fault ends the program.
+fn trouble_of(fault: RunFault) -> Trouble
+    ensures { result ≡ serve_trouble fault }
+{
+    match fault {
+        RunFault::Workers => Trouble::Workers,
+        RunFault::Accept => Trouble::Accept,
+        RunFault::Memory => Trouble::MEMORY,
+    }
 }
 
 /// Listens on the address that an option gives, or says why that cannot be done.

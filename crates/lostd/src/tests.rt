@@ -1,11 +1,11 @@
 //! What the program prints, and the status that it ends with.
 mod console;
 
-use crate::trouble::Trouble;
-use crate::{end, obey};
+use crate::obey;
 use console::Console;
 use lost_fakes::NEVER;
 use lost_server::ServeError;
+use lost_trouble::{Trouble, end};
 use std::alloc::{AllocError, Global};
 use std::process::ExitCode;
 use std::test::Fail;
