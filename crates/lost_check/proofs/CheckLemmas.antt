@@ -1,5 +1,5 @@
 -- A stream that is served by what checks lines is a check of a replay.
-use Rattle.std.proofs.Common.{◌≡◌, ◌≢◌, ◌⊎◌, inl, inr, ℕ, ◌+◌, ◌-◌, ◌^◌, ◌≤◌, min, Bool, List, [], ◌∷◌, ◌++◌, length, Option, Some, None, IfSome, Result, Ok, Err, IfOk, IfErr, OnErr, refl, sym, ap, ◌∙◌, arith}
+use Rattle.std.proofs.Common.{◌≡◌, ℕ, ◌+◌, ◌-◌, ◌^◌, ◌≤◌, min, Bool, List, [], length, Option, Some, IfSome, Result, Ok, Err, IfOk, IfErr, OnErr, refl, sym, ◌∙◌, arith}
 use Rattle.std.proofs.lemmas.List.Sums.{count_by-le-length}
 use Rattle.lost_spec.specs.Text.{Text}
 use Rattle.lost_spec.specs.Moment.{Instant}
@@ -21,10 +21,10 @@ use Rattle.lost_check.specs.declared.tally.Tally.{Tally}
 use Rattle.lost_check.specs.declared.checker.Checker.{Checker}
 use Rattle.lost_check.specs.declared.findings.Findings.{Findings}
 use Rattle.lost_check.specs.Kinds.{kind_of, is_refused, is_bad_request, is_unjudged}
-use Rattle.lost_check.specs.Tally.{count_of, AreFindings}
+use Rattle.lost_check.specs.Tally.{count_of}
 use Rattle.lost_check.specs.Checker.{Checks}
 use Rattle.lost_check.specs.Check.{IsJudged, IsChecked, IsCheckedInPart, IsCheckedSoFar, IsCheckOutcome}
-use Rattle.lost_check.proofs.RunLemmas.{Sums, AreCapped, IsCheckedRun, checked_run, sums_behind}
+use Rattle.lost_check.proofs.RunLemmas.{Sums, AreCapped, IsCheckedRun, checked_run}
 
 -- nothing was counted
 abbrev nothing : Sums

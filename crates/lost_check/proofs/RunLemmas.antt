@@ -1,7 +1,7 @@
 -- A run of what checks lines is a run of what answers them, with what is said of each and what is counted.
-use Rattle.std.proofs.Common.{◌≡◌, ℕ, suc, ◌+◌, ◌-◌, ◌^◌, min, Bool, true, false, cond, List, [], ◌∷◌, ◌++◌, length, refl, sym, ap, ◌∙◌, arith}
+use Rattle.std.proofs.Common.{◌≡◌, ℕ, suc, ◌+◌, ◌-◌, ◌^◌, min, Bool, true, false, cond, List, [], ◌∷◌, length, refl, ap, ◌∙◌, arith}
 use Rattle.lost_spec.specs.Text.{Text}
-use Rattle.lost_lines.specs.Run.{Cut, Reply, Run, text_of}
+use Rattle.lost_lines.specs.Run.{Reply, Run, text_of}
 use Rattle.lost_stream.proofs.ListLemmas.{count_by_front}
 use Rattle.lost_replay.specs.Replayer.{Replays}
 use Rattle.lost_check.specs.declared.kind.Kind.{Kind}

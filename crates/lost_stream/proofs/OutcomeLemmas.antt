@@ -1,5 +1,5 @@
 -- What a run over lists gives, counted afresh.
-use Rattle.std.proofs.Common.{◌≡◌, ◌⊎◌, inl, inr, ℕ, Bool, false, List, [], ◌∷◌, ◌++◌, map, length, take, Option, Some, None, IfSome, refl, sym, ap, ◌∙◌, arith}
+use Rattle.std.proofs.Common.{◌≡◌, ◌⊎◌, inl, inr, ℕ, Bool, false, List, [], ◌++◌, map, length, take, Option, Some, None, IfSome, refl, sym, ap, ◌∙◌}
 use Rattle.std.proofs.lemmas.List.{length-map}
 use Rattle.std.specs.Io.KnownBytes.{Appends, Consumes}
 use Rattle.lost_spec.specs.Text.{Text}
@@ -8,7 +8,7 @@ use Rattle.lost_lines.specs.declared.turns.Turns.{Turns}
 use Rattle.lost_lines.specs.Cutting.{lines_of, ended_lines}
 use Rattle.lost_lines.specs.Run.{Reply, Run, text_of, long_count}
 use Rattle.lost_lines.specs.Stream.{AreCounts, AppendsFront, StandsPast}
-use Rattle.lost_stream.specs.Stream.{Terms, Lists, Line, AreMarks, lists_at, stream_text}
+use Rattle.lost_stream.specs.Stream.{Terms, Lists, Line}
 use Rattle.lost_stream.specs.Step.{Step}
 use Rattle.lost_stream.specs.Outcome.{texts_of_lines, AreCountsOf, IsStreamed, IsStreamedInPart, IsStreamedSoFar, IsStreamSpent}
 use Rattle.lost_stream.proofs.StreamLemmas.{IsCountedRun, counted_run}

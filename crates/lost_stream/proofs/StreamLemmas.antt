@@ -1,16 +1,16 @@
 -- The lists that a run keeps are those of the edits that were accepted and published, counted afresh after each line.
-use Rattle.std.proofs.Common.{◌≡◌, ℕ, ◌+◌, ◌-◌, Bool, true, false, not, ◌&&◌, cond, List, [], ◌∷◌, ◌++◌, map, length, filter_map, Option, Some, None, is_none, Result, Ok, Err, refl, sym, ap, ◌∙◌, append_assoc, length-append, arith}
+use Rattle.std.proofs.Common.{◌≡◌, ◌+◌, ◌-◌, Bool, true, false, cond, List, [], ◌∷◌, ◌++◌, map, filter_map, Option, Some, None, Result, Ok, Err, refl, sym, ap, ◌∙◌, append_assoc}
 use Rattle.std.specs.List.{count_by}
 use Rattle.std.proofs.lemmas.List.{append-nil}
 use Rattle.std.proofs.lemmas.List.Elements.{filter_map-append}
 use Rattle.lost_spec.specs.Text.{Text}
-use Rattle.lost_spec.specs.Book.{Edit, refusal}
+use Rattle.lost_spec.specs.Book.{Edit}
 use Rattle.lost_reading.specs.declared.desk.DeskFault.{DeskFault}
 use Rattle.lost_reading.specs.Desk.{Order, Stage, Commit, desk_line}
 use Rattle.lost_lines.specs.Cutting.{is_long}
 use Rattle.lost_lines.specs.Run.{Cut, Whole, TooLong, Unread, Reply, IsCut, Run, text_of, memory_count}
-use Rattle.lost_stream.specs.Stream.{Terms, Lists, Mark, Unmarked, ShortOfMemory, RefusedMemory, Line, is_good, is_unmarked, book, staged_edit, is_commit_order, edit_of_line, is_commit, keep, kept_of, accepted, published_from, published, lists_at, order_text, unmarked_text, marked_text, text_after, texts_after, is_short, IsTaken, IsMark, AreMarksAfter}
-use Rattle.lost_stream.specs.Step.{lists_after, text_with, after_with, MayHave, IsAnswered, IsSaid, Step}
+use Rattle.lost_stream.specs.Stream.{Terms, Lists, Mark, Unmarked, ShortOfMemory, RefusedMemory, Line, is_good, staged_edit, is_commit_order, edit_of_line, is_commit, keep, kept_of, accepted, published_from, published, lists_at, order_text, text_after, texts_after, is_short, IsMark, AreMarksAfter}
+use Rattle.lost_stream.specs.Step.{lists_after, text_with, after_with, MayHave, IsAnswered, Step}
 use Rattle.lost_stream.proofs.ListLemmas.{count_by_alike}
 
 abbrev pub marked_line : Text → Mark → Line

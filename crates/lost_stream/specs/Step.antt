@@ -1,11 +1,8 @@
 -- How a line is answered from the lists of edits, and what becomes of them.
-use Rattle.std.specs.Prelude.{◌≡◌, ℕ, ◌-◌, Bool, true, false, length, Option, Some, None, Result, Ok, Err}
+use Rattle.std.specs.Prelude.{◌≡◌, Bool, false, Option, Some, None, Result, Ok, Err}
 use Rattle.lost_spec.specs.Text.{Text}
-use Rattle.lost_spec.specs.Book.{refusal}
 use Rattle.lost_reading.specs.declared.desk.DeskFault.{DeskFault}
-use Rattle.lost_writing.specs.declared.desk_reply.DeskReply.TheVariants.{Committed}
-use Rattle.lost_reading.specs.Desk.{Order, Stage, Commit, desk_line, desk_fault_code}
-use Rattle.lost_writing.specs.DeskReplies.{desk_text}
+use Rattle.lost_reading.specs.Desk.{Order, Stage, Commit, desk_line}
 use Rattle.lost_lines.specs.Run.{Cut, Whole, TooLong, Unread, Reply}
 use Rattle.lost_stream.specs.Stream.{Terms, Lists, Mark, Unmarked, ShortOfMemory, RefusedMemory, IsTaken, book, keep, order_text, refused_text, is_short}
 

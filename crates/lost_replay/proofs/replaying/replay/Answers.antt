@@ -1,4 +1,4 @@
-use Rattle.std.proofs.Common.{◌≡◌, ℕ, Bool, true, false, refl}
+use Rattle.std.proofs.Common.{◌≡◌, ℕ, Bool, true, false}
 use Rattle.lost_replay.proofs.ReplayLemmas.{replay_outcome}
 use Rattle.lost_replay.proofs.replaying.replay.Goals as goal
 
