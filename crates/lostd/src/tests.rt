@@ -279,6 +279,11 @@ fn each_trouble_is_one_line(rt: HostRuntime) {
             "lostd: the input is too long: it has more lines than --lines allows, 1,000,000 where that is left out\n",
         ),
         (Trouble::Run(ServeError::Memory), "lostd: memory ran out\n"),
+        (Trouble::Workers, "lostd: there must be 1 to 64 workers\n"),
+        (
+            Trouble::Accept,
+            "lostd: no more connections could be accepted\n",
+        ),
     ] {
         let console = Console::new(rt.alloc(), "");
         let _code = trouble.report(&console);
