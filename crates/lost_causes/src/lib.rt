@@ -5,7 +5,7 @@
 mod bad_line;
 mod hints;
 mod json;
-mod kept;
+mod book_refusals;
 mod locations;
 mod object;
 mod patterns;

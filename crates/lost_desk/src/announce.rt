@@ -2,7 +2,7 @@
 ghost use Rattle.std.specs.Prelude.{◌≡◌, length, MatchBool};
 ghost use Rattle.lost_spec.specs.Laws.{BeginsWith};
 ghost use Rattle.lost_history.specs.History.{beginning};
-ghost use Rattle.lost_desk.specs.Held.{all_edits};
+ghost use Rattle.lost_desk.specs.States.{all_edits};
 
 use crate::copies::Copies;
 use lost_book::Edit;

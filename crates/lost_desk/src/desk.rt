@@ -7,7 +7,7 @@ ghost use Rattle.lost_history.specs.History.{beginning};
 ghost use Rattle.lost_desk.specs.Seen.{new_desk, staged_book, with_staged, with_committed};
 ghost use Rattle.lost_desk.specs.Copies.{first_version};
 
-use crate::CopyBook;
+use lost_routing::Routing;
 use crate::announce::announce;
 use crate::copies::Copies;
 use crate::faults::CommitError;
@@ -26,7 +26,7 @@ pub struct Desk {
     /// Edits that the copies do not have yet, behind those that they have.
     queue: VecDeque<Edit>,
     /// The book of all edits, published and pending.
-    ahead: CopyBook,
+    ahead: Routing,
     /// How far the history goes.
     front: Front,
     head: Head,
@@ -34,7 +34,7 @@ pub struct Desk {
 
 impl Model for Desk {
     ghost use Rattle.lost_desk.specs.Seen.{DeskSeen};
-    ghost use Rattle.lost_desk.specs.Held.{desk_seen, IsDesk};
+    ghost use Rattle.lost_desk.specs.States.{desk_seen, IsDesk};
 
     ghost Value = { DeskSeen };
 
@@ -139,7 +139,7 @@ impl Desk {
     pub(crate) fn of(
         copies: Copies,
         queue: VecDeque<Edit>,
-        ahead: CopyBook,
+        ahead: Routing,
         front: Front,
         head: Head,
     ) -> Desk

@@ -3,7 +3,7 @@ ghost use Rattle.std.specs.Prelude.{◌≡◌, OnOk, OnErr};
 ghost use Rattle.lost_spec.specs.Book.{after};
 ghost use Rattle.lost_book.specs.Edit.{edit_of};
 
-use crate::CopyBook;
+use lost_routing::Routing;
 use left_right::Absorb;
 use lost_book::{Edit, EditError};
 use lost_history::Front;
@@ -12,7 +12,7 @@ use std::alloc::AllocError;
 /// One of the two copies: the book that readers ask, and the list of edits whose book it is.
 #[derive(Drop)]
 pub struct Version {
-    pub(crate) book: CopyBook,
+    pub(crate) book: Routing,
     pub(crate) front: Front,
 }
 
@@ -50,7 +50,7 @@ impl Absorb<Operation> for Version {
 /// # Errors
 ///
 /// Want of memory. The book is then unchanged.
-fn change(book: &mut CopyBook, edit: &Edit) -> Result<(), AllocError>
+fn change(book: &mut Routing, edit: &Edit) -> Result<(), AllocError>
     ensures changed { OnOk result (book.new ≡ after book.old (edit_of edit.now)) }
     ensures unchanged { OnErr result (book.new ≡ book.old) }
 {

@@ -5,11 +5,11 @@
 mod cell;
 mod cells;
 mod entry;
-mod held;
+mod entries;
 mod index;
-mod kept;
+mod indexed_region;
 mod note;
-mod noting;
+mod notes;
 mod search;
 
 pub use index::Index;

@@ -67,7 +67,7 @@ pub fn read_desk(alloc: Global, line: &[u8]) -> Result<Option<DeskLine>, DeskFau
         fault ≢ DeskFault.Mapping MappingError.Memory → desk_line line.now ≡ Some (Err fault)) }
 {
     match read_tree(alloc, line) {
-        Ok(tree) => read_line(alloc, &tree),
+        Ok(tree) => read_tree_order(alloc, &tree),
         Err(ReadError::BadRequest) => Ok(None),
         Err(ReadError::Memory) => Err(DeskFault::Mapping(MappingError::Memory)),
     }
@@ -85,7 +85,7 @@ impl From<ReadError> for DeskFault {
 }
 
 /// The order of a tree: an object with exactly one member, whose name is that of a desk line.
-fn read_line(alloc: Global, tree: &Value) -> Result<Option<DeskLine>, DeskFault>
+fn read_tree_order(alloc: Global, tree: &Value) -> Result<Option<DeskLine>, DeskFault>
     ensures { GivesLine result (order_in (view tree.now)) }
 {
     match only_member(tree) {

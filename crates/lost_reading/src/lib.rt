@@ -14,10 +14,10 @@ mod regions;
 mod request;
 mod services;
 mod tree;
-mod whole;
+mod line;
 
 pub use desk::{DeskFault, DeskLine, read_desk};
-pub use locations::{CIVIC, GEODETIC, KNOWN_SYSTEM, are_locations};
+pub use locations::{CIVIC, GEODETIC, KNOWN_SYSTEM, MAX_LOCATIONS, are_locations};
 pub use options::{MAX_NAMES, by_value};
 pub use request::{ReadError, read_request};
-pub use whole::{Line, read_line};
+pub use line::{Line, read_line_by_tree};

@@ -26,7 +26,7 @@ pub const GEODETIC: &str = "geodetic-2d";
 pub const CIVIC: &str = "civic";
 
 /// The most locations of a request.
-const MAX_LOCATIONS: usize = 8;
+pub const MAX_LOCATIONS: usize = 8;
 
 /// A list of 1 to 8 locations, no two of one profile (RFC 5222, section 8.3.1; bounds own).
 impl<'a> Kind for Locations<'a> {

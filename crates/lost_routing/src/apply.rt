@@ -34,7 +34,7 @@ impl Routing {
         ensures { IsApplied self.old (Publish mapping) result self.new }
     {
         check_publish(self, &mapping)?;
-        if self.held.put(self.edits, mapping).is_err() {
+        if self.store.put(self.edits, mapping).is_err() {
             return Err(EditError::Memory);
         }
         self.edits += 1;
@@ -45,7 +45,7 @@ impl Routing {
         ensures { IsApplied self.old (Replace mapping) result self.new }
     {
         check_replace(self, &mapping)?;
-        if self.held.replace(mapping).is_err() {
+        if self.store.replace(mapping).is_err() {
             return Err(EditError::Memory);
         }
         self.edits += 1;
@@ -56,7 +56,7 @@ impl Routing {
         ensures { IsApplied self.old (Withdraw identity.now stamp.now) result self.new }
     {
         check_withdraw(self, identity, stamp)?;
-        self.held.withdraw(identity);
+        self.store.withdraw(identity);
         self.edits += 1;
         Ok(())
     }

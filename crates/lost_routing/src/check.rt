@@ -37,14 +37,14 @@ impl Register for Routing {
     }
 
     fn is_held(&self, identity: &Identity) -> bool {
-        self.held.is_held(identity)
+        self.store.is_held(identity)
     }
 
     fn held(&self, identity: &Identity) -> Option<&Mapping> {
-        self.held.with_identity(identity)
+        self.store.with_identity(identity)
     }
 
     fn is_key_of_another(&self, identity: &Identity, key: &str) -> bool {
-        self.held.is_key_of_another(identity, key)
+        self.store.is_key_of_another(identity, key)
     }
 }

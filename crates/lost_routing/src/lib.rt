@@ -6,7 +6,7 @@ mod apply;
 mod check;
 mod edits;
 mod entering;
-mod held;
+mod store;
 mod holdings;
 mod placed;
 mod questions;

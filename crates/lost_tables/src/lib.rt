@@ -4,7 +4,7 @@
 
 mod cell;
 mod identities;
-mod known;
+mod defaults;
 pub mod laws;
 mod lists;
 pub mod picks;

@@ -8,7 +8,7 @@ ghost use Rattle.lost_worker.specs.Desking.{IsSameDesk, desk_terms, lists_of};
 use crate::desking::Desking;
 use lost_desk::Desk;
 use lost_lines::{Counts, NoGate, ServeError, Turns, Watched, run_lines};
-use lost_tokens::Scratch;
+use lost_tape::Scratch;
 use std::alloc::Global;
 use std::io::{Read, Write};
 use std::sync::Wait;

@@ -15,7 +15,7 @@ use lost_lines::{Answer, Answerer};
 use lost_mapping::MappingError;
 use lost_reading::Line;
 use lost_stream::desk_answer;
-use lost_tokens::{Scratch, read_line};
+use lost_tape::{Scratch, read_line};
 use std::alloc::Global;
 use std::sync::Wait;
 
@@ -34,7 +34,7 @@ impl<T: Wait> Answerer for Desking<'_, '_, '_, T> {
     ghost step = { Desks };
 
     fn answer(&mut self, alloc: Global, line: &[u8]) -> Answer {
-        match read_desk(alloc, line, self.scratch) {
+        match read_desk_by_tape(alloc, line, self.scratch) {
             Ok(Some(DeskLine::Edit(edit))) => stage(self.desk, edit),
             Ok(Some(DeskLine::Commit)) => commit(self.rt, self.desk),
             Ok(None) => desk_answer(DeskReply::Refused(1)),
@@ -55,7 +55,7 @@ impl<T: Wait> Answerer for Desking<'_, '_, '_, T> {
 }
 
 /// Reads a desk line by its tokens, or `None` where a line is no desk line, which a request is not.
-fn read_desk(
+fn read_desk_by_tape(
     alloc: Global,
     line: &[u8],
     scratch: &mut Scratch,

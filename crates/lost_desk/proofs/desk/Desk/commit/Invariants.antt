@@ -1,4 +1,4 @@
-use Rattle.lost_desk.specs.Held.{all_edits}
+use Rattle.lost_desk.specs.States.{all_edits}
 use Rattle.lost_desk.proofs.desk.Desk.commit.Given as goal
 
 -- the history becomes all edits
