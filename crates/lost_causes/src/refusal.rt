@@ -1,7 +1,7 @@
 //! The cause of a refusal, and of `badRequest`. Rules without a section are this profile's own.
 use crate::bad_line::bad_line;
-use crate::json::tree;
 use crate::book_refusals::book_refusal;
+use crate::json::tree;
 use crate::object::Object;
 use crate::regions::regions;
 use crate::requests::bad_request;

@@ -2,6 +2,7 @@
 use crate::object::Object;
 use crate::stop::{Stop, found};
 use crate::texts::id;
+use lost_mapping::{MAX_DISPLAY_NAME_BYTES, MAX_DISPLAY_NAMES, MAX_PATTERNS, MAX_POLYGONS};
 use lost_reading::GEODETIC;
 use serde_json::Value;
 use std::alloc::Global;
@@ -33,7 +34,13 @@ pub(crate) fn too_large(mapping: &Object<'_>) -> Result<(), Stop> {
     let patterns = regions.len().saturating_sub(polygons);
     at_most(alloc, "serviceBoundary", "patterns", patterns, MAX_PATTERNS)?;
     let names = mapping.optional_list("displayName", "a list of objects")?;
-    at_most(alloc, "displayName", "names", names.len(), MAX_DISPLAY_NAMES)?;
+    at_most(
+        alloc,
+        "displayName",
+        "names",
+        names.len(),
+        MAX_DISPLAY_NAMES,
+    )?;
     for (place, item) in names.iter().enumerate() {
         display_name(alloc, place, item)?;
     }

@@ -1,6 +1,7 @@
 //! Codes 2, 3, 6, 8 and 12: sources, sourceIds and keys, services and numbers.
 use crate::quoting::quoted;
 use crate::stop::{Stop, found};
+use lost_mapping::{MAX_ID_BYTES, MAX_NUMBER_BYTES, MAX_SOURCE_BYTES};
 use lost_urn::{ServiceUrn, check_label};
 use std::alloc::Global;
 

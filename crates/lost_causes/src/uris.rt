@@ -1,6 +1,7 @@
 //! Code 7: the list of URIs.
 use crate::quoting::quoted;
 use crate::stop::{Stop, found};
+use lost_mapping::{MAX_URI_BYTES, MAX_URIS};
 use serde_json::Value;
 use std::alloc::Global;
 

@@ -8,12 +8,12 @@ ghost use Rattle.lost_reading.specs.Requests.{line_request};
 ghost use Rattle.lost_spec.specs.Holders.{holders_of};
 ghost use Rattle.lost_desk.specs.Sets.{AreRightIn, KeepsOnly};
 
-use lost_routing::Routing;
 use crate::sets::PlaceSets;
 use crate::with_holders::WithHolders;
 use lost_json::{ReadError, reply_request, write_reply};
 use lost_mapping::{Moment, Source};
 use lost_query::{Holdings, Place, Reply, Request, place_used};
+use lost_routing::Routing;
 use lost_tape::{Scratch, read_request};
 use std::alloc::{AllocError, Global};
 

@@ -7,7 +7,6 @@ ghost use Rattle.lost_history.specs.History.{beginning};
 ghost use Rattle.lost_desk.specs.Seen.{new_desk, staged_book, with_staged, with_committed};
 ghost use Rattle.lost_desk.specs.Copies.{first_version};
 
-use lost_routing::Routing;
 use crate::announce::announce;
 use crate::copies::Copies;
 use crate::faults::CommitError;
@@ -15,6 +14,7 @@ use crate::queue::publish_all;
 use crate::told::Told;
 use lost_book::{Edit, EditError};
 use lost_history::{Front, Head};
+use lost_routing::Routing;
 use std::collections::VecDeque;
 use std::marker::{Brand, Model};
 use std::sync::Wait;

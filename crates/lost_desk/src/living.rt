@@ -3,9 +3,9 @@ ghost use Rattle.std.specs.Prelude.{◌≡◌, ◌<◌, IfOk, length, filter};
 ghost use Rattle.std.specs.List.{All};
 ghost use Rattle.lost_desk.specs.Sets.{is_living_at};
 
-use lost_routing::Routing;
 use lost_mapping::Moment;
 use lost_query::Positions;
+use lost_routing::Routing;
 use std::alloc::{AllocError, Global};
 
 /// Those of the positions whose mappings are live and are no defaults, in their order, or want of memory. The positions

@@ -5,7 +5,6 @@ ghost use Rattle.lost_desk.specs.Seen.{new_desk, new_reader};
 ghost use Rattle.lost_desk.specs.Copies.{first_version};
 ghost use Rattle.lost_desk.specs.Rule.{named, IsNewWriter, reader_of};
 
-use lost_routing::Routing;
 use crate::copies::{Copies, CopyWriter};
 use crate::desk::Desk;
 use crate::faults::OpenError;
@@ -15,6 +14,7 @@ use crate::rule::{Meeting, Naming, Telling};
 use crate::version::Version;
 use lost_book::Limits;
 use lost_history::{Front, open_history};
+use lost_routing::Routing;
 use lost_tape::Scratch;
 use std::alloc::{AllocError, Global};
 use std::collections::VecDeque;

@@ -80,7 +80,13 @@ impl<P: Profile> Cell<P> {
     }
 
     /// Takes the note at a position out, if it is of the number and of none of those regions in whose cover the key is.
-    fn remove_at(&mut self, position: usize, number: u64, key: &P::Key, remaining: &[IndexedRegion<P>])
+    fn remove_at(
+        &mut self,
+        position: usize,
+        number: u64,
+        key: &P::Key,
+        remaining: &[IndexedRegion<P>],
+    )
         ensures others { (other : _) (outline : _) → nat_eq number other ≡ false → has_note P.Outline.eq other outline self.old ≡ true
             → has_note P.Outline.eq other outline self.new ≡ true }
         ensures remaining { (other : _) (region : _) → Contains remaining.now region → list_any (P.Key.eq key.now) (P.cover_of region) ≡ true

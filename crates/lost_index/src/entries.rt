@@ -12,7 +12,10 @@ use std::alloc::AllocError;
 use std::collections::BTreeMap;
 
 /// The regions of a number that is held.
-pub(crate) fn kept_of<P: Profile>(held: &BTreeMap<u64, Entry<P>>, number: u64) -> &[IndexedRegion<P>]
+pub(crate) fn kept_of<P: Profile>(
+    held: &BTreeMap<u64, Entry<P>>,
+    number: u64,
+) -> &[IndexedRegion<P>]
     requires { IsHeld number held.now.entries }
     ensures { get nat_cmp held.now number ≡ Some result.now }
 {

@@ -77,7 +77,11 @@ impl<P: Profile> Entry<P> {
 }
 
 /// Whether the key is in the cover of some region with an outline that is equal to this one.
-pub(crate) fn covers_with<P: Profile>(kept: &[IndexedRegion<P>], key: &P::Key, outline: &P::Outline) -> bool
+pub(crate) fn covers_with<P: Profile>(
+    kept: &[IndexedRegion<P>],
+    key: &P::Key,
+    outline: &P::Outline,
+) -> bool
     ensures { result ≡ list_any
         (λ region. P.Outline.eq (P.outline_of region) outline.now && list_any (P.Key.eq key.now) (P.cover_of region)) kept.now }
 {

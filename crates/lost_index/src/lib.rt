@@ -4,8 +4,8 @@
 
 mod cell;
 mod cells;
-mod entry;
 mod entries;
+mod entry;
 mod index;
 mod indexed_region;
 mod note;

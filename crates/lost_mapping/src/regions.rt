@@ -9,8 +9,8 @@ ghost use Rattle.lost_mapping.specs.Faults.{Refuses, fault_if, regions_fault, is
 ghost use Rattle.lost_mapping.specs.Parts.{region_of, regions_of};
 ghost use Rattle.lost_mapping.specs.Regions.{region_counts};
 
-use crate::parts::{Region, RegionKind};
 use crate::part_items::PartItems;
+use crate::parts::{Region, RegionKind};
 use lost_civic::{CivicError, CivicPattern};
 use lost_geo::{GeoPoint, Polygon};
 use lost_spec::faults::MappingError;

@@ -7,8 +7,8 @@ ghost use Rattle.lost_spec.specs.Mapping.{has_right_key as has_right_key_text};
 ghost use Rattle.lost_mapping.specs.Faults.{shape_fault, has_right_count as has_right_number, is_oversized as is_oversized_list};
 
 use crate::id::is_id;
-use crate::regions::Counts;
 use crate::part_items::PartItems;
+use crate::regions::Counts;
 use lost_spec::faults::MappingError;
 
 /// The most polygons that a mapping has.

@@ -16,7 +16,7 @@ use crate::locations::{CIVIC, GEODETIC};
 use crate::reading::{member, text_member};
 use lost_civic::CivicPattern;
 use lost_geo::{Positions, is_ring_of};
-use lost_mapping::{RegionKind, PartItems};
+use lost_mapping::{PartItems, RegionKind};
 use serde_json::{Map, Value};
 
 /// A tree, from whose values positions and the parts of a mapping are told.

@@ -22,6 +22,7 @@ use lost_lines::{Answer, Text as ReplyText};
 use lost_mapping::{Moment, Source};
 use lost_query::Request;
 use lost_routing::Routing;
+use lost_spec::Coded;
 use lost_stream::{bad_request, desk_answer, internal_error};
 use std::alloc::{AllocError, Global};
 use std::marker::Model;

@@ -158,18 +158,7 @@ fn apply_first(book: &mut Routing, edits: &mut VecDeque<Edit>) -> Result<(), All
     let Some(edit) = edits.front() else {
         return Ok(());
     };
-    apply(book, edit)?;
+    book.absorb(edit)?;
     let _applied = edits.pop_front();
     Ok(())
-}
-
-/// Applies an edit to a book, or changes nothing for want of memory. An edit that the book refuses changes nothing.
-fn apply(book: &mut Routing, edit: &Edit) -> Result<(), AllocError>
-    ensures applied { OnOk result (book.new ≡ after book.old (edit_of edit.now)) }
-    ensures unchanged { OnErr result (book.new ≡ book.old) }
-{
-    match book.apply(edit.clone()?) {
-        Err(EditError::Memory) => Err(AllocError),
-        _ => Ok(()),
-    }
 }

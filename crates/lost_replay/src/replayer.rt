@@ -8,6 +8,7 @@ use lost_lines::{Answer, Answerer};
 use lost_mapping::{MappingError, Moment, Source};
 use lost_reading::Line;
 use lost_routing::Routing;
+use lost_spec::Coded;
 use lost_stream::{bad_request, desk_answer, internal_error};
 use lost_tape::{Scratch, read_line};
 use std::alloc::{AllocError, Global};

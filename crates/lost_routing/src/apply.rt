@@ -7,6 +7,7 @@ ghost use Rattle.lost_routing.specs.Applied.{IsApplied};
 use crate::routing::Routing;
 use lost_book::{Edit, EditError, check_publish, check_replace, check_withdraw};
 use lost_mapping::{Identity, Mapping, Stamp};
+use std::alloc::AllocError;
 
 impl Routing {
     /// Applies an edit: a publish appends, a replacement keeps the place, a withdrawal closes up, and the edition rises
@@ -27,6 +28,21 @@ impl Routing {
             Edit::Publish(mapping) => self.publish(mapping),
             Edit::Replace(mapping) => self.replace(mapping),
             Edit::Withdraw(identity, stamp) => self.withdraw(&identity, &stamp),
+        }
+    }
+
+    /// Applies a copy of an edit. An edit that the book refuses changes nothing.
+    ///
+    /// # Errors
+    ///
+    /// Want of memory. The book is then unchanged.
+    pub fn absorb(&mut self, edit: &Edit) -> Result<(), AllocError>
+        ensures changed { OnOk result (self.new ≡ after self.old (edit_of edit.now)) }
+        ensures unchanged { OnErr result (self.new ≡ self.old) }
+    {
+        match self.apply(edit.clone()?) {
+            Err(EditError::Memory) => Err(AllocError),
+            _ => Ok(()),
         }
     }
 

@@ -7,8 +7,8 @@ ghost use Rattle.lost_spec.specs.Positions.{positions};
 ghost use Rattle.lost_spec.specs.Find.{AtPoint, AtAddress, holds, is_holder};
 ghost use Rattle.lost_spec.specs.Services.{is_holding};
 
-use crate::store::Store;
 use crate::scan::{FEW, scan};
+use crate::store::Store;
 use lost_book::{holds_address, holds_point, serves};
 use lost_civic::CivicAddress;
 use lost_geo::GeoPoint;

@@ -3,8 +3,8 @@
 #![tactic(auto)]
 
 mod cell;
-mod identities;
 mod defaults;
+mod identities;
 pub mod laws;
 mod lists;
 pub mod picks;

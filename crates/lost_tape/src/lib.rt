@@ -12,10 +12,10 @@ mod nesting;
 mod numbers;
 mod options;
 mod part;
+mod reading;
 mod regions;
 mod requests;
 mod tree;
-mod reading;
 
 pub use json::Scratch;
 pub use line::read_common;

@@ -14,6 +14,7 @@ use lost_json::{DeskFault, DeskLine, DeskReply};
 use lost_lines::{Answer, Answerer};
 use lost_mapping::MappingError;
 use lost_reading::Line;
+use lost_spec::Coded;
 use lost_stream::desk_answer;
 use lost_tape::{Scratch, read_line};
 use std::alloc::Global;
