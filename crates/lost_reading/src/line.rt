@@ -7,7 +7,7 @@ ghost use Rattle.lost_reading.specs.Lines.{GivesWhole};
 use crate::desk::{DeskFault, DeskLine, is_desk_name, read_order};
 use crate::reading::{only_member, read_tree};
 use crate::request::{ReadError, read_member_request};
-use lost_query::Request;
+use lost_message::Request;
 use lost_spec::faults::MappingError;
 use serde_json::Value;
 use std::alloc::Global;

@@ -2,14 +2,14 @@
 ghost use Rattle.std.specs.Prelude.{◌≡◌, Some, IfSome, OnSome, option_map, string_bytes};
 ghost use Rattle.serde_json.specs.Data.{Members as SpecMembers, no_members, string, put};
 ghost use Rattle.lost_civic.specs.Pairs.{seen_pairs};
-ghost use Rattle.lost_query.specs.Request.{body_of};
+ghost use Rattle.lost_message.specs.Request.{body_of};
 ghost use Rattle.lost_reading.specs.Members.{pairs_of, pairs_in};
 ghost use Rattle.lost_reading.specs.Requests.{address_body};
 ghost use Rattle.lost_tape.specs.Tapes.{data_of, text_members, HoldsMembers};
 
 use crate::part::{add, owned};
 use crate::tree::{Named, Tree};
-use lost_query::Body;
+use lost_message::Body;
 use std::alloc::Global;
 use std::collections::BTreeMap;
 

@@ -2,7 +2,7 @@
 ghost use Rattle.std.specs.Prelude.{◌≡◌, Some, IfSome, option_map, option_and_then, not, ◌||◌, if◌then◌else◌};
 ghost use Rattle.lost_spec.specs.Answer.{is_geodetic, is_civic};
 ghost use Rattle.lost_spec.specs.Request.{UnreadableBody};
-ghost use Rattle.lost_query.specs.Request.{body_of, location_of, locations_of};
+ghost use Rattle.lost_message.specs.Request.{body_of, location_of, locations_of};
 ghost use Rattle.lost_reading.specs.Members.{pairs_in};
 ghost use Rattle.lost_reading.specs.Requests.{point_body, address_body, is_known_system, location_of_members, location_in, locations_in};
 ghost use Rattle.lost_tape.specs.Tapes.{data_of, members_of};
@@ -11,7 +11,7 @@ use crate::addresses::read_address;
 use crate::members::LocationMembers;
 use crate::part::{Part, read_each, read_position, text_of};
 use crate::tree::Tree;
-use lost_query::{Body, Location, Locations};
+use lost_message::{Body, Location, Locations};
 use lost_reading::{CIVIC, GEODETIC, KNOWN_SYSTEM, are_locations};
 use std::alloc::Global;
 use std::borrow::CowStr;

@@ -2,7 +2,7 @@
 ghost use Rattle.std.specs.Prelude.{◌≢◌, Err};
 ghost use Rattle.lost_lines.specs.Calls.{AreFresh, StreamFaults};
 ghost use Rattle.lost_lines.specs.Outcome.{passage_of};
-ghost use Rattle.lost_stream.specs.Outcome.{IsStreamOutcome};
+ghost use Rattle.lost_json.specs.Outcome.{IsStreamOutcome};
 ghost use Rattle.lost_worker.specs.Desking.{IsSameDesk, desk_terms, lists_of};
 
 use crate::desking::Desking;

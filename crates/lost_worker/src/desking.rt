@@ -1,21 +1,20 @@
 //! What answers the lines of a desk's connection.
 ghost use Rattle.std.specs.Prelude.{◌≡◌, ◌≢◌, Some, None, Ok, Err, IfOk, IfErr, IfSome};
 ghost use Rattle.lost_spec.specs.Text.{Text as Bytes};
-ghost use Rattle.lost_book.specs.Edit.{edit_of};
+ghost use Rattle.lost_message.specs.Edit.{edit_of};
 ghost use Rattle.lost_reading.specs.Desk.{Stage, Commit, desk_line};
 ghost use Rattle.lost_reading.specs.DeskLines.{order_of};
 ghost use Rattle.lost_lines.specs.Answer.{reply_of};
-ghost use Rattle.lost_stream.specs.Step.{IsAnswered};
+ghost use Rattle.lost_json.specs.Step.{IsAnswered};
 ghost use Rattle.lost_worker.specs.Desking.{IsSameDesk, desk_terms, lists_of};
 
 use lost_book::Edit;
 use lost_desk::Desk;
-use lost_json::{DeskFault, DeskLine, DeskReply};
+use lost_json::{DeskFault, DeskLine, DeskReply, desk_answer};
 use lost_lines::{Answer, Answerer};
 use lost_mapping::MappingError;
 use lost_reading::Line;
 use lost_spec::Coded;
-use lost_stream::desk_answer;
 use lost_tape::{Scratch, read_line};
 use std::alloc::Global;
 use std::sync::Wait;

@@ -16,7 +16,7 @@ pub enum Edit {
 }
 
 impl Edit {
-    ghost use Rattle.lost_book.specs.Edit.{edit_of};
+    ghost use Rattle.lost_message.specs.Edit.{edit_of};
 
     /// The same edit, or want of memory. A mapping costs a pointer.
     pub fn clone(&self) -> Result<Edit, AllocError>

@@ -2,10 +2,10 @@
 ghost use Rattle.std.specs.Prelude.{◌≡◌, true, false};
 ghost use Rattle.lost_writing.specs.DeskReplies.{desk_text, IsInTable};
 ghost use Rattle.lost_lines.specs.Answer.{reply_of};
-ghost use Rattle.lost_stream.specs.Stream as stream;
+ghost use Rattle.lost_json.specs.Stream as stream;
 
-use lost_json::{BAD_REQUEST, DeskReply, INTERNAL_ERROR, law_constant_lines, write_desk};
 use lost_lines::{Answer, Text};
+use lost_writing::{BAD_REQUEST, DeskReply, INTERNAL_ERROR, law_constant_lines, write_desk};
 
 /// The desk's reply. The caller has: a refusal is one of the table.
 pub fn desk_answer(reply: DeskReply) -> Answer

@@ -4,8 +4,8 @@ use Rattle.std.specs.List.{list_any}
 use Rattle.std.proofs.lemmas.Iterator.{YieldsList-from_slice}
 use Rattle.std.proofs.lemmas.Iterator.Search.{any_from_yields_List}
 use Rattle.lost_spec.specs.Text.{same_ignoring_case}
-use Rattle.lost_query.proofs.FindLemmas.{list_any-map}
-use Rattle.lost_query.proofs.path.Path.is_loop.Goals as goal
+use Rattle.lost_message.proofs.FoldLemmas.{list_any-map}
+use Rattle.lost_message.proofs.path.Path.is_loop.Goals as goal
 
 pub returns : goal.returns
 returns c =

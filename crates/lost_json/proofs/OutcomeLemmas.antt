@@ -8,10 +8,10 @@ use Rattle.lost_lines.specs.declared.turns.Turns.{Turns}
 use Rattle.lost_lines.specs.Cutting.{lines_of, ended_lines}
 use Rattle.lost_lines.specs.Run.{Reply, Run, text_of, long_count}
 use Rattle.lost_lines.specs.Stream.{AreCounts, AppendsFront, StandsPast}
-use Rattle.lost_stream.specs.Stream.{Terms, Lists, Line}
-use Rattle.lost_stream.specs.Step.{Step}
-use Rattle.lost_stream.specs.Outcome.{texts_of_lines, AreCountsOf, IsStreamed, IsStreamedInPart, IsStreamedSoFar, IsStreamSpent}
-use Rattle.lost_stream.proofs.StreamLemmas.{IsCountedRun, counted_run}
+use Rattle.lost_json.specs.Stream.{Terms, Lists, Line}
+use Rattle.lost_json.specs.Step.{Step}
+use Rattle.lost_json.specs.Outcome.{texts_of_lines, AreCountsOf, IsStreamed, IsStreamedInPart, IsStreamedSoFar, IsStreamSpent}
+use Rattle.lost_json.proofs.StreamLemmas.{IsCountedRun, counted_run}
 
 -- what was appended, by an equal text
 appends_as : (old new : Option Text) (a b : Text) → a ≡ b → Appends old new a → Appends old new b

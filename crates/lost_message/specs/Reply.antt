@@ -5,13 +5,13 @@ use Rattle.lost_spec.specs.Request as spec
 use Rattle.lost_spec.specs.Answer.{reference_of}
 use Rattle.lost_spec.specs.Validation as judged
 use Rattle.lost_mapping.specs.Texts.{texts_of}
-use Rattle.lost_query.specs.declared.reply.Boundary.{Boundary}
-use Rattle.lost_query.specs.declared.reply.Boundary.TheVariants.{ByReference, ByPolygons, ByPatterns}
-use Rattle.lost_query.specs.declared.reply.Reply.{Reply}
-use Rattle.lost_query.specs.declared.reply.Reply.TheVariants.{FindServiceResponse, ListServicesByLocationResponse, ListServicesResponse, GetServiceBoundaryResponse, Errors, BadRequest, InternalError}
-use Rattle.lost_query.specs.declared.reply.FoundMappings.{FoundMappings}
-use Rattle.lost_query.specs.declared.reply.Validation.{Validation}
-use Rattle.lost_query.specs.Path.{shown_path}
+use Rattle.lost_message.specs.declared.reply.Boundary.{Boundary}
+use Rattle.lost_message.specs.declared.reply.Boundary.TheVariants.{ByReference, ByPolygons, ByPatterns}
+use Rattle.lost_message.specs.declared.reply.Reply.{Reply}
+use Rattle.lost_message.specs.declared.reply.Reply.TheVariants.{FindServiceResponse, ListServicesByLocationResponse, ListServicesResponse, GetServiceBoundaryResponse, Errors, BadRequest, InternalError}
+use Rattle.lost_message.specs.declared.reply.FoundMappings.{FoundMappings}
+use Rattle.lost_message.specs.declared.reply.Validation.{Validation}
+use Rattle.lost_message.specs.Path.{shown_path}
 
 -- the boundary of a kind that a mapping is shown with (RFC 5222, sections 5.5 and 5.6)
 abbrev pub boundary_of : Boundary → Mapping → spec.Boundary

@@ -1,14 +1,14 @@
 //! The path of a request, and that of its reply: names of servers (RFC 5222, section 6).
 ghost use Rattle.std.specs.Prelude.{◌≡◌};
 ghost use Rattle.lost_spec.specs.Answer.{path_of, is_loop};
-ghost use Rattle.lost_query.specs.Request.{path_names, request_of};
+ghost use Rattle.lost_message.specs.Request.{path_names, request_of};
 
 use crate::request::Request;
 use lost_mapping::Source;
 use std::borrow::CowStr;
 
 /// The path of a request of any kind.
-pub(crate) fn path_of<'r, 'a>(request: &'r Request<'a>) -> &'r [CowStr<'a>]
+pub fn path_of<'r, 'a>(request: &'r Request<'a>) -> &'r [CowStr<'a>]
     ensures { path_names result.now ≡ path_of (request_of request.now) }
 {
     match request {
@@ -30,7 +30,7 @@ pub struct Path<'a> {
 
 impl Path<'_> {
     /// Whether the request's path has the server's name, in any case (RFC 5222, section 6).
-    pub(crate) fn is_loop(&self) -> bool
+    pub fn is_loop(&self) -> bool
         ensures { result ≡ is_loop self.now.server.now (path_names self.now.names.now) }
     {
         let server = self.server.text();

@@ -9,9 +9,9 @@ use Rattle.lost_reading.specs.declared.desk.DeskFault.{DeskFault}
 use Rattle.lost_reading.specs.Desk.{Order, Stage, Commit, desk_line}
 use Rattle.lost_lines.specs.Cutting.{is_long}
 use Rattle.lost_lines.specs.Run.{Cut, Whole, TooLong, Unread, Reply, IsCut, Run, text_of, memory_count}
-use Rattle.lost_stream.specs.Stream.{Terms, Lists, Mark, Unmarked, ShortOfMemory, RefusedMemory, Line, is_good, staged_edit, is_commit_order, edit_of_line, is_commit, keep, kept_of, accepted, published_from, published, lists_at, order_text, text_after, texts_after, is_short, IsMark, AreMarksAfter}
-use Rattle.lost_stream.specs.Step.{lists_after, text_with, after_with, MayHave, IsAnswered, Step}
-use Rattle.lost_stream.proofs.ListLemmas.{count_by_alike}
+use Rattle.lost_json.specs.Stream.{Terms, Lists, Mark, Unmarked, ShortOfMemory, RefusedMemory, Line, is_good, staged_edit, is_commit_order, edit_of_line, is_commit, keep, kept_of, accepted, published_from, published, lists_at, order_text, text_after, texts_after, is_short, IsMark, AreMarksAfter}
+use Rattle.lost_json.specs.Step.{lists_after, text_with, after_with, MayHave, IsAnswered, Step}
+use Rattle.lost_json.proofs.ListLemmas.{count_by_alike}
 
 abbrev pub marked_line : Text → Mark → Line
 marked_line text mark = record { text = text; mark = mark }

@@ -4,7 +4,7 @@ use Rattle.lost_spec.specs.Text.{Text}
 use Rattle.lost_reading.specs.declared.desk.DeskFault.{DeskFault}
 use Rattle.lost_reading.specs.Desk.{Order, Stage, Commit, desk_line}
 use Rattle.lost_lines.specs.Run.{Cut, Whole, TooLong, Unread, Reply}
-use Rattle.lost_stream.specs.Stream.{Terms, Lists, Mark, Unmarked, ShortOfMemory, RefusedMemory, IsTaken, book, keep, order_text, refused_text, is_short}
+use Rattle.lost_json.specs.Stream.{Terms, Lists, Mark, Unmarked, ShortOfMemory, RefusedMemory, IsTaken, book, keep, order_text, refused_text, is_short}
 
 -- the lists after a line with this order: an edit is accepted unless it is refused, a commit publishes all that are
 abbrev pub lists_after : Terms → Lists → Option (Result Order DeskFault) → Lists

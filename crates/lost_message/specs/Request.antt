@@ -5,12 +5,12 @@ use Rattle.std.specs.declared.borrow.CowStr.{CowStr}
 use Rattle.lost_spec.specs.Request as spec
 use Rattle.lost_spec.specs.Text.{Text}
 use Rattle.lost_civic.specs.Pairs.{seen_pairs}
-use Rattle.lost_query.specs.declared.request.Body.{Body}
-use Rattle.lost_query.specs.declared.request.Body.TheVariants.{Point, Address, Unreadable}
-use Rattle.lost_query.specs.declared.request.Location.{Location}
-use Rattle.lost_query.specs.declared.request.Locations.{Locations}
-use Rattle.lost_query.specs.declared.request.Request.{Request}
-use Rattle.lost_query.specs.declared.request.Request.TheVariants.{FindService, ListServicesByLocation, ListServices, GetServiceBoundary}
+use Rattle.lost_message.specs.declared.request.Body.{Body}
+use Rattle.lost_message.specs.declared.request.Body.TheVariants.{Point, Address, Unreadable}
+use Rattle.lost_message.specs.declared.request.Location.{Location}
+use Rattle.lost_message.specs.declared.request.Locations.{Locations}
+use Rattle.lost_message.specs.declared.request.Request.{Request}
+use Rattle.lost_message.specs.declared.request.Request.TheVariants.{FindService, ListServicesByLocation, ListServices, GetServiceBoundary}
 
 -- what a location holds (RFC 5222, section 12)
 abbrev pub body_of : Body → spec.Body

@@ -11,7 +11,7 @@ use Rattle.lost_lines.specs.Cutting.{lines_of, ended_lines}
 use Rattle.lost_lines.specs.Run.{long_count}
 use Rattle.lost_lines.specs.Outcome.{Passage}
 use Rattle.lost_lines.specs.Stream.{AppendsFront, StandsPast}
-use Rattle.lost_stream.specs.Stream.{Terms, Lists, Line, AreMarks, lists_at, stream_text, is_short}
+use Rattle.lost_json.specs.Stream.{Terms, Lists, Line, AreMarks, lists_at, stream_text, is_short}
 
 -- the lines without their marks
 abbrev pub texts_of_lines : List Line → List Text
