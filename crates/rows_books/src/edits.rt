@@ -4,6 +4,7 @@ use crate::kinds::Kind;
 use crate::pair::Pair;
 use lost_book::{Edit, EditError, Limits};
 use lost_json::{DeskLine, read_desk};
+use lost_spec::Coded;
 use std::alloc::{AllocError, Global};
 use std::io;
 

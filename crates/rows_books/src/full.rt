@@ -2,6 +2,7 @@
 use crate::edits::edit_of;
 use crate::kinds::Kind;
 use lost_book::Limits;
+use lost_spec::Coded;
 use std::alloc::{AllocError, Global};
 use std::io;
 

@@ -16,6 +16,7 @@ use crate::runs::draws::Draws;
 use crate::runs::rounds::{QUESTIONS, difference};
 use crate::runs::rows::{Row, rows};
 use lost_book::EditError;
+use lost_spec::Coded;
 use std::alloc::Global;
 use std::io;
 use std::rt::Files;

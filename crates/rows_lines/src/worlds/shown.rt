@@ -1,6 +1,7 @@
 //! Events as lines.
 
 use lost_core::Event;
+use lost_spec::Coded;
 use std::io::{self, Write};
 
 /// Prints an event as a line; the reply to a request has its own byte 10.
