@@ -3,6 +3,7 @@ from __future__ import annotations
 
 import os
 import queue
+import shutil
 import subprocess
 import threading
 import time
@@ -41,6 +42,11 @@ class Event(NamedTuple):
 
     job: Job
     line: Optional[str]
+
+
+def ends_with_us() -> List[str]:
+    """Words before a command that have it end where this process is killed."""
+    return ["setpriv", "--pdeathsig", "TERM"] if shutil.which("setpriv") else []
 
 
 def words_of(kit: Kit, name: str, jobs: int, processor: str) -> List[str]:
@@ -87,7 +93,7 @@ class Proving:
             folder = self.copies.begin(name)
             how = {"stdin": subprocess.DEVNULL, "stdout": subprocess.PIPE, "stderr": subprocess.STDOUT}
             words = words_of(self.kit, name, given, processor)
-            process = subprocess.Popen(words, cwd=f"{folder}/crates/{name}", env=environment(), text=True, errors="replace", **how)
+            process = subprocess.Popen([*ends_with_us(), *words], cwd=f"{folder}/crates/{name}", env=environment(), text=True, errors="replace", **how)
             self.running[name] = job = Job(name, given, folder, process)
             self.log.write(name, f"begins, with {given} job{'s' * (given > 1)}, in {folder}")
             threading.Thread(target=self._read, args=(job,), daemon=True).start()
