@@ -7,7 +7,7 @@ from typing import Iterator, List, Tuple
 
 from building.faults import Fault
 
-FOLDER = "crates/sessions/data"
+FOLDER = "examples"
 WORDS = ("replay", "--name", "lost.example", "--now", "2026-01-01T00:00:00Z")
 
 

@@ -51,7 +51,7 @@ class Checkout(unittest.TestCase):
             root = ("main.rt", read("building/program")) if name == "lostd" else ("lib.rt", f"fn {name}() {{}}\n")
             self.write(f"{self.top}/crates/{name}/src/{root[0]}", root[1])
         for ending in ("jsonl", "expected"):
-            self.write(f"{self.top}/crates/sessions/data/one.{ending}", "{}\n")
+            self.write(f"{self.top}/examples/one.{ending}", "{}\n")
 
     def write(self, path: str, text: str) -> None:
         """Writes a file."""

@@ -97,7 +97,7 @@ class Package(Checkout):
 
     def test_the_gate_is_told_of_it(self) -> None:
         self.assertEqual(self.said("release/check"), "release/check: the packaged program is of these sources, and answers all 1 sessions of examples/ as stored\n")
-        self.write(f"{self.top}/crates/sessions/data/one.expected", "another\n")
+        self.write(f"{self.top}/examples/one.expected", "another\n")
         wanted = "release/check: the packaged program was built from other sources than these, and answers 1 of 1 sessions of examples/ otherwise than stored; release/make makes a new one\n"
         self.assertEqual(self.said("release/check"), wanted)
         self.pack()
