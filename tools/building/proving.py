@@ -18,7 +18,7 @@ from building.schedule import Schedule
 from building.sources import PROGRAM
 
 # Seconds a line of code, as measured on a quiet machine, until this one has shown its own pace.
-PACE = 0.35
+PACE = 0.25
 # A crate that took less than this was there already, and says nothing about the pace.
 QUICK = 10.0
 KILLED = (-9, 137)

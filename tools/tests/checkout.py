@@ -5,6 +5,7 @@ import os
 import shutil
 import signal
 import subprocess
+import sys
 import tempfile
 import time
 import unittest
@@ -37,10 +38,19 @@ class Checkout(unittest.TestCase):
         self.change("tools/building/machine.py", "CRATE_MEMORY = 3_000", "CRATE_MEMORY = 1")
         self.write(f"{self.kit}/KIT-ID", IDENTITY)
         shutil.copy(f"{CASES}/building/rt", self.kit)
+        self.link_commands()
         self.write_crates()
         self.git("init", "--quiet")
         self.write(f"{self.top}/.gitignore", "out/\n")
         self.commit()
+
+    def link_commands(self) -> None:
+        """A folder for the PATH that has what the scripts call, and no kit."""
+        os.makedirs(f"{self.folder}/commands")
+        for command in ("cat", "git", "python3", "setpriv", "sh"):
+            path = sys.executable if command == "python3" else shutil.which(command)
+            if path:
+                os.symlink(path, f"{self.folder}/commands/{command}")
 
     def write_crates(self) -> None:
         """The sources, and one session."""
@@ -51,7 +61,8 @@ class Checkout(unittest.TestCase):
             root = ("main.rt", read("building/program")) if name == "lostd" else ("lib.rt", f"fn {name}() {{}}\n")
             self.write(f"{self.top}/crates/{name}/src/{root[0]}", root[1])
         for ending in ("jsonl", "expected"):
-            self.write(f"{self.top}/examples/one.{ending}", "{}\n")
+            self.write(f"{self.top}/crates/sessions/data/one.{ending}", "{}\n")
+        os.symlink("crates/sessions/data", f"{self.top}/examples")
 
     def write(self, path: str, text: str) -> None:
         """Writes a file."""
@@ -92,7 +103,7 @@ class Checkout(unittest.TestCase):
 
     def environment(self) -> Dict[str, str]:
         """An environment without a kit on its PATH."""
-        return {**os.environ, "PATH": "/usr/local/sbin:/usr/sbin:/usr/bin:/sbin:/bin", "HOME": self.folder}
+        return {**os.environ, "PATH": f"{self.folder}/commands", "HOME": self.folder}
 
     def run_script(self, script: str, *words: str, given: str = "") -> Tuple[int, str, str]:
         """The status, the output, and what is said on standard error."""
