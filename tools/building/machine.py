@@ -10,7 +10,7 @@ from building.faults import Fault
 # What the largest crate has been seen to take of memory with one job, and each further job of it; and what all take of disk: megabytes.
 CRATE_MEMORY = 3_000
 JOB_MEMORY = 1_500
-DISK = 8_000
+DISK = 12_000
 
 PORTABLE, QUICKER = "x86-64-v2", "x86-64-v3"
 QUICKER_FLAGS = {"avx", "avx2", "bmi1", "bmi2", "f16c", "fma", "abm", "movbe", "xsave"}

@@ -5,6 +5,7 @@ import unittest
 
 from building.faults import Fault
 from building.machine import CRATE_MEMORY, side_by_side
+from building.progress import Line
 from building.schedule import Schedule
 from building.sources import crates_below, rows_of, uses_of
 from tests.running import TOP
@@ -54,3 +55,13 @@ class Machine(unittest.TestCase):
         self.assertEqual(side_by_side(8, CRATE_MEMORY), 1)
         with self.assertRaises(Fault):
             side_by_side(1, CRATE_MEMORY - 1)
+
+
+class Progress(unittest.TestCase):
+    """What is said meanwhile."""
+
+    def test_the_line(self) -> None:
+        line = Line({"low": 10, "top": 30})
+        said = "build: 1 of 2 crates, 22 of some 40 functions; some 2 minutes left; at top 1:01"
+        self.assertEqual(line.text(["low"], {"top": 61.9}, {"top": 12}, 130.0), said)
+        self.assertEqual(line.text([], {"low": 5.0}, {"low": 0}, 3.0), "build: 0 of 2 crates, 0 of some 40 functions; some 1 minute left; at low 0:05")
