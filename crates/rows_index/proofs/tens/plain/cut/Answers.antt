@@ -3,7 +3,7 @@ use Rattle.std.proofs.Common.{nat_cmp, ap, sym, ◌∙◌}
 use Rattle.std.specs.BTreeMap.{is_at}
 use Rattle.std.specs.List.{slice_range}
 use Rattle.std.specs.Map.{set_value}
-use Rattle.lost_index.proofs.HeldLemmas.{at_same, held_found, contains_found, set_value-with_number}
+use Rattle.lost_index.proofs.EntryLemmas.{at_same, held_found, contains_found, set_value-with_number}
 use Rattle.rows_index.proofs.tens.plain.cut.Goals as goal
 
 pub unreachable-requires : goal.unreachable-requires

@@ -1,6 +1,6 @@
 -- A number above all goes behind all.
 use Rattle.std.proofs.Common.{◌∙◌}
-use Rattle.lost_index.proofs.HeldLemmas.{insert_entry-above}
+use Rattle.lost_index.proofs.EntryLemmas.{insert_entry-above}
 use Rattle.rows_index.proofs.tens.plain.put.Goals as goal
 
 pub returns-in-Ok : goal.returns-in-Ok
