@@ -21,14 +21,14 @@ FURTHER = [
     b'[10000000,0],[0,0]],"profile":"geodetic-2d"}],"source":"map.example","sourceId":"D","uri":["sip:D@map.example"]}}',
     b'{"commit":{}}',
 ]
-# What index_rows says of a refused call, with the answer of the index after it, and of the same call again.
+# What rows_index says of a refused call, with the answer of the index after it, and of the same call again.
 REFUSED = {
     b"first put refused:": [b"first put again: 1"],
     b"second put refused: 1": [b"second put again: 1 2"],
     b"add refused: 1 2": [b"add again: 1 2"],
     b"holding refused": [],
 }
-# What an empty book answers to the questions of book_rows.
+# What an empty book answers to the questions of rows_books.
 EMPTY = b"edition 0, held 0, keys - - - - -, not implemented, holding, at, defaults, of service, below"
 
 
@@ -50,24 +50,42 @@ def lines_of(text):
     return lines[:-1] if lines[-1] == b"" else lines
 
 
-class Program:
-    """A program, with what it is given and what it must write."""
+def read(path):
+    """What a file holds; nothing where there is none."""
+    if not os.path.exists(path):
+        return b""
+    with open(path, "rb") as file:
+        return file.read()
 
-    def __init__(self, crate, library):
-        self.words = [f"{TOP}/crates/{crate}/out/{crate}"]
+
+def under(stdout, commands):
+    """What a program writes of these commands: of the parts of its stdout, which begin with `== COMMAND`, those of theirs."""
+    parts = {part.split(b"\n")[0].decode(): b"== " + part for part in re.split(rb"(?m)^== ", stdout)[1:]}
+    return b"".join(parts[command] for command in commands)
+
+
+class Program:
+    """A program, with what it is given and what it must write: all its commands of the gate, or those that are named."""
+
+    def __init__(self, crate, library, *commands):
+        folder = f"{TOP}/crates/{crate}"
+        self.words = [f"{folder}/out/{crate}", *(commands or read(f"{folder}/args").decode().split("\n")[:-1])]
         if not os.path.exists(self.words[0]):
             sys.exit(f"{self.words[0]} is not there: run `rt run` in crates/{crate} first")
         self.library = library
-        self.given = b""
-        if os.path.exists(f"{TOP}/crates/{crate}/stdin"):
-            with open(f"{TOP}/crates/{crate}/stdin", "rb") as file:
-                self.given = file.read()
-        with open(f"{TOP}/crates/{crate}/stdout", "rb") as file:
-            self.wanted = file.read()
+        self.folder = f"{folder}/data" if os.path.isdir(f"{folder}/data") else None
+        self.given = read(f"{folder}/stdin")
+        self.wanted = read(f"{folder}/stdout")
+        if commands:
+            self.wanted = under(self.wanted, commands)
+
+    def call(self, refused, **further):
+        """Runs the program over what it is given."""
+        return call(self.words, self.library, refused, given=self.given, folder=self.folder, **further)
 
     def judge(self, refused):
         """In which way the program ends where this growth is refused."""
-        ran = call(self.words, self.library, refused, given=self.given)
+        ran = self.call(refused)
         if ran.returncode == 0 and ran.stdout == self.wanted:
             return "not needed"
         if ran.returncode == 1 and b"memory" in ran.stderr.lower() and self.wanted.startswith(ran.stdout):
@@ -75,7 +93,7 @@ class Program:
         raise Wrong(f"growth {refused}: status {ran.returncode}, {ran.stdout[-200:]!r}, {ran.stderr!r}")
 
     def sweep(self):
-        ran = call(self.words, self.library, 0, count=True, given=self.given)
+        ran = self.call(0, count=True)
         if ran.stdout != self.wanted:
             raise Wrong("the text differs with no growth refused")
         made = growths(ran)
@@ -191,15 +209,15 @@ class Cache(Program):
 
 
 class Index(Program):
-    """The program index_rows, which tells of a refused call and makes it again."""
+    """The rows of an index of the program rows_index, which tells of a refused call and makes it again."""
 
     def __init__(self, library):
-        super().__init__("index_rows", library)
+        super().__init__("rows_index", library, "covers", "index")
         self.answers = lines_of(self.wanted)
 
     def judge(self, refused):
         """In which way the program ends where this growth is refused."""
-        ran = call(self.words, self.library, refused)
+        ran = self.call(refused)
         answers = lines_of(ran.stdout)
         place = next((place for place, line in enumerate(answers) if line in REFUSED), None)
         if ran.returncode != 0 or place is None:
@@ -218,10 +236,10 @@ class Index(Program):
 
 
 class Books(Program):
-    """The program book_rows, which applies a refused edit again, and asks a refused question again."""
+    """The edits of the program rows_books, which applies a refused edit again, and asks a refused question again."""
 
     def __init__(self, library):
-        super().__init__("book_rows", library)
+        super().__init__("rows_books", library, "edits")
         self.answers = lines_of(self.wanted)
 
     def before(self, place):
@@ -236,7 +254,7 @@ class Books(Program):
 
     def judge(self, refused):
         """In which way the program ends where this growth is refused."""
-        ran = call(self.words, self.library, refused, given=self.given)
+        ran = self.call(refused)
         answers = lines_of(ran.stdout)
         place = next((place for place, (one, other) in enumerate(zip(answers, self.answers)) if one != other), None)
         if ran.returncode != 0 or place is None:
