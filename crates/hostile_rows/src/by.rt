@@ -2,7 +2,7 @@
 use crate::setting::Setting;
 use lost_book::Limits;
 use lost_desk::{Desk, Readers, open_desk};
-use lost_fakes::Sink;
+use test_fakes::Sink;
 use lost_replay::replay;
 use lost_worker::{Counts, NoGate, ServeError, Turns, Watched, serve_desk, serve_lines};
 use std::alloc::Global;

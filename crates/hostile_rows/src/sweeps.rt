@@ -1,7 +1,7 @@
 //! A stream over each reader and writer that fails.
 use crate::by::{By, Outcome, served};
 use crate::setting::Setting;
-use lost_fakes::{Feed, NEVER, Sink, Spaces};
+use test_fakes::{Feed, NEVER, Sink, Spaces};
 use lost_worker::{ServeError, Turns};
 use std::alloc::AllocError;
 use std::io;

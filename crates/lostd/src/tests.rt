@@ -3,7 +3,7 @@ mod console;
 
 use crate::obey;
 use console::Console;
-use lost_fakes::NEVER;
+use test_fakes::NEVER;
 use lost_server::ServeError;
 use lost_trouble::{Trouble, end};
 use std::alloc::{AllocError, Global};

@@ -1,5 +1,5 @@
 //! A console that gives lines, and keeps what is printed on it.
-use lost_fakes::{Feed, NEVER};
+use test_fakes::{Feed, NEVER};
 use std::alloc::{Alloc, Allocator, Global};
 use std::cell::Cell;
 use std::fmt::Display;
