@@ -1,11 +1,12 @@
 //! A stream over each reader and writer that fails.
 use crate::by::{By, Outcome, served};
 use crate::setting::Setting;
-use test_fakes::{Feed, NEVER, Sink, Spaces};
+use crate::telling::{tell_counts, tell_text};
 use lost_worker::{ServeError, Turns};
 use std::alloc::AllocError;
 use std::io;
 use std::sync::Wait;
+use test_fakes::{Feed, NEVER, Sink, Spaces};
 
 /// Who serves a stream, and its bytes.
 #[derive(Drop)]
@@ -121,14 +122,9 @@ fn run<R: Wait + AllocGlobal>(
 
 /// Prints what was written, and how it ended.
 fn tell<R: Print>(rt: &R, outcome: &Outcome) -> io::Result<()> {
-    if let Ok(text) = std::str::from_utf8(outcome.text.as_slice()) {
-        print!(rt; "{text}")?;
-    }
+    tell_text(rt, outcome.text.as_slice())?;
     match outcome.result {
-        Ok(counts) => println!(rt;
-            "lines {} long {} memory {} faults {}",
-            counts.lines, counts.long_lines, counts.memory, counts.faults
-        ),
+        Ok(counts) => tell_counts(rt, counts),
         Err(fault) => println!(rt; "fault {} after {} reads", fault.code(), outcome.reads),
     }
 }

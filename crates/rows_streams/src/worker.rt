@@ -1,5 +1,6 @@
 //! A worker with a connection that fails and a good one.
 use crate::setting::Setting;
+use crate::telling::tell_counts;
 use crossbeam_channel::{Receiver, unbounded};
 use lost_book::Limits;
 use lost_desk::{Reader, open_desk};
@@ -108,10 +109,7 @@ fn serve_both<R: Wait + Print + AllocGlobal>(
         &NoGate,
         Turns::USUAL,
     );
-    println!(rt;
-        "lines {} long {} memory {} faults {}",
-        counts.lines, counts.long_lines, counts.memory, counts.faults
-    )?;
+    tell_counts(rt, counts)?;
     println!(rt;
         "{} lines and {} bytes were written",
         written.lines.load(Ordering::SeqCst),

@@ -1,4 +1,5 @@
 //! The server of every stream.
+use lost_book::Limits;
 use lost_mapping::{Moment, Source, Stamp};
 use lost_worker::Moments;
 use std::alloc::{AllocError, Global};
@@ -11,11 +12,17 @@ pub(crate) struct Setting {
 }
 
 impl Setting {
-    /// The server of every row, at its moment.
+    /// The server of every stream, at its moment.
     pub(crate) fn new(alloc: Global) -> Result<Setting, AllocError> {
+        let Ok(name) = Source::parse(alloc, b"lost.example") else {
+            return Err(AllocError);
+        };
+        let Ok(now) = Stamp::parse(alloc, b"2026-01-01T00:00:00Z") else {
+            return Err(AllocError);
+        };
         Ok(Setting {
-            name: source(alloc, "lost.example")?,
-            moment: moment(alloc, "2026-01-01T00:00:00Z")?,
+            name,
+            moment: now.moment(),
         })
     }
 
@@ -27,26 +34,15 @@ impl Setting {
     }
 }
 
-/// The source of a name.
-fn source(alloc: Global, name: &str) -> Result<Source, AllocError> {
-    match Source::parse(alloc, name.as_bytes()) {
-        Ok(source) => Ok(source),
-        Err(_) => Err(AllocError),
-    }
-}
-
-/// The moment of a stamp.
-fn moment(alloc: Global, stamp: &str) -> Result<Moment, AllocError> {
-    match Stamp::parse(alloc, stamp.as_bytes()) {
-        Ok(stamp) => Ok(stamp.moment()),
-        Err(_) => Err(AllocError),
-    }
+/// The limits of a desk that stays.
+pub(crate) fn limits() -> Limits {
+    Limits::new(1_000, 1_000).unwrap_or(Limits::widest())
 }
 
 /// Gives the same moment each time, and tells none.
 #[derive(Drop)]
 pub(crate) struct Always {
-    pub(crate) moment: Moment,
+    moment: Moment,
 }
 
 impl Moments for Always {

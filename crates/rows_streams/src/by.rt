@@ -2,12 +2,12 @@
 use crate::setting::Setting;
 use lost_book::Limits;
 use lost_desk::{Desk, Readers, open_desk};
-use test_fakes::Sink;
 use lost_replay::replay;
 use lost_worker::{Counts, NoGate, ServeError, Turns, Watched, serve_desk, serve_lines};
 use std::alloc::Global;
 use std::io::Read;
 use std::sync::Wait;
+use test_fakes::Sink;
 
 /// What serves a stream.
 #[derive(Clone, Copy, Drop)]

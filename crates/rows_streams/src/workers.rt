@@ -1,44 +1,71 @@
 //! Two workers, each in a thread of its own.
 ghost use Rattle.std.specs.Thread.{IsSync};
 
-use crate::meeting::Meeting;
-use crate::script::{Always, Setting};
-use crate::stream::{Stream, tell_counts};
+use crate::first_waits::FirstWaits;
+use crate::seat::Seat;
+use crate::setting::Setting;
+use crate::stream::Stream;
+use crate::telling::tell_counts;
 use crossbeam_channel::{Receiver, unbounded};
-use lost_desk::Reader;
-use lost_worker::{Connection, Counts, worker_loop};
+use lost_worker::{Connection, Counts, Replier, worker_loop};
 use std::alloc::{AllocError, Global};
 use std::collections::VecDeque;
 use std::io;
 use std::io::Write;
 use std::sync::Wait;
-use std::sync::atomic::AtomicU64;
 use std::thread::{Threads, join_mut};
 use std::time::Clock;
+use test_fakes::Meeting;
 
 /// What goes over the channel: a stream in memory, and where its replies go.
 type InMemory = Connection<VecDeque<u8>, Vec<u8>>;
 
 /// What the thread of a worker has.
 #[derive(Drop)]
-struct Working<'a, R: Clock> {
-    alloc: Global,
-    reader: &'a mut Reader,
-    setting: &'a Setting,
+struct Working<'a, P, R: Clock> {
+    seat: Seat<'a, P, FirstWaits<'a, R>>,
     connections: Receiver<InMemory>,
-    gate: &'a Meeting<'a, R>,
-    stream: &'a Stream,
 }
 
 /// Serves a stream twice, by two workers that take connections from one channel: whichever line is asked for first waits
 /// until the other was answered. Prints the sum of their counts.
-pub(crate) fn serve_two<R: Threads + Wait + Clock + Sync + Print + AllocGlobal>(
+pub(crate) fn serve_two<R: Threads + Wait + Clock + Sync + Print + AllocGlobal, P: Replier + Send>(
     rt: &R,
-    first: &mut Reader,
-    second: &mut Reader,
+    first: &mut P,
+    second: &mut P,
     setting: &Setting,
     stream: &Stream,
 ) -> io::Result<()> {
+    let connections = twice(rt, stream)?;
+    let gate = FirstWaits {
+        meeting: Meeting::new(rt),
+    };
+    let mut one = Working {
+        seat: Seat {
+            alloc: rt.alloc(),
+            replier: first,
+            setting,
+            gate: &gate,
+            stream,
+        },
+        connections: connections.clone()?,
+    };
+    let mut other = Working {
+        seat: Seat {
+            alloc: rt.alloc(),
+            replier: second,
+            setting,
+            gate: &gate,
+            stream,
+        },
+        connections,
+    };
+    let (counts, more) = in_two_threads(rt, &mut one, &mut other);
+    tell_counts(rt, counts.plus(more))
+}
+
+/// A channel that gives the bytes of a stream twice, and has ended.
+fn twice<R: Wait + AllocGlobal>(rt: &R, stream: &Stream) -> io::Result<Receiver<InMemory>> {
     let Ok((sender, connections)) = unbounded::<InMemory, Global>(rt.alloc()) else {
         return Err(AllocError.into());
     };
@@ -47,30 +74,7 @@ pub(crate) fn serve_two<R: Threads + Wait + Clock + Sync + Print + AllocGlobal>(
             return Err(AllocError.into());
         }
     }
-    drop(sender);
-    let gate = Meeting {
-        rt,
-        asked: AtomicU64::new(0),
-        answered: AtomicU64::new(0),
-    };
-    let mut one = Working {
-        alloc: rt.alloc(),
-        reader: first,
-        setting,
-        connections: connections.clone()?,
-        gate: &gate,
-        stream,
-    };
-    let mut other = Working {
-        alloc: rt.alloc(),
-        reader: second,
-        setting,
-        connections,
-        gate: &gate,
-        stream,
-    };
-    let (counts, more) = in_two_threads(rt, &mut one, &mut other);
-    tell_counts(rt, counts.plus(more))
+    Ok(connections)
 }
 
 /// A connection in memory that gives the bytes of a stream.
@@ -84,10 +88,10 @@ fn connection(alloc: Global, stream: &Stream) -> io::Result<InMemory> {
 }
 
 /// Has both work, each in a thread of its own.
-fn in_two_threads<R: Threads + Wait + Clock + Sync>(
+fn in_two_threads<R: Threads + Wait + Clock + Sync, P: Replier + Send>(
     rt: &R,
-    one: &mut Working<R>,
-    other: &mut Working<R>,
+    one: &mut Working<P, R>,
+    other: &mut Working<P, R>,
 ) -> (Counts, Counts) {
     join_mut(
         rt,
@@ -101,18 +105,17 @@ fn in_two_threads<R: Threads + Wait + Clock + Sync>(
 }
 
 /// Serves connections until there are no more.
-fn work<R: Wait + Clock>(rt: &R, working: &mut Working<R>) -> Counts {
-    let mut moments = Always {
-        moment: working.setting.moment,
-    };
+fn work<R: Wait + Clock, P: Replier>(rt: &R, working: &mut Working<P, R>) -> Counts {
+    let seat = &mut working.seat;
+    let mut moments = seat.setting.moments();
     worker_loop(
         rt,
-        working.alloc,
+        seat.alloc,
         &working.connections,
-        working.reader,
-        &working.setting.name,
+        seat.replier,
+        &seat.setting.name,
         &mut moments,
-        working.gate,
-        working.stream.turns,
+        seat.gate,
+        seat.stream.turns,
     )
 }
