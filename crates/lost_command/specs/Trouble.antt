@@ -3,8 +3,8 @@ use Rattle.std.specs.Prelude.{ℕ, not, ◌∷◌, [], Option, Result, Ok, Err}
 use Rattle.lost_spec.specs.Text.{Text, first_fault}
 use Rattle.lost_spec.specs.Mapping.{is_source}
 use Rattle.lost_spec.specs.Moment.{is_stamp}
-use Rattle.lost_trouble.specs.declared.trouble.Trouble.{Trouble}
-use Rattle.lost_trouble.specs.declared.trouble.Trouble.TheVariants.{Words, CommandLine, Name, Now, Address, Run, Workers, Accept, Found}
+use Rattle.lost_command.specs.declared.trouble.Trouble.{Trouble}
+use Rattle.lost_command.specs.declared.trouble.Trouble.TheVariants.{Words, CommandLine, Name, Now, Address, Run, Workers, Accept, Found}
 
 -- 1 for a fault of the run, 2 for a mistake on the command line, 3 for what a check found (own)
 abbrev pub trouble_status : Trouble → ℕ

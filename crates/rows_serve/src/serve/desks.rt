@@ -1,6 +1,6 @@
 //! What desks do.
-use crate::bench::Line;
-use crate::lines::{COMMIT, PUBLISH, WITHDRAW};
+use super::bench::Line;
+use super::lines::{COMMIT, PUBLISH, WITHDRAW};
 use std::alloc::Global;
 use std::io;
 use std::thread::sleep;

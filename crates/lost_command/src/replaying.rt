@@ -1,9 +1,11 @@
 //! `lostd replay`: standard input is answered on standard output.
+use crate::given::begin;
+use crate::outcome::replay_outcome;
 use crate::summary::Summary;
+use crate::trouble::Trouble;
 use clap::ArgMatches;
 use lost_mapping::{Moment, Source};
-use lost_server::{Turns, Watched, replay};
-use lost_trouble::{Trouble, begin, replay_outcome};
+use lost_replay::{Turns, Watched, replay};
 use std::io;
 
 /// Answers standard input on standard output, as the arguments say. Where it is wanted, or where `is_terminal` says that

@@ -44,8 +44,26 @@ pub(crate) struct Line {
 }
 
 impl Line {
+    /// A connection to the desk of a server.
+    pub(crate) fn to_desk<R: Net<Listener = TcpListener, Stream = TcpStream>>(
+        rt: &R,
+        alloc: Global,
+        bench: &Bench,
+    ) -> io::Result<Line> {
+        Line::to(rt, alloc, bench.desk.local_addr()?)
+    }
+
+    /// A connection to the queries of a server.
+    pub(crate) fn to_queries<R: Net<Listener = TcpListener, Stream = TcpStream>>(
+        rt: &R,
+        alloc: Global,
+        bench: &Bench,
+    ) -> io::Result<Line> {
+        Line::to(rt, alloc, bench.queries.local_addr()?)
+    }
+
     /// A connection to an address.
-    pub(crate) fn to<R: Net<Listener = TcpListener, Stream = TcpStream>>(
+    fn to<R: Net<Listener = TcpListener, Stream = TcpStream>>(
         rt: &R,
         alloc: Global,
         address: SocketAddr,

@@ -1,7 +1,7 @@
 //! How the program ends.
 ghost use Rattle.std.specs.Prelude.{◌≡◌, true, false, OnOk, IfErr, Ok, Err};
 ghost use Rattle.std.specs.Process.{exit_status};
-ghost use Rattle.lost_trouble.specs.Trouble.{status_of};
+ghost use Rattle.lost_command.specs.Trouble.{status_of};
 
 use crate::trouble::Trouble;
 use lost_lines::{Counts, ServeError};

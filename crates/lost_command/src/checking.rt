@@ -1,11 +1,12 @@
 //! `lostd check`: what a replay of standard input would refuse is said on standard output.
+use crate::outcome::check_outcome;
 use crate::progress::Progress;
 use crate::replaying::{begun, turns_of};
+use crate::trouble::Trouble;
 use clap::ArgMatches;
 use lost_check::{Findings, check_lines};
 use lost_mapping::{Moment, Source};
-use lost_server::{Counts, ServeError, Turns, Watched};
-use lost_trouble::{Trouble, check_outcome};
+use lost_replay::{Counts, ServeError, Turns, Watched};
 use std::io;
 use std::io::Write;
 

@@ -2,7 +2,7 @@
 ghost use Rattle.std.specs.Prelude.{◌≡◌, ◌≢◌};
 ghost use Rattle.std.specs.IoError.{error_kind};
 ghost use Rattle.std.specs.Process.{exit_status};
-ghost use Rattle.lost_trouble.specs.Trouble.{trouble_status};
+ghost use Rattle.lost_command.specs.Trouble.{trouble_status};
 
 use lost_lines::ServeError;
 use std::io;

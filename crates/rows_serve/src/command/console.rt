@@ -1,44 +1,60 @@
 //! A console that gives lines, and keeps what is printed on it.
-use test_fakes::{Feed, NEVER};
 use std::alloc::{Alloc, Allocator, Global};
 use std::cell::Cell;
 use std::fmt::Display;
 use std::io;
 use std::io::{BufRead, Lines};
+use test_fakes::{Feed, NEVER};
 
 /// Standard input, output and error, with no file or terminal behind them.
 #[derive(Drop)]
-pub(super) struct Console {
+pub(crate) struct Console<'a> {
     alloc: Global,
-    input: &'static str,
+    input: &'a str,
     /// The number of the read of the input that fails.
-    pub(super) failing_read: u64,
+    failing_read: u64,
     /// Whether writes to the output fail.
-    pub(super) is_output_broken: bool,
+    is_output_broken: bool,
+    /// Whether standard error is a terminal.
+    pub(crate) is_terminal: bool,
     output: Cell<Option<String>>,
     errors: Cell<Option<String>>,
 }
 
-impl Console {
+impl<'a> Console<'a> {
     /// A console with this input, and with no fault.
-    pub(super) fn new(alloc: Global, input: &'static str) -> Console {
+    pub(crate) fn new(alloc: Global, input: &'a str) -> Console<'a> {
         Console {
             alloc,
             input,
             failing_read: NEVER,
             is_output_broken: false,
+            is_terminal: false,
             output: Cell::new(None),
             errors: Cell::new(None),
         }
     }
 
+    /// Makes it special in the way that is written: `read N`, `broken` or `terminal`.
+    pub(crate) fn prepare(&mut self, special: &str) {
+        match special {
+            "broken" => self.is_output_broken = true,
+            "terminal" => self.is_terminal = true,
+            _ => {
+                if let Some(number) = special.strip_prefix("read ") {
+                    self.failing_read = number.parse::<u64>().unwrap_or(NEVER);
+                }
+            }
+        }
+    }
+
     /// What standard output got.
-    pub(super) fn output(&self) -> String {
+    pub(crate) fn output(&self) -> String {
         self.output.take().unwrap_or(String::new(self.alloc))
     }
 
     /// What standard error got.
-    pub(super) fn errors(&self) -> String {
+    pub(crate) fn errors(&self) -> String {
         self.errors.take().unwrap_or(String::new(self.alloc))
     }
 
@@ -63,7 +79,7 @@ impl Console {
     }
 }
 
-impl Alloc for Console {
+impl Alloc for Console<'_> {
     type A = Global;
 
     fn alloc(&self) -> Global {
@@ -71,25 +87,25 @@ impl Alloc for Console {
     }
 }
 
-impl Input for Console {
-    type Reader = Feed<'static>;
+impl<'a> Input for Console<'a> {
+    type Reader = Feed<'a>;
 
     fn read_line<A: Allocator + Clone>(&self, _buf: &mut String<A>) -> io::Result<usize> {
         Err(io::Error::from(io::ErrorKind::Unsupported))
     }
 
-    fn lines<A: Allocator>(&self, alloc: A) -> Lines<Feed<'static>, A> {
+    fn lines<A: Allocator>(&self, alloc: A) -> Lines<Feed<'a>, A> {
         self.reader().lines(alloc)
     }
 
-    fn reader(&self) -> Feed<'static> {
+    fn reader(&self) -> Feed<'a> {
         let mut feed = Feed::of(self.input.as_bytes(), usize::MAX);
         feed.failing = self.failing_read;
         feed
     }
 }
 
-impl Print for Console {
+impl Print for Console<'_> {
     fn print<D: Display + Drop>(&self, value: D) -> io::Result<()> {
         self.keep_output(value, "")
     }
@@ -106,7 +122,7 @@ impl Print for Console {
     }
 }
 
-impl Eprint for Console {
+impl Eprint for Console<'_> {
     fn eprint<D: Display + Drop>(&self, value: D) -> io::Result<()> {
         self.keep(&self.errors, value, "")
     }

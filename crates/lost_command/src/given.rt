@@ -3,7 +3,7 @@ ghost use Rattle.std.specs.Prelude.{◌≡◌, ◌≢◌, ◌↔◌, false, None
 ghost use Rattle.lost_spec.specs.Text.{lowered};
 ghost use Rattle.lost_spec.specs.Mapping.{is_source};
 ghost use Rattle.lost_spec.specs.Moment.{is_stamp, read_stamp};
-ghost use Rattle.lost_trouble.specs.Trouble.{begin_fault};
+ghost use Rattle.lost_command.specs.Trouble.{begin_fault};
 
 use crate::trouble::Trouble;
 use lost_lines::ServeError;

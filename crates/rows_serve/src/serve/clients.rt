@@ -1,6 +1,6 @@
 //! What clients do.
-use crate::bench::Line;
-use crate::lines::{QUESTION, edition_of};
+use super::bench::Line;
+use super::lines::{QUESTION, edition_of};
 use std::alloc::Global;
 use std::io;
 

@@ -1,5 +1,5 @@
 //! How far a long input is, on standard error.
-use lost_server::Gate;
+use lost_lines::Gate;
 
 /// After how many lines it is said how far the input is.
 const STEP: u64 = 100_000;

@@ -1,8 +1,8 @@
 //! What the reader of the command line says: help, the version, and mistakes.
+use crate::trouble::Trouble;
 use clap::Error;
 use clap::error::ErrorKind as ClapKind;
-use lost_server::ServeError;
-use lost_trouble::Trouble;
+use lost_lines::ServeError;
 use std::alloc::{AllocError, Global};
 
 /// Prints what the reader of the command line says, whose first word is `command`: help and the version on standard
