@@ -3,6 +3,7 @@ import os
 import re
 import subprocess
 import sys
+import tempfile
 from collections import Counter
 
 from serving import Wrong
@@ -12,7 +13,7 @@ TOP = os.path.dirname(os.path.dirname(HERE))
 DESK_LINE = re.compile(rb'\s*\{\s*"(publish|replace|withdraw|commit)"')
 MARK = b"memory ran out"
 NOT_OPENED = b"open: 2"
-# A question, an edit that the rows of desk_rows do not have, and a commit.
+# A question, an edit that the lines of the command desk do not have, and a commit.
 FURTHER = [
     b'{"findService":{"location":[{"id":"p","pos":[5000000,5000000],"profile":"geodetic-2d"}],'
     b'"service":"urn:service:sos.police"}}',
@@ -21,14 +22,14 @@ FURTHER = [
     b'[10000000,0],[0,0]],"profile":"geodetic-2d"}],"source":"map.example","sourceId":"D","uri":["sip:D@map.example"]}}',
     b'{"commit":{}}',
 ]
-# What index_rows says of a refused call, with the answer of the index after it, and of the same call again.
+# What rows_index says of a refused call, with the answer of the index after it, and of the same call again.
 REFUSED = {
     b"first put refused:": [b"first put again: 1"],
     b"second put refused: 1": [b"second put again: 1 2"],
     b"add refused: 1 2": [b"add again: 1 2"],
     b"holding refused": [],
 }
-# What an empty book answers to the questions of book_rows.
+# What an empty book answers to the questions of rows_books.
 EMPTY = b"edition 0, held 0, keys - - - - -, not implemented, holding, at, defaults, of service, below"
 
 
@@ -50,24 +51,42 @@ def lines_of(text):
     return lines[:-1] if lines[-1] == b"" else lines
 
 
-class Program:
-    """A program, with what it is given and what it must write."""
+def read(path):
+    """What a file holds; nothing where there is none."""
+    if not os.path.exists(path):
+        return b""
+    with open(path, "rb") as file:
+        return file.read()
 
-    def __init__(self, crate, library):
-        self.words = [f"{TOP}/crates/{crate}/out/{crate}"]
+
+def under(stdout, commands):
+    """What a program writes of these commands: of the parts of its stdout, which begin with `== COMMAND`, those of theirs."""
+    parts = {part.split(b"\n")[0].decode(): b"== " + part for part in re.split(rb"(?m)^== ", stdout)[1:]}
+    return b"".join(parts[command] for command in commands)
+
+
+class Program:
+    """A program, with what it is given and what it must write: all its commands of the gate, or those that are named."""
+
+    def __init__(self, crate, library, *commands):
+        folder = f"{TOP}/crates/{crate}"
+        self.words = [f"{folder}/out/{crate}", *(commands or read(f"{folder}/args").decode().split("\n")[:-1])]
         if not os.path.exists(self.words[0]):
             sys.exit(f"{self.words[0]} is not there: run `rt run` in crates/{crate} first")
         self.library = library
-        self.given = b""
-        if os.path.exists(f"{TOP}/crates/{crate}/stdin"):
-            with open(f"{TOP}/crates/{crate}/stdin", "rb") as file:
-                self.given = file.read()
-        with open(f"{TOP}/crates/{crate}/stdout", "rb") as file:
-            self.wanted = file.read()
+        self.folder = f"{folder}/data" if os.path.isdir(f"{folder}/data") else None
+        self.given = read(f"{folder}/stdin")
+        self.wanted = read(f"{folder}/stdout")
+        if commands:
+            self.wanted = under(self.wanted, commands)
+
+    def call(self, refused, **further):
+        """Runs the program over what it is given."""
+        return call(self.words, self.library, refused, given=self.given, folder=self.folder, **further)
 
     def judge(self, refused):
         """In which way the program ends where this growth is refused."""
-        ran = call(self.words, self.library, refused, given=self.given)
+        ran = self.call(refused)
         if ran.returncode == 0 and ran.stdout == self.wanted:
             return "not needed"
         if ran.returncode == 1 and b"memory" in ran.stderr.lower() and self.wanted.startswith(ran.stdout):
@@ -75,29 +94,48 @@ class Program:
         raise Wrong(f"growth {refused}: status {ran.returncode}, {ran.stdout[-200:]!r}, {ran.stderr!r}")
 
     def sweep(self):
-        ran = call(self.words, self.library, 0, count=True, given=self.given)
+        ran = self.call(0, count=True)
         if ran.stdout != self.wanted:
             raise Wrong("the text differs with no growth refused")
         made = growths(ran)
         return made, Counter(self.judge(number) for number in range(1, made + 1))
 
 
-class Desk(Program):
-    """The program desk_rows, which answers a refused line and goes on."""
+class Lines(Program):
+    """A command of the program rows_desk, which answers a refused line and goes on."""
 
-    def __init__(self, library):
-        super().__init__("desk_rows", library)
-        self.lines = lines_of(self.given)
+    # How many bytes of lines the program is given: empty lines fill them up, so that to read them always takes as many growths.
+    ROOM = 16_384
+
+    def __init__(self, command, library):
+        super().__init__("rows_desk", library, command)
+        self.file = f"{command}.lines"
+        self.lines = lines_of(read(f"{self.folder}/{self.file}"))
         self.answers = lines_of(self.wanted)
-        self.first = len(self.answers) - len(self.lines)
+
+    def call(self, refused, lines=None, **further):
+        """Runs the command over its lines, or over these."""
+        given = b"".join(line + b"\n" for line in (self.lines if lines is None else lines))
+        with tempfile.TemporaryDirectory() as folder:
+            with open(f"{folder}/{self.file}", "wb") as file:
+                file.write(given.ljust(self.ROOM, b"\n"))
+            return call(self.words, self.library, refused, folder=folder, **further)
 
     def run(self, lines, refused=0):
-        given = b"".join(line + b"\n" for line in lines)
-        return lines_of(call(self.words, self.library, refused, given=given).stdout)
+        """What the command writes over these lines."""
+        return lines_of(self.call(refused, lines).stdout)
+
+
+class Desk(Lines):
+    """The command desk, over a desk and a reader."""
+
+    def __init__(self, library):
+        super().__init__("desk", library)
+        self.first = len(self.answers) - len(self.lines)
 
     def judge(self, refused):
         """In which way the program ends where this growth is refused."""
-        ran = call(self.words, self.library, refused, given=self.given)
+        ran = self.call(refused)
         answers = lines_of(ran.stdout)
         if ran.returncode == 0 and answers == self.answers[: self.first - 1] + [NOT_OPENED]:
             return "not opened"
@@ -132,15 +170,13 @@ class Desk(Program):
         return f"not {self.answers[place].decode()}"
 
 
-class Cache(Program):
-    """The program cache_rows, which answers a refused line and goes on: a desk line once, a question by two readers."""
+class Cache(Lines):
+    """The command cache, over a desk and two readers: a desk line is answered once, a question by both."""
 
     def __init__(self, library):
-        super().__init__("cache_rows", library)
-        self.lines = lines_of(self.given)
-        self.answers = lines_of(self.wanted)
+        super().__init__("cache", library)
         # For each answer the number of its line; none for what is said at the beginning and at the end of a part.
-        self.numbers = [None, None]
+        self.numbers = [None, None, None]
         for number, line in enumerate(self.lines):
             is_question = line != b"next" and not DESK_LINE.match(line)
             self.numbers += [None] * 4 if line == b"next" else [number] * (2 if is_question else 1)
@@ -148,13 +184,11 @@ class Cache(Program):
         self.unopened = self.outputs_unopened()
 
     def outputs_unopened(self):
-        """What is said where one desk is not opened: a desk reads the part that the one before it would have read."""
+        """What is said where one desk is not opened: nothing of its part but that."""
         ends = [place + 1 for place, line in enumerate(self.answers) if line.startswith(b"finds ")]
-        parts = [self.answers[begin:end] for begin, end in zip([0, *ends], ends)][:-1]
-        return [sum(parts[:place], []) + [NOT_OPENED] + sum(parts[place:], []) for place in range(len(parts) + 1)]
-
-    def run(self, given, refused=0):
-        return call(self.words, self.library, refused, given=given).stdout
+        parts = [self.answers[begin:end] for begin, end in zip([1, *ends], ends)]
+        outputs = [parts[:place] + [[NOT_OPENED]] + parts[place + 1 :] for place in range(len(parts))]
+        return [self.answers[:1] + sum(output, []) for output in outputs]
 
     def is_same(self, got, wanted):
         """Whether two outputs are the same but for the counts."""
@@ -164,7 +198,7 @@ class Cache(Program):
 
     def judge(self, refused):
         """In which way the program ends where this growth is refused."""
-        ran = call(self.words, self.library, refused, given=self.given)
+        ran = self.call(refused)
         answers = lines_of(ran.stdout)
         if answers in self.unopened:
             return "not opened"
@@ -177,8 +211,7 @@ class Cache(Program):
         if answers.count(MARK) != 1 or number is None:
             raise Wrong(f"growth {refused}: {answers}")
         if DESK_LINE.match(self.lines[number]):
-            others = b"".join(line + b"\n" for line in self.lines[:number] + self.lines[number + 1 :])
-            wanted = lines_of(self.run(others))
+            wanted = self.run(self.lines[:number] + self.lines[number + 1 :])
             kind = "desk line"
         else:
             # One of the two readers, or the line before either was asked.
@@ -191,15 +224,15 @@ class Cache(Program):
 
 
 class Index(Program):
-    """The program index_rows, which tells of a refused call and makes it again."""
+    """The rows of an index of the program rows_index, which tells of a refused call and makes it again."""
 
     def __init__(self, library):
-        super().__init__("index_rows", library)
+        super().__init__("rows_index", library, "covers", "index")
         self.answers = lines_of(self.wanted)
 
     def judge(self, refused):
         """In which way the program ends where this growth is refused."""
-        ran = call(self.words, self.library, refused)
+        ran = self.call(refused)
         answers = lines_of(ran.stdout)
         place = next((place for place, line in enumerate(answers) if line in REFUSED), None)
         if ran.returncode != 0 or place is None:
@@ -218,10 +251,10 @@ class Index(Program):
 
 
 class Books(Program):
-    """The program book_rows, which applies a refused edit again, and asks a refused question again."""
+    """The edits of the program rows_books, which applies a refused edit again, and asks a refused question again."""
 
     def __init__(self, library):
-        super().__init__("book_rows", library)
+        super().__init__("rows_books", library, "edits")
         self.answers = lines_of(self.wanted)
 
     def before(self, place):
@@ -236,7 +269,7 @@ class Books(Program):
 
     def judge(self, refused):
         """In which way the program ends where this growth is refused."""
-        ran = call(self.words, self.library, refused, given=self.given)
+        ran = self.call(refused)
         answers = lines_of(ran.stdout)
         place = next((place for place, (one, other) in enumerate(zip(answers, self.answers)) if one != other), None)
         if ran.returncode != 0 or place is None:

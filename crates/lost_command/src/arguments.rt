@@ -117,34 +117,9 @@ fn serve_command<'a>(alloc: Global) -> Result<Command<'a>, Error> {
             "desk",
             "Where the desk's lines are taken, on one connection: an address of this machine and a port, as 127.0.0.1:5223",
         ))?
-        .arg(
-            number_argument(
-                alloc,
-                "workers",
-                "How many threads answer requests, each one connection at a time: 1 to 64",
-            )
-            .value_parser(value_parser!(u32).range(1..=64))
-            .required(true),
-        )?
-        .arg(
-            number_argument(
-                alloc,
-                "connections",
-                "How many query connections are served before it ends: 1 to 1000000",
-            )
-            .value_parser(value_parser!(u32).range(1..=1_000_000))
-            .required(true),
-        )?
-        .arg(
-            number_argument(
-                alloc,
-                "idle",
-                "After how many seconds without a byte a query connection is ended: 0 to 86400, 0 for never",
-            )
-            .value_name("SECONDS")
-            .value_parser(value_parser!(u32).range(0..=86_400))
-            .default_value("300"),
-        )?
+        .arg(workers_argument(alloc))?
+        .arg(connections_argument(alloc))?
+        .arg(idle_argument(alloc))?
         .arg(flag_argument(
             alloc,
             "quiet",
@@ -168,6 +143,37 @@ fn number_argument<'a>(alloc: Global, name: &'static str, help: &'static str) ->
         .value_name("NUMBER")
         .action(ArgAction::Set)
         .help(help)
+}
+
+fn workers_argument<'a>(alloc: Global) -> Arg<'a> {
+    number_argument(
+        alloc,
+        "workers",
+        "How many threads answer requests, each one connection at a time: 1 to 64",
+    )
+    .value_parser(value_parser!(u32).range(1..=64))
+    .required(true)
+}
+
+fn connections_argument<'a>(alloc: Global) -> Arg<'a> {
+    number_argument(
+        alloc,
+        "connections",
+        "How many query connections are served before it ends: 1 to 1000000",
+    )
+    .value_parser(value_parser!(u32).range(1..=1_000_000))
+    .required(true)
+}
+
+fn idle_argument<'a>(alloc: Global) -> Arg<'a> {
+    number_argument(
+        alloc,
+        "idle",
+        "After how many seconds without a byte a query connection is ended: 0 to 86400, 0 for never",
+    )
+    .value_name("SECONDS")
+    .value_parser(value_parser!(u32).range(0..=86_400))
+    .default_value("300")
 }
 
 fn flag_argument<'a>(alloc: Global, name: &'static str, help: &'static str) -> Arg<'a> {

@@ -85,7 +85,7 @@ fn refused<R: Print + AllocGlobal>(rt: &R, reader: Reader, capacity: u32) -> io:
     }
 }
 
-/// Answers each line, and prints the counts.
+/// Answers each line that is not empty, and prints the counts.
 #[tactic(auto, using(crate::proofs::CountingLemmas::nothing_is_right))]
 fn answer_lines<R: Wait + Print + AllocGlobal>(
     rt: &R,
@@ -98,7 +98,7 @@ fn answer_lines<R: Wait + Print + AllocGlobal>(
     let (name, moment) = (&setting.name, &setting.moment);
     let mut sets = Counting::new();
     for line in text.lines() {
-        if !is_ordered(rt, desk, line)? {
+        if !line.is_empty() && !is_ordered(rt, desk, line)? {
             let bytes = line.as_bytes();
             print_reply(rt, cached.reply_line(rt.alloc(), name, moment, bytes))?;
             print_reply(

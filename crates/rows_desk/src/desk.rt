@@ -52,7 +52,7 @@ fn take_and_answer<R: Wait + Print + AllocGlobal>(
     answer_lines(rt, desk, &mut reader, &setting, text)
 }
 
-/// Prints the answer to each line.
+/// Prints the answer to each line that is not empty.
 fn answer_lines<R: Wait + Print + AllocGlobal>(
     rt: &R,
     desk: &mut Desk,
@@ -63,16 +63,34 @@ fn answer_lines<R: Wait + Print + AllocGlobal>(
     requires { reader.old.opening ≡ desk.old.opening }
 {
     for line in text.lines() {
-        if line == "tell" {
-            reader.learn(desk.tell());
-            println!(rt; "told, edition {}", reader.edition())?;
-        } else if !is_ordered(rt, desk, line)? {
-            let bytes = line.as_bytes();
-            print_reply(
-                rt,
-                reader.reply_line(rt.alloc(), &setting.name, &setting.moment, bytes),
-            )?;
+        if !line.is_empty() {
+            answer(rt, desk, reader, setting, line)?;
         }
     }
     Ok(())
+}
+
+/// Prints the answer to a line.
+fn answer<R: Wait + Print + AllocGlobal>(
+    rt: &R,
+    desk: &mut Desk,
+    reader: &mut Reader,
+    setting: &Setting,
+    line: &str,
+) -> io::Result<()>
+    requires { reader.old.opening ≡ desk.old.opening }
+    ensures desk { desk.new.opening ≡ desk.old.opening }
+    ensures reader { reader.new.opening ≡ reader.old.opening }
+{
+    if line == "tell" {
+        reader.learn(desk.tell());
+        return println!(rt; "told, edition {}", reader.edition());
+    }
+    if is_ordered(rt, desk, line)? {
+        return Ok(());
+    }
+    print_reply(
+        rt,
+        reader.reply_line(rt.alloc(), &setting.name, &setting.moment, line.as_bytes()),
+    )
 }

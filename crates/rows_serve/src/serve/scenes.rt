@@ -115,7 +115,16 @@ impl<
                 "lines {} long {} memory {} faults {}",
                 counts.lines, counts.long_lines, counts.memory, counts.faults
             ),
-            Err(fault) => println!(self.rt; "fault {}", fault.code()),
+            Err(fault) => println!(self.rt; "fault {}", number_of(fault)),
         }
+    }
+}
+
+/// The number of a fault in the output.
+fn number_of(fault: RunFault) -> u8 {
+    match fault {
+        RunFault::Workers => 1,
+        RunFault::Accept => 2,
+        RunFault::Memory => 3,
     }
 }
