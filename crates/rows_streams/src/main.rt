@@ -16,8 +16,7 @@
 
 mod by;
 mod faults;
-mod first_waits;
-mod following;
+mod holding;
 mod hostile;
 mod pair;
 mod script;
@@ -27,7 +26,6 @@ mod stream;
 mod streams;
 mod sweeps;
 mod telling;
-mod upto;
 mod worker;
 mod workers;
 

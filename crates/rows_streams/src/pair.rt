@@ -1,7 +1,7 @@
 //! Two connections at once, each served by a thread of its own.
 ghost use Rattle.std.specs.Thread.{IsSync};
 
-use crate::following::Following;
+use crate::holding::Holding;
 use crate::seat::Seat;
 use crate::setting::Setting;
 use crate::stream::Stream;
@@ -15,7 +15,7 @@ use test_fakes::Answered;
 /// What the thread of a connection has, and what it wrote.
 #[derive(Drop)]
 struct Serving<'a, P, R: Clock> {
-    seat: Seat<'a, P, Following<'a, R>>,
+    seat: Seat<'a, P, R>,
     written: Vec<u8>,
 }
 
@@ -29,14 +29,8 @@ pub(crate) fn serve_pair<R: Threads + Clock + Sync + Print + AllocGlobal, P: Rep
     stream: &Stream,
 ) -> io::Result<()> {
     let answered = Answered::new(rt);
-    let waiting = Following {
-        waits: true,
-        answered: &answered,
-    };
-    let counting = Following {
-        waits: false,
-        answered: &answered,
-    };
+    let waiting = Holding::Until(&answered);
+    let counting = Holding::Counting(&answered);
     let mut one = seated(rt, first, setting, &waiting, stream);
     let mut other = seated(rt, second, setting, &counting, stream);
     let (result, other_result) = in_two_threads(rt, &mut one, &mut other);
@@ -49,7 +43,7 @@ fn seated<'a, R: Clock + AllocGlobal, P>(
     rt: &R,
     replier: &'a mut P,
     setting: &'a Setting,
-    gate: &'a Following<'a, R>,
+    gate: &'a Holding<'a, R>,
     stream: &'a Stream,
 ) -> Serving<'a, P, R> {
     Serving {

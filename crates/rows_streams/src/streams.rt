@@ -1,10 +1,10 @@
 //! The commands of the script of streams: what is served, by whom.
+use crate::holding::Holding;
 use crate::pair::serve_pair;
 use crate::script::{Server, no_command, run_script};
 use crate::setting::{Setting, limits};
 use crate::stream::Stream;
 use crate::telling::tell;
-use crate::upto::UpTo;
 use crate::workers::serve_two;
 use lost_desk::{Desk, Readers, open_desk};
 use lost_worker::{Gate, NoGate, Replier, Watched, serve_desk, serve_lines};
@@ -85,14 +85,17 @@ fn serve_by_desk<R: Wait + Print + AllocGlobal>(
 }
 
 /// Serves a stream by a reader, through a gate where a line is refused.
-fn serve_queries<R: Print + AllocGlobal, P: Replier>(
+fn serve_queries<R: Clock + Print + AllocGlobal, P: Replier>(
     rt: &R,
     replier: &mut P,
     setting: &Setting,
     stream: &Stream,
 ) -> io::Result<()> {
     match stream.refused {
-        Some(refused) => serve_through(rt, replier, setting, &UpTo { refused }, stream),
+        Some(refused) => {
+            let gate: Holding<'_, R> = Holding::From(refused);
+            serve_through(rt, replier, setting, &gate, stream)
+        }
         None => serve_through(rt, replier, setting, &NoGate, stream),
     }
 }

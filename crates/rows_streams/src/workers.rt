@@ -1,7 +1,7 @@
 //! Two workers, each in a thread of its own.
 ghost use Rattle.std.specs.Thread.{IsSync};
 
-use crate::first_waits::FirstWaits;
+use crate::holding::Holding;
 use crate::seat::Seat;
 use crate::setting::Setting;
 use crate::stream::Stream;
@@ -23,7 +23,7 @@ type InMemory = Connection<VecDeque<u8>, Vec<u8>>;
 /// What the thread of a worker has.
 #[derive(Drop)]
 struct Working<'a, P, R: Clock> {
-    seat: Seat<'a, P, FirstWaits<'a, R>>,
+    seat: Seat<'a, P, R>,
     connections: Receiver<InMemory>,
 }
 
@@ -37,9 +37,7 @@ pub(crate) fn serve_two<R: Threads + Wait + Clock + Sync + Print + AllocGlobal, 
     stream: &Stream,
 ) -> io::Result<()> {
     let connections = twice(rt, stream)?;
-    let gate = FirstWaits {
-        meeting: Meeting::new(rt),
-    };
+    let gate = Holding::First(Meeting::new(rt));
     let mut one = Working {
         seat: Seat {
             alloc: rt.alloc(),
