@@ -1,7 +1,7 @@
 -- A map's list when a number above all is put behind, cut and taken out again.
 use Rattle.std.proofs.Common.{◌≡◌, ℕ, ◌<◌, Bool, true, false, if◌then◌else◌, List, [], ◌∷◌, ◌++◌, nat_eq, refl, ap, suc, arith}
 use Rattle.std.proofs.lemmas.Bool.Decides.{nat_tests}
-use Rattle.lost_index.specs.Held.{numbers, with_number, without, IsAbove, IsHeld}
+use Rattle.lost_index.specs.Entries.{numbers, with_number, without, IsAbove, IsHeld}
 
 same_itself : (n : ℕ) → nat_eq n n ≡ true
 same_itself n = grind (arith, nat_tests)

@@ -1,6 +1,6 @@
 //! An index under numbers that rise from 0.
 
-ghost use Rattle.lost_index.specs.Held.{IsAbove};
+ghost use Rattle.lost_index.specs.Entries.{IsAbove};
 
 use lost_geo::{GeoPoint, Polygon};
 use lost_grid::Geodetic2d;

@@ -4,7 +4,7 @@ use crate::districts::{COMMIT, publish, question};
 use crate::echo::send_back;
 use bench_parts::{Spans, nanoseconds};
 use lost_mapping::Source;
-use lost_server::{Manners, NoGate, serve};
+use lost_server::{ConnectionSettings, NoGate, serve};
 use std::alloc::{AllocError, Global};
 use std::io;
 use std::net::{Net, SocketAddr, TcpListener, TcpStream};
@@ -77,7 +77,7 @@ pub(crate) fn served<
     let queries = TcpListener::bind(rt, "127.0.0.1:0")?;
     let desk = TcpListener::bind(rt, "127.0.0.1:0")?;
     let (to_queries, to_desk) = (queries.local_addr()?, desk.local_addr()?);
-    let manners = Manners {
+    let manners = ConnectionSettings {
         idle: None,
         is_quiet: true,
     };

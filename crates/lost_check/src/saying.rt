@@ -2,29 +2,31 @@
 ghost use Rattle.std.specs.Prelude.{◌≡◌, ◌≢◌, ◌≤◌, ◌++◌, All, IfOk, length};
 ghost use Rattle.lost_lines.specs.Answer.{bytes_of};
 ghost use Rattle.lost_lines.specs.Cutting.{newline};
+ghost use Rattle.lost_replay.specs.Outcome.{IsListed};
 ghost use Rattle.lost_check.specs.Said.{IsHeaded, IsSaid};
 
 use crate::head::{head, label};
-use crate::kind::{Kind, code_of, kind_of};
 use lost_lines::Text;
+use lost_replay::Outcome;
 use lost_writing::DeskText;
 use memchr::memchr;
 use std::alloc::{AllocError, Global};
 
-/// What is said of the line with this number, by the reply of a replay to it: nothing where that says nothing against
-/// the line; else the line's number and the refusal, and then the cause, up to its first byte 10. Where memory is short the
-/// cause is left out.
-pub(crate) fn say(alloc: Global, number: u64, reply: &[u8], cause: &[u8]) -> Text
-    ensures { IsSaid number reply.now (bytes_of result) }
+/// What is said of the line with this number, by the outcome of a replay's answer to it: nothing where the line is taken;
+/// else the line's number and why, and then the cause, up to its first byte 10. Where memory is short the cause is left
+/// out. The caller has: a code of the desk's table.
+pub(crate) fn say(alloc: Global, number: u64, outcome: Outcome, cause: &[u8]) -> Text
+    requires { IsListed outcome }
+    ensures { IsSaid number outcome (bytes_of result) }
 {
-    match kind_of(reply) {
-        Kind::Taken => Text::Constant(b""),
-        Kind::Refused => {
-            let label = label(code_of(reply));
+    match outcome {
+        Outcome::Answered | Outcome::Staged(_) | Outcome::Committed(_) => Text::Constant(b""),
+        Outcome::Refused(code) => {
+            let label = label(code);
             headed(alloc, head(number, label.bytes()), cause)
         }
-        Kind::BadRequest => headed(alloc, head(number, b"badRequest"), cause),
-        Kind::Unjudged => headed(alloc, head(number, b"internalError"), cause),
+        Outcome::BadRequest => headed(alloc, head(number, b"badRequest"), cause),
+        Outcome::Unjudged => headed(alloc, head(number, b"internalError"), cause),
     }
 }
 
@@ -33,7 +35,7 @@ fn headed(alloc: Global, head: DeskText, cause: &[u8]) -> Text
     requires { length head ≤ 45 }
     ensures { IsHeaded head (bytes_of result) }
 {
-    match whole(alloc, head.bytes(), cause) {
+    match whole_line(alloc, head.bytes(), cause) {
         Ok(line) => Text::Kept(line),
         Err(_) => Text::Short(ended(head)),
     }
@@ -50,7 +52,7 @@ fn ended(head: DeskText) -> DeskText
 }
 
 /// A head and a cause as one line, or want of memory.
-fn whole(alloc: Global, head: &[u8], cause: &[u8]) -> Result<Vec<u8>, AllocError>
+fn whole_line(alloc: Global, head: &[u8], cause: &[u8]) -> Result<Vec<u8>, AllocError>
     ensures { IfOk result (λ line. IsHeaded head.now line.items) }
 {
     let mut line = Vec::new(alloc);

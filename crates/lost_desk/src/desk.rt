@@ -2,19 +2,20 @@
 ghost use Rattle.std.specs.Prelude.{◌≡◌, ◌≢◌, ◌<◌, [], None, Some, length, MatchBool, IfOk, IfErr, IsOk, OnOk, OnErr};
 ghost use Rattle.lost_spec.specs.Laws.{BeginsWith};
 ghost use Rattle.lost_spec.specs.Book.{refusal, empty_book};
-ghost use Rattle.lost_book.specs.Edit.{edit_of};
+ghost use Rattle.lost_message.specs.Edit.{edit_of};
 ghost use Rattle.lost_history.specs.History.{beginning};
 ghost use Rattle.lost_desk.specs.Seen.{new_desk, staged_book, with_staged, with_committed};
 ghost use Rattle.lost_desk.specs.Copies.{first_version};
 
-use crate::CopyBook;
 use crate::announce::announce;
 use crate::copies::Copies;
 use crate::faults::CommitError;
 use crate::queue::publish_all;
+use crate::reader::Reader;
 use crate::told::Told;
 use lost_book::{Edit, EditError};
 use lost_history::{Front, Head};
+use lost_routing::Routing;
 use std::collections::VecDeque;
 use std::marker::{Brand, Model};
 use std::sync::Wait;
@@ -26,7 +27,7 @@ pub struct Desk {
     /// Edits that the copies do not have yet, behind those that they have.
     queue: VecDeque<Edit>,
     /// The book of all edits, published and pending.
-    ahead: CopyBook,
+    ahead: Routing,
     /// How far the history goes.
     front: Front,
     head: Head,
@@ -34,7 +35,7 @@ pub struct Desk {
 
 impl Model for Desk {
     ghost use Rattle.lost_desk.specs.Seen.{DeskSeen};
-    ghost use Rattle.lost_desk.specs.Held.{desk_seen, IsDesk};
+    ghost use Rattle.lost_desk.specs.States.{desk_seen, IsDesk};
 
     ghost Value = { DeskSeen };
 
@@ -122,6 +123,17 @@ impl Desk {
         self.copies.shown().front.has(&told.front)
     }
 
+    /// Whether all that a reader has seen is published, as all that a reader of this desk has seen is. What it has seen
+    /// begins then what is published. Both are of one opening.
+    pub fn has_seen(&self, reader: &Reader) -> bool
+        requires { reader.now.opening ≡ self.now.opening }
+        ensures begins { MatchBool result
+            (BeginsWith self.now.published reader.now.seen)
+            ((length self.now.published < length reader.now.seen) × BeginsWith reader.now.seen self.now.published) }
+    {
+        self.copies.shown().front.has(&reader.latest)
+    }
+
     /// Ends the desk, and drops what is pending. Readers answer want of memory from then on. It waits for readers that
     /// still read.
     pub fn close<R: Wait>(self, rt: &R) {
@@ -139,7 +151,7 @@ impl Desk {
     pub(crate) fn of(
         copies: Copies,
         queue: VecDeque<Edit>,
-        ahead: CopyBook,
+        ahead: Routing,
         front: Front,
         head: Head,
     ) -> Desk

@@ -3,7 +3,7 @@ ghost use Rattle.std.specs.Prelude.{◌≡◌};
 ghost use Rattle.lostd.specs.Trouble.{serve_trouble};
 
 use lost_command::{ServeOrder, Trouble};
-use lost_server::{Manners, NoGate, RunFault, ServeError, serve};
+use lost_server::{ConnectionSettings, NoGate, RunFault, ServeError, serve};
 use std::io::ErrorKind;
 use std::net::{Net, TcpListener, TcpStream};
 use std::random::RandomSource;
@@ -37,7 +37,7 @@ pub(crate) fn serve_addresses<
         order.workers,
         order.connections,
         &NoGate,
-        manners_of(order),
+        settings_of(order),
     )
     .map_err(trouble_of)?;
     println!(rt; "done lines={} faults={}", counts.lines, counts.faults).map_err(|_| Trouble::Run(
@@ -46,12 +46,12 @@ pub(crate) fn serve_addresses<
 }
 
 /// How the connections of a server are treated, as it is ordered.
-fn manners_of(order: &ServeOrder<'_>) -> Manners {
+fn settings_of(order: &ServeOrder<'_>) -> ConnectionSettings {
     let idle = match order.idle {
         0 => None,
         seconds => Some(Duration::from_secs(u64::from(seconds))),
     };
-    Manners {
+    ConnectionSettings {
         idle,
         is_quiet: order.is_quiet,
     }

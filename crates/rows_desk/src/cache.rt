@@ -5,6 +5,7 @@ use crate::counting::Counting;
 use crate::orders::{is_ordered, print_reply};
 use crate::setting::{Setting, limits};
 use lost_desk::{Desk, Reader, Readers, open_desk};
+use lost_spec::Coded;
 use lost_worker::CachedReader;
 use std::alloc::AllocError;
 use std::rt::Files;

@@ -4,6 +4,7 @@ ghost use Rattle.std.specs.Prelude.{◌≡◌};
 use crate::orders::{is_ordered, print_reply};
 use crate::setting::{Setting, limits};
 use lost_desk::{Desk, Reader, Readers, open_desk};
+use lost_spec::Coded;
 use std::rt::Files;
 use std::sync::Wait;
 use std::{fs, io};

@@ -5,6 +5,7 @@ use lost_book::EditError;
 use lost_desk::{CommitError, Desk};
 use lost_json::{DeskFault, DeskLine, read_desk};
 use lost_mapping::MappingError;
+use lost_spec::Coded;
 use std::alloc::AllocError;
 use std::io;
 use std::sync::Wait;

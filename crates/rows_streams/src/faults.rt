@@ -1,11 +1,11 @@
 //! The texts of all faults, and what is answered where memory is refused.
-use lost_json::{DeskFault, DeskReply, ReadError};
+use lost_json::{DeskFault, DeskReply, ReadError, desk_answer, internal_error};
 use lost_lines::Answer;
 use lost_replay::ServeError;
+use lost_spec::Coded;
 use lost_spec::faults::{
     CivicError, EditError, GeoError, MappingError, RingError, SourceError, StampError, UrnError,
 };
-use lost_stream::{desk_answer, internal_error};
 use std::alloc::{AllocError, Global};
 use std::fmt::Display;
 use std::io;

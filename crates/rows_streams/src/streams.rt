@@ -7,6 +7,7 @@ use crate::stream::Stream;
 use crate::telling::tell;
 use crate::workers::serve_two;
 use lost_desk::{Desk, Readers, open_desk};
+use lost_spec::Coded;
 use lost_worker::{Gate, NoGate, Replier, Watched, serve_desk, serve_lines};
 use std::io;
 use std::sync::Wait;

@@ -2,6 +2,7 @@
 use crate::by::{By, Outcome, served};
 use crate::setting::Setting;
 use crate::telling::{tell_counts, tell_text};
+use lost_spec::Coded;
 use lost_worker::{ServeError, Turns};
 use std::alloc::AllocError;
 use std::io;

@@ -1,4 +1,5 @@
 //! How a stream was served, as it is printed.
+use lost_spec::Coded;
 use lost_worker::{Counts, ServeError};
 use std::io;
 

@@ -2,7 +2,7 @@
 use super::bench::Bench;
 use super::first_waits::FirstWaits;
 use super::parties::{beside_commits, desk_and_query, two_queries};
-use lost_server::{Counts, Gate, Manners, NoGate, RunFault, serve};
+use lost_server::{ConnectionSettings, Counts, Gate, NoGate, RunFault, serve};
 use std::io;
 use std::net::{Net, TcpListener, TcpStream};
 use std::random::RandomSource;
@@ -41,7 +41,7 @@ impl<
         connections: u32,
         gate: &G,
     ) -> Result<Counts, RunFault> {
-        let manners = Manners {
+        let manners = ConnectionSettings {
             idle: Some(Duration::from_secs(IDLE)),
             is_quiet: false,
         };

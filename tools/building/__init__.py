@@ -1,0 +1,1 @@
+"""The build of lostd from its sources, and the packaged program."""
