@@ -2,55 +2,14 @@
 ghost use Rattle.std.specs.Prelude.{◌≡◌};
 ghost use Rattle.lostd.specs.Trouble.{serve_trouble};
 
-use crate::replaying::said_of;
-use clap::ArgMatches;
-use lost_mapping::Source;
+use lost_command::{ServeOrder, Trouble};
 use lost_server::{ConnectionSettings, NoGate, RunFault, ServeError, serve};
-use lost_trouble::{Trouble, server_name};
 use std::io::ErrorKind;
 use std::net::{Net, TcpListener, TcpStream};
 use std::random::RandomSource;
 use std::sync::Wait;
 use std::thread::Threads;
 use std::time::{Clock, Duration};
-
-/// What is ordered of a server.
-#[derive(Drop)]
-pub(crate) struct ServeOrder<'a> {
-    name: Source,
-    queries: &'a str,
-    desk: &'a str,
-    workers: u32,
-    connections: u32,
-    settings: ConnectionSettings,
-}
-
-/// What the arguments order.
-pub(crate) fn order_of<'a, R: Eprint + AllocGlobal>(
-    rt: &R,
-    given: &ArgMatches<'a>,
-) -> Result<ServeOrder<'a>, Trouble> {
-    let name = given.get_str("name").unwrap_or("");
-    let name = match server_name(rt.alloc(), name) {
-        Ok(name) => name,
-        Err(trouble) => return Err(said_of(rt, trouble, name, "")),
-    };
-    let idle = match given.get_one::<u32>("idle") {
-        Some(seconds) if seconds > 0 => Some(Duration::from_secs(u64::from(seconds))),
-        _ => None,
-    };
-    Ok(ServeOrder {
-        name,
-        queries: given.get_str("queries").unwrap_or(""),
-        desk: given.get_str("desk").unwrap_or(""),
-        workers: given.get_one::<u32>("workers").unwrap_or(0),
-        connections: given.get_one::<u32>("connections").unwrap_or(0),
-        settings: ConnectionSettings {
-            idle,
-            is_quiet: given.get_flag("quiet"),
-        },
-    })
-}
 
 /// Listens on both addresses, says that it is ready, serves all connections, and says what was counted.
 pub(crate) fn serve_addresses<
@@ -78,12 +37,24 @@ pub(crate) fn serve_addresses<
         order.workers,
         order.connections,
         &NoGate,
-        order.settings,
+        settings_of(order),
     )
     .map_err(trouble_of)?;
     println!(rt; "done lines={} faults={}", counts.lines, counts.faults).map_err(|_| Trouble::Run(
         ServeError::Write,
     ))
+}
+
+/// How the connections of a server are treated, as it is ordered.
+fn settings_of(order: &ServeOrder<'_>) -> ConnectionSettings {
+    let idle = match order.idle {
+        0 => None,
+        seconds => Some(Duration::from_secs(u64::from(seconds))),
+    };
+    ConnectionSettings {
+        idle,
+        is_quiet: order.is_quiet,
+    }
 }
 
 /// What of a server's fault ends the program.

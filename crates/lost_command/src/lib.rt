@@ -1,0 +1,21 @@
+//! The command line of `lostd` (own rules): its words are read and judged, `replay` and `check` are run over standard input
+//! and output, and `serve` is ordered. What ends the program early is one line on standard error, and the exit status.
+#![tactic(auto)]
+
+mod arguments;
+mod checking;
+mod given;
+mod mistake;
+mod obeying;
+mod order;
+mod outcome;
+mod progress;
+mod replaying;
+mod summary;
+mod trouble;
+
+pub use given::{begin, server_name};
+pub use obeying::obey;
+pub use order::ServeOrder;
+pub use outcome::{check_outcome, end, replay_outcome};
+pub use trouble::Trouble;
