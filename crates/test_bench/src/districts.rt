@@ -113,6 +113,27 @@ fn drawn(
     Ok(ring)
 }
 
+/// The ring of a square between two corners, the lower left and the upper right one, with the first position at the end again.
+///
+/// # Errors
+/// `AllocError` where memory runs out.
+pub fn square(
+    alloc: Global,
+    (south, west): (u32, u32),
+    (north, east): (u32, u32),
+) -> Result<Vec<(u32, u32)>, AllocError> {
+    Vec::from_slice(
+        alloc,
+        &[
+            (south, west),
+            (south, east),
+            (north, east),
+            (north, west),
+            (south, west),
+        ],
+    )
+}
+
 /// Adds the corner that a side begins at, and the positions within.
 fn push_forth(ring: &mut Vec<(u32, u32)>, side: Side) -> Result<(), AllocError> {
     for number in 0..side.len().saturating_add(1) {

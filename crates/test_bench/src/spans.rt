@@ -16,15 +16,14 @@ impl Spans {
         Spans { spans }
     }
 
-    /// All spans of both.
+    /// A copy of these spans, in order.
     ///
     /// # Errors
     /// `AllocError` where memory runs out.
-    pub fn with(self, alloc: Global, other: &Spans) -> Result<Spans, AllocError> {
-        let mut all = Vec::new(alloc);
-        all.extend_from_slice(self.spans.as_slice())?;
-        all.extend_from_slice(other.spans.as_slice())?;
-        Ok(Spans::of(all))
+    pub fn copied(alloc: Global, spans: &[u64]) -> Result<Spans, AllocError> {
+        let mut copy = Vec::new(alloc);
+        copy.extend_from_slice(spans)?;
+        Ok(Spans::of(copy))
     }
 
     /// The span that so many of a hundred are not longer than, in nanoseconds; 0 where there are none.

@@ -3,13 +3,13 @@
 use crate::maps::Map;
 use crate::parts::Part;
 use crate::replies::Reply;
-use bench_parts::{Flood, nanoseconds};
 use std::alloc::Global;
 use std::cell::Cell;
 use std::io;
 use std::io::{Read, Write};
 use std::rt::Clock;
-use std::time::{Duration, Instant};
+use std::time::Instant;
+use test_bench::Flood;
 
 /// How many bytes are made at once, but for the end of a line; where each line is answered alone, one line.
 const CHUNK: usize = 262_144;
@@ -71,11 +71,7 @@ impl<'a, R: Clock> Script<'a, R> {
         let mut page = self.page.replace(Vec::new(self.alloc));
         if let Some(part) = self.parts.get_mut(self.place) {
             if let Some(since) = self.since {
-                let spent = now.duration_since(since);
-                part.spent = part.spent.saturating_add(spent);
-                if part.is_cold {
-                    part.spans.push(nanoseconds(spent))?;
-                }
+                part.add(now.duration_since(since))?;
             }
             take_down(part, page.as_slice())?;
         }

@@ -1,9 +1,9 @@
 //! The ring of a district, and rings that cost most: many over one place, and the longest and thinnest that are accepted.
 
-use bench_parts::ring;
 use lost_geo::{GeoPoint, Polygon};
 use std::alloc::Global;
 use std::io;
+use test_bench::ring;
 
 /// How many steps a sliver takes on its way over the earth: with the way back and the end, 4,096 positions.
 const STEPS: u32 = 2_047;

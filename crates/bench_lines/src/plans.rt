@@ -1,6 +1,7 @@
 //! The parts that are replayed, in order.
 use crate::maps::Map;
-use crate::parts::{Part, Task};
+use crate::parts::Part;
+use crate::tasks::Task;
 use std::alloc::{AllocError, Global};
 
 /// How often something is done.
@@ -50,31 +51,65 @@ pub(crate) const COLD: Scale = Scale {
 };
 
 impl Scale {
-    /// A part with so many lines, from the one of a number on.
-    fn part(self, alloc: Global, task: Task, first: u32, lines: u32) -> Part {
-        let part = Part::new(alloc, task, first, lines);
-        if self.is_cold { part.cold() } else { part }
+    /// A part with so many lines, from those of a round on.
+    fn part(self, alloc: Global, task: Task, round: u32, lines: u32) -> Part {
+        Part::new(
+            alloc,
+            task,
+            round.saturating_mul(lines),
+            lines,
+            self.is_cold,
+        )
+    }
+}
+
+/// A part with so many lines, one after another.
+pub(crate) fn warm(alloc: Global, task: Task, lines: u32) -> Part {
+    Part::new(alloc, task, 0, lines, false)
+}
+
+/// What is done at a scale.
+#[derive(Clone, Copy)]
+pub(crate) enum Plan {
+    /// All that is done with districts.
+    Districts,
+    /// All that is done with roads.
+    Roads,
+}
+
+impl Plan {
+    /// The parts of it, over a map.
+    pub(crate) fn parts(
+        self,
+        alloc: Global,
+        map: Map,
+        scale: Scale,
+    ) -> Result<Vec<Part>, AllocError> {
+        match self {
+            Plan::Districts => districts(alloc, map, scale),
+            Plan::Roads => roads(alloc, map, scale),
+        }
     }
 }
 
 /// Loads the districts and the default.
 pub(crate) fn load(alloc: Global, map: Map) -> Result<Vec<Part>, AllocError> {
     let mut parts = Vec::new(alloc);
-    parts.push(Part::new(alloc, Task::Load, 0, map.mappings))?;
-    parts.push(Part::new(alloc, Task::Standby, 0, 1))?;
-    parts.push(Part::new(alloc, Task::Commit, 0, 1))?;
+    parts.push(warm(alloc, Task::Load, map.mappings))?;
+    parts.push(warm(alloc, Task::Standby, 1))?;
+    parts.push(warm(alloc, Task::Commit, 1))?;
     Ok(parts)
 }
 
 /// Loads the districts and the default, and makes the first edit after them.
 pub(crate) fn settled(alloc: Global, map: Map) -> Result<Vec<Part>, AllocError> {
     let mut parts = load(alloc, map)?;
-    parts.push(Part::new(alloc, Task::Settle, 0, 2))?;
+    parts.push(warm(alloc, Task::Settle, 2))?;
     Ok(parts)
 }
 
-/// All that is done with districts: rounds of questions, then rounds of edits.
-pub(crate) fn districts(alloc: Global, map: Map, scale: Scale) -> Result<Vec<Part>, AllocError> {
+/// Rounds of questions, and then rounds of edits.
+fn districts(alloc: Global, map: Map, scale: Scale) -> Result<Vec<Part>, AllocError> {
     let mut parts = settled(alloc, map)?;
     for round in 0..scale.rounds {
         for (task, lines) in [
@@ -86,26 +121,24 @@ pub(crate) fn districts(alloc: Global, map: Map, scale: Scale) -> Result<Vec<Par
             (Task::ServicesAt, scale.asked),
             (Task::Boundaries, scale.boundaries),
         ] {
-            parts.push(scale.part(alloc, task, round.saturating_mul(lines), lines))?;
+            parts.push(scale.part(alloc, task, round, lines))?;
         }
     }
     for task in [Task::Replacements, Task::Turnover] {
         for round in 0..scale.rounds {
-            let first = round.saturating_mul(scale.edits);
-            parts.push(scale.part(alloc, task, first, scale.edits))?;
+            parts.push(scale.part(alloc, task, round, scale.edits))?;
         }
     }
     Ok(parts)
 }
 
-/// All that is done with roads: rounds of validations.
-pub(crate) fn roads(alloc: Global, map: Map, scale: Scale) -> Result<Vec<Part>, AllocError> {
+/// Rounds of validations.
+fn roads(alloc: Global, map: Map, scale: Scale) -> Result<Vec<Part>, AllocError> {
     let mut parts = Vec::new(alloc);
-    parts.push(Part::new(alloc, Task::LoadRoads, 0, map.mappings))?;
-    parts.push(Part::new(alloc, Task::Commit, 0, 1))?;
+    parts.push(warm(alloc, Task::LoadRoads, map.mappings))?;
+    parts.push(warm(alloc, Task::Commit, 1))?;
     for round in 0..scale.rounds {
-        let first = round.saturating_mul(scale.asked);
-        parts.push(scale.part(alloc, Task::Validations, first, scale.asked))?;
+        parts.push(scale.part(alloc, Task::Validations, round, scale.asked))?;
     }
     Ok(parts)
 }
