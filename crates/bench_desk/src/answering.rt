@@ -4,7 +4,7 @@ use crate::questions::Questions;
 use lost_desk::Reader;
 use lost_json::{ReadError, reply_line, reply_request};
 use lost_routing::Routing;
-use lost_tokens::{Scratch, read_request};
+use lost_tape::{Scratch, read_request};
 use lost_worker::CachedReader;
 use std::alloc::{AllocError, Global};
 use std::io;

@@ -5,7 +5,7 @@ use crate::districts::{push_commit, push_publish, push_question};
 use crate::echo::send_back;
 use crate::machine::Machine;
 use lost_mapping::Source;
-use lost_server::{Manners, NoGate, serve};
+use lost_server::{ConnectionSettings, NoGate, serve};
 use std::alloc::Global;
 use std::io;
 use std::net::{SocketAddr, TcpListener};
@@ -84,7 +84,7 @@ pub(crate) fn served<R: Machine>(rt: &R, name: &Source, plan: Plan) -> io::Resul
     let queries = TcpListener::bind(rt, "127.0.0.1:0")?;
     let desk = TcpListener::bind(rt, "127.0.0.1:0")?;
     let (to_queries, to_desk) = (queries.local_addr()?, desk.local_addr()?);
-    let manners = Manners {
+    let manners = ConnectionSettings {
         idle: None,
         is_quiet: true,
     };

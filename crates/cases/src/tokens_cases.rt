@@ -1,4 +1,4 @@
-//! Calls of lost_tokens: what lines are read as by their tokens.
+//! Calls of lost_tape: what lines are read as by their tokens.
 use crate::fields::Fields;
 use crate::line_cases::{shown_order, shown_request};
 use crate::trouble::Trouble;
@@ -6,7 +6,7 @@ use crate::words::{owned, refused};
 use lost_json::{DeskFault, ReadError};
 use lost_mapping::MappingError;
 use lost_reading::Line;
-use lost_tokens::{Scratch, read_common, read_line, read_request};
+use lost_tape::{Scratch, read_common, read_line, read_request};
 use std::alloc::Global;
 
 /// What a call gives.

@@ -5,7 +5,7 @@ use lost_replay::ServeError;
 use lost_spec::faults::{
     CivicError, EditError, GeoError, MappingError, RingError, SourceError, StampError, UrnError,
 };
-use lost_stream::{desk_answer, internal_error};
+use lost_json::{desk_answer, internal_error};
 use std::alloc::{AllocError, Global};
 use std::fmt::Display;
 use std::io;

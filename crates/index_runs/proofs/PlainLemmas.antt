@@ -9,7 +9,7 @@ use Rattle.std.proofs.lemmas.List.Elements.{All-nil, All-cons, All-head, All-tai
 use Rattle.std.proofs.lemmas.Map.Views.{Contains-keys_from_lookup, btree_map_get_iff}
 use Rattle.std.proofs.lemmas.Cmp.{nat_cmp_total}
 use Rattle.std.proofs.lemmas.Map.Lookups.{exact_unsigned}
-use Rattle.lost_index.specs.Held.{IsHeld, IsAbove, HasRegions, numbers}
+use Rattle.lost_index.specs.Entries.{IsHeld, IsAbove, HasRegions, numbers}
 use Rattle.lost_index.proofs.HeldLemmas.{at_same, lookup-same}
 
 equal_numbers : (a b : ℕ) → nat_eq a b ≡ true → a ≡ b

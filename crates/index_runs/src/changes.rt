@@ -1,6 +1,6 @@
 //! Changes drawn at random, done to an index and to plain lines alike.
 ghost use Rattle.std.specs.Prelude.{◌≡◌, ◌≤◌, OnOk};
-ghost use Rattle.lost_index.specs.Held.{IsHeld, HasRegions};
+ghost use Rattle.lost_index.specs.Entries.{IsHeld, HasRegions};
 
 use crate::draws::Draws;
 use crate::line::{Line, copied};

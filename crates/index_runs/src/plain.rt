@@ -3,7 +3,7 @@ ghost use Rattle.std.specs.Prelude.{◌≡◌, ◌≤◌, ◌++◌, ◌∷◌, [
 ghost use Rattle.std.specs.BTreeMap.{get, is_at};
 ghost use Rattle.std.specs.List.{slice_range};
 ghost use Rattle.std.specs.Ordering.{nat_cmp};
-ghost use Rattle.lost_index.specs.Held.{IsHeld, IsAbove, HasRegions, with_number, without};
+ghost use Rattle.lost_index.specs.Entries.{IsHeld, IsAbove, HasRegions, with_number, without};
 
 use crate::line::Line;
 use std::alloc::AllocError;

@@ -4,7 +4,6 @@
 
 mod book;
 mod changes;
-mod edit;
 mod held;
 mod limits;
 mod places;
@@ -12,9 +11,9 @@ mod regions;
 mod register;
 
 pub use book::Book;
-pub use edit::Edit;
 pub use held::{has_identity, has_key};
 pub use limits::Limits;
+pub use lost_message::Edit;
 pub use lost_spec::faults::EditError;
 pub use places::{holds_address, holds_point, serves};
 pub use register::{Register, check_edit, check_publish, check_replace, check_withdraw};

@@ -5,12 +5,12 @@ ghost use Rattle.std.specs.Option.{option_copied};
 ghost use Rattle.std.specs.Result.{result_err};
 ghost use Rattle.lost_spec.specs.Book as spec;
 ghost use Rattle.lost_spec.specs.Book.{has_identity, has_key, is_held, held, is_key_held, is_not_newer, is_key_unchanged, identity_of, is_spent, is_full, publish_refusal, replace_refusal, withdraw_refusal, refusal};
-ghost use Rattle.lost_book.specs.Edit.{edit_of};
+ghost use Rattle.lost_message.specs.Edit.{edit_of};
 
-use crate::edit::Edit;
 use crate::limits::Limits;
 use crate::regions::{have_same_key, have_same_regions};
 use lost_mapping::{Identity, Mapping, Stamp};
+use lost_message::Edit;
 use lost_spec::faults::EditError;
 
 /// What holds mappings, however it keeps them, as a refusal asks it: it is seen as a book. No question takes memory.

@@ -3,9 +3,9 @@
 #![tactic(auto)]
 
 mod bad_line;
+mod book_refusals;
 mod hints;
 mod json;
-mod kept;
 mod locations;
 mod object;
 mod patterns;

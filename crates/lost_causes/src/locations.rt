@@ -2,11 +2,9 @@
 use crate::object::Object;
 use crate::quoting::quoted;
 use crate::stop::{Stop, found};
+use lost_reading::MAX_LOCATIONS;
 use serde_json::Value;
 use std::alloc::Global;
-
-/// The most locations of a request.
-const MAX_LOCATIONS: usize = 8;
 
 /// Why the locations of a request are none.
 pub(crate) fn locations(request: &Object<'_>) -> Result<(), Stop> {

@@ -2,12 +2,9 @@
 use crate::object::Object;
 use crate::quoting::quoted;
 use crate::stop::{Stop, found};
-use lost_civic::Element;
+use lost_civic::{Element, MAX_TEXT_BYTES};
 use serde_json::Value;
 use std::alloc::Global;
-
-/// The most bytes of a name or a value.
-const MAX_BYTES: usize = 512;
 
 /// Why the pattern of a region is none.
 pub(crate) fn pattern(region: &Object<'_>) -> Result<(), Stop> {
@@ -37,9 +34,9 @@ fn element(alloc: Global, owner: &str, name: &str, value: &Value) -> Result<(), 
     if Element::by_name(name).is_none() {
         return Err(unknown(alloc, owner, name));
     }
-    if text.len() > MAX_BYTES {
+    if text.len() > MAX_TEXT_BYTES {
         return Err(found(format!(in alloc;
-            "{owner}.pattern: the value of {name} has more than {MAX_BYTES} bytes"
+            "{owner}.pattern: the value of {name} has more than {MAX_TEXT_BYTES} bytes"
         )));
     }
     Ok(())

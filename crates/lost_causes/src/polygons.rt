@@ -2,15 +2,9 @@
 use crate::hints::{number_hint, pair_hint};
 use crate::object::Object;
 use crate::stop::{Stop, found};
-use lost_geo::GeoPoint;
+use lost_geo::{GeoPoint, MAX_POSITIONS, MIN_POSITIONS};
 use serde_json::Value;
 use std::alloc::Global;
-
-/// The fewest positions of a polygon.
-const MIN_POSITIONS: usize = 4;
-
-/// The most positions of a polygon.
-const MAX_POSITIONS: usize = 4096;
 
 /// Why the polygon of a region is none.
 pub(crate) fn polygon(region: &Object<'_>) -> Result<(), Stop> {
@@ -88,8 +82,8 @@ fn position(alloc: Global, name: &str, value: &Value) -> Result<(), Stop> {
 
 /// Why two values are no latitude and longitude.
 fn coordinates(alloc: Global, name: &str, lat: &Value, lon: &Value) -> Result<(), Stop> {
-    let lat = whole(alloc, name, "latitude", lat)?;
-    let lon = whole(alloc, name, "longitude", lon)?;
+    let lat = whole_number(alloc, name, "latitude", lat)?;
+    let lon = whole_number(alloc, name, "longitude", lon)?;
     match GeoPoint::new(lat, lon) {
         Ok(_) => Ok(()),
         Err(fault) => {
@@ -100,7 +94,7 @@ fn coordinates(alloc: Global, name: &str, lat: &Value, lon: &Value) -> Result<()
 }
 
 /// The whole number that a coordinate is.
-fn whole(alloc: Global, name: &str, what: &str, value: &Value) -> Result<i64, Stop> {
+fn whole_number(alloc: Global, name: &str, what: &str, value: &Value) -> Result<i64, Stop> {
     match value.as_i64() {
         Some(number) => Ok(number),
         None => {

@@ -1,7 +1,7 @@
 //! The cause of a refusal, and of `badRequest`. Rules without a section are this profile's own.
 use crate::bad_line::bad_line;
+use crate::book_refusals::book_refusal;
 use crate::json::tree;
-use crate::kept::kept;
 use crate::object::Object;
 use crate::regions::regions;
 use crate::requests::bad_request;
@@ -72,7 +72,7 @@ fn member(
         10 => missing(&edit),
         11 => too_large(&edit),
         12 => key(&edit),
-        _ => kept(&edit, code, staged),
+        _ => book_refusal(&edit, code, staged),
     }
 }
 

@@ -2,21 +2,10 @@
 use crate::object::Object;
 use crate::stop::{Stop, found};
 use crate::texts::id;
+use lost_mapping::{MAX_DISPLAY_NAME_BYTES, MAX_DISPLAY_NAMES, MAX_PATTERNS, MAX_POLYGONS};
 use lost_reading::GEODETIC;
 use serde_json::Value;
 use std::alloc::Global;
-
-/// The most polygons of a mapping.
-const MAX_POLYGONS: usize = 64;
-
-/// The most patterns of a mapping.
-const MAX_PATTERNS: usize = 256;
-
-/// The most display names of a mapping.
-const MAX_NAMES: usize = 16;
-
-/// The most bytes of the language or the text of a display name.
-const MAX_BYTES: usize = 1024;
 
 /// Whether a mapping is a default.
 fn is_default(mapping: &Object<'_>) -> bool {
@@ -45,7 +34,13 @@ pub(crate) fn too_large(mapping: &Object<'_>) -> Result<(), Stop> {
     let patterns = regions.len().saturating_sub(polygons);
     at_most(alloc, "serviceBoundary", "patterns", patterns, MAX_PATTERNS)?;
     let names = mapping.optional_list("displayName", "a list of objects")?;
-    at_most(alloc, "displayName", "names", names.len(), MAX_NAMES)?;
+    at_most(
+        alloc,
+        "displayName",
+        "names",
+        names.len(),
+        MAX_DISPLAY_NAMES,
+    )?;
     for (place, item) in names.iter().enumerate() {
         display_name(alloc, place, item)?;
     }
@@ -75,9 +70,9 @@ fn at_most(alloc: Global, name: &str, what: &str, count: usize, most: usize) -> 
 fn display_name(alloc: Global, place: usize, item: &Value) -> Result<(), Stop> {
     let object = Object::of(alloc, "displayName", item)?;
     for member in ["lang", "text"] {
-        if object.required_text(member)?.len() > MAX_BYTES {
+        if object.required_text(member)?.len() > MAX_DISPLAY_NAME_BYTES {
             return Err(found(format!(in alloc;
-                "displayName[{place}].{member}: it has more than {MAX_BYTES} bytes"
+                "displayName[{place}].{member}: it has more than {MAX_DISPLAY_NAME_BYTES} bytes"
             )));
         }
     }

@@ -1,21 +1,13 @@
 //! Codes 2, 3, 6, 8 and 12: sources, sourceIds and keys, services and numbers.
 use crate::quoting::quoted;
 use crate::stop::{Stop, found};
+use lost_mapping::{MAX_ID_BYTES, MAX_NUMBER_BYTES, MAX_SOURCE_BYTES};
 use lost_urn::{ServiceUrn, check_label};
 use std::alloc::Global;
 
-/// The most bytes of a source.
-const MAX_SOURCE: usize = 253;
-
-/// The most bytes of a sourceId or a key.
-const MAX_ID: usize = 128;
-
-/// The most characters of a service number.
-const MAX_NUMBER: usize = 64;
-
 /// Why a text is no source.
 pub(crate) fn source(alloc: Global, text: &str) -> Result<(), Stop> {
-    length(alloc, "source", text, MAX_SOURCE)?;
+    length(alloc, "source", text, MAX_SOURCE_BYTES)?;
     for label in text.as_bytes().split(|byte| *byte == b'.') {
         if let Err(fault) = check_label(label) {
             let shown = quoted(alloc, text)?;
@@ -27,7 +19,7 @@ pub(crate) fn source(alloc: Global, text: &str) -> Result<(), Stop> {
 
 /// Why a text is no sourceId or no key, by the name of the member.
 pub(crate) fn id(alloc: Global, name: &str, text: &str) -> Result<(), Stop> {
-    length(alloc, name, text, MAX_ID)?;
+    length(alloc, name, text, MAX_ID_BYTES)?;
     for byte in text.as_bytes() {
         if *byte < 32 || *byte == 127 {
             let shown = quoted(alloc, text)?;
@@ -52,7 +44,7 @@ pub(crate) fn service(alloc: Global, name: &str, text: &str) -> Result<(), Stop>
 
 /// Why a text is no service number.
 pub(crate) fn number(alloc: Global, text: &str) -> Result<(), Stop> {
-    length(alloc, "serviceNumber", text, MAX_NUMBER)?;
+    length(alloc, "serviceNumber", text, MAX_NUMBER_BYTES)?;
     if text.as_bytes().iter().all(|byte| is_dial_byte(*byte)) {
         return Ok(());
     }

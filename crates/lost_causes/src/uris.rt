@@ -1,14 +1,9 @@
 //! Code 7: the list of URIs.
 use crate::quoting::quoted;
 use crate::stop::{Stop, found};
+use lost_mapping::{MAX_URI_BYTES, MAX_URIS};
 use serde_json::Value;
 use std::alloc::Global;
-
-/// The most URIs of a mapping.
-const MAX_URIS: usize = 16;
-
-/// The most bytes of a URI.
-const MAX_LEN: usize = 2048;
 
 /// Why texts are no URIs of a mapping.
 pub(crate) fn uris(alloc: Global, items: &[Value]) -> Result<(), Stop> {
@@ -29,7 +24,7 @@ pub(crate) fn uris(alloc: Global, items: &[Value]) -> Result<(), Stop> {
 
 /// Why a text is no URI.
 fn uri(alloc: Global, place: usize, text: &str) -> Result<(), Stop> {
-    let why = if text.len() > MAX_LEN {
+    let why = if text.len() > MAX_URI_BYTES {
         "it has more than 2048 bytes"
     } else if !text.as_bytes().iter().all(|byte| byte.is_ascii_graphic()) {
         "it has a space, a control character or one that is not ASCII"

@@ -10,9 +10,9 @@ use Rattle.lost_lines.specs.Outcome.{Passage, IsOutcome}
 use Rattle.lost_lines.specs.Cutting.{lines_of}
 use Rattle.lost_lines.specs.Run.{Reply, Run, text_of, long_count, memory_count}
 use Rattle.lost_lines.specs.Stream.{IsServed, IsCutOff, IsWholeSoFar}
-use Rattle.lost_stream.specs.Stream.{Lists}
-use Rattle.lost_stream.specs.Step.{Step}
-use Rattle.lost_stream.proofs.OutcomeLemmas.{streamed}
+use Rattle.lost_json.specs.Stream.{Lists}
+use Rattle.lost_json.specs.Step.{Step}
+use Rattle.lost_json.proofs.OutcomeLemmas.{streamed}
 use Rattle.lost_replay.specs.Replay.{replay_terms, no_edits, IsReplayed}
 use Rattle.lost_replay.specs.Replayer.{Begins, books_of}
 use Rattle.lost_replay.proofs.ReplayLemmas.{from_none}

@@ -2,7 +2,7 @@
 use Rattle.std.proofs.Common.{◌≡◌, ℕ, suc, ◌+◌, ◌-◌, ◌^◌, min, Bool, true, false, cond, List, [], ◌∷◌, length, refl, ap, ◌∙◌, arith}
 use Rattle.lost_spec.specs.Text.{Text}
 use Rattle.lost_lines.specs.Run.{Reply, Run, text_of}
-use Rattle.lost_stream.proofs.ListLemmas.{count_by_front}
+use Rattle.lost_json.proofs.ListLemmas.{count_by_front}
 use Rattle.lost_replay.specs.Replayer.{Replays}
 use Rattle.lost_check.specs.declared.kind.Kind.{Kind}
 use Rattle.lost_check.specs.declared.tally.Tally.{Tally}

@@ -11,8 +11,8 @@ use Rattle.lost_lines.specs.Cutting.{lines_of, ended_lines}
 use Rattle.lost_lines.specs.Run.{Reply, Run, text_of}
 use Rattle.lost_lines.specs.Stream.{AppendsFront}
 use Rattle.lost_lines.specs.Outcome.{Passage}
-use Rattle.lost_stream.specs.Stream.{Lists}
-use Rattle.lost_stream.specs.Step.{Step}
+use Rattle.lost_json.specs.Stream.{Lists}
+use Rattle.lost_json.specs.Step.{Step}
 use Rattle.lost_replay.specs.Replay.{replay_terms, no_edits, IsReplayed}
 use Rattle.lost_check.specs.declared.findings.Findings.{Findings}
 use Rattle.lost_check.specs.Said.{AreSaid}

@@ -3,7 +3,7 @@ use Rattle.std.specs.Prelude.{◌≡◌, ◌≢◌, ℕ, Bool, true, false, if�
 use Rattle.std.specs.List.{starts_with}
 use Rattle.lost_spec.specs.Text.{Text, same_text}
 use Rattle.lost_writing.specs.DeskReplies.{IsCode}
-use Rattle.lost_stream.specs.Stream.{internal_error, bad_request, refused_text}
+use Rattle.lost_json.specs.Stream.{internal_error, bad_request, refused_text}
 use Rattle.lost_check.specs.declared.kind.Kind.{Kind}
 use Rattle.lost_check.specs.declared.kind.Kind.TheVariants.{Taken, Refused, BadRequest, Unjudged}
 

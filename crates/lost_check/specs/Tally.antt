@@ -2,7 +2,7 @@
 use Rattle.std.specs.Prelude.{◌≡◌, ℕ, ◌+◌, ◌-◌, ◌^◌, ◌==◌, ◌&&◌, min, Bool, cond, List, length}
 use Rattle.std.specs.List.{count_by}
 use Rattle.lost_lines.specs.Run.{Reply}
-use Rattle.lost_stream.specs.Stream.{Lists}
+use Rattle.lost_json.specs.Stream.{Lists}
 use Rattle.lost_check.specs.declared.kind.Kind.{Kind}
 use Rattle.lost_check.specs.declared.tally.Tally.{Tally}
 use Rattle.lost_check.specs.declared.findings.Findings.{Findings}

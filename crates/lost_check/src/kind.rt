@@ -1,7 +1,7 @@
 //! What the reply of a replay says of its line. Rules without a section are this profile's own.
 ghost use Rattle.std.specs.Prelude.{◌≡◌, ◌≢◌, ◌↔◌, IsTrue, Some, None};
 ghost use Rattle.lost_writing.specs.DeskReplies.{IsCode};
-ghost use Rattle.lost_stream.specs.Stream.{refused_text};
+ghost use Rattle.lost_json.specs.Stream.{refused_text};
 ghost use Rattle.lost_check.specs.Kinds.{kind_of, IsCodeOf};
 
 use lost_json::{BAD_REQUEST, DeskReply, INTERNAL_ERROR, law_constant_lines, write_desk};

@@ -33,7 +33,7 @@ fn headed(alloc: Global, head: DeskText, cause: &[u8]) -> Text
     requires { length head ≤ 45 }
     ensures { IsHeaded head (bytes_of result) }
 {
-    match whole(alloc, head.bytes(), cause) {
+    match whole_line(alloc, head.bytes(), cause) {
         Ok(line) => Text::Kept(line),
         Err(_) => Text::Short(ended(head)),
     }
@@ -50,7 +50,7 @@ fn ended(head: DeskText) -> DeskText
 }
 
 /// A head and a cause as one line, or want of memory.
-fn whole(alloc: Global, head: &[u8], cause: &[u8]) -> Result<Vec<u8>, AllocError>
+fn whole_line(alloc: Global, head: &[u8], cause: &[u8]) -> Result<Vec<u8>, AllocError>
     ensures { IfOk result (λ line. IsHeaded head.now line.items) }
 {
     let mut line = Vec::new(alloc);

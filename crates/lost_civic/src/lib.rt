@@ -13,3 +13,4 @@ pub use addresses::CivicAddress;
 pub use elements::Element;
 pub use lost_spec::faults::CivicError;
 pub use patterns::CivicPattern;
+pub use refusals::MAX_TEXT_BYTES;

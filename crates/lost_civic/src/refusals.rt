@@ -13,7 +13,7 @@ use lost_spec::faults::CivicError;
 pub(crate) const MAX_PAIRS: usize = 128;
 
 /// The most bytes that a name or a value has.
-const MAX_BYTES: usize = 512;
+pub const MAX_TEXT_BYTES: usize = 512;
 
 /// The first refusal of an address, other than memory: too long, a name twice, no known name.
 pub(crate) fn first_address_fault(pairs: &[(String, String)]) -> Option<CivicError>
@@ -61,7 +61,7 @@ fn exceeds_limits(pairs: &[(String, String)]) -> bool
 pub(crate) fn is_long(name: &str, value: &str) -> bool
     ensures { result ≡ (nat_lt 512 (length name.now) || nat_lt 512 (length value.now)) }
 {
-    name.len() > MAX_BYTES || value.len() > MAX_BYTES
+    name.len() > MAX_TEXT_BYTES || value.len() > MAX_TEXT_BYTES
 }
 
 /// Whether a name stands twice. It takes the square of their number, which is at most 128 where this is asked.

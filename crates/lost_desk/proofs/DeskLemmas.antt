@@ -6,8 +6,8 @@ use Rattle.std.proofs.lemmas.Bool.{and_parts}
 use Rattle.lost_spec.specs.Laws.{BeginsWith}
 use Rattle.lost_spec.specs.Book.{Book, Edit, Limits, refusal, after, after_all, accepts, book_of, empty_book, is_accepted}
 use Rattle.lost_spec.proofs.BookLemmas.{accepted_book}
-use Rattle.lost_book.specs.declared.edit.Edit.{Edit as Kept}
-use Rattle.lost_book.specs.Edit.{edit_of}
+use Rattle.lost_message.specs.declared.edit.Edit.{Edit as CodeEdit}
+use Rattle.lost_message.specs.Edit.{edit_of}
 use Rattle.lost_history.specs.History.{Opening, Beginning, beginning}
 use Rattle.lost_history.proofs.Beginnings.{begins_itself, begins_trans}
 use Rattle.lost_desk.specs.declared.version.Version.{Version}
@@ -15,7 +15,7 @@ use Rattle.lost_desk.specs.declared.version.Operation.{Operation}
 use Rattle.lost_desk.specs.declared.version.Operation.TheVariants.{Change, Mark}
 use Rattle.lost_desk.specs.Seen.{DeskSeen, with_staged, with_committed}
 use Rattle.lost_desk.specs.Copies.{IsBookOfItsList, taken, taken_all, edits_in}
-use Rattle.lost_desk.specs.Held.{CopiesSeen, IsDesk, IsReady, MayFollow, published_version, pending_of, desk_seen, next_of, with_waiting, with_published}
+use Rattle.lost_desk.specs.States.{CopiesSeen, IsDesk, IsReady, MayFollow, published_version, pending_of, desk_seen, next_of, with_waiting, with_published}
 
 -- ---- lists and their books
 
@@ -28,7 +28,7 @@ accepts_push b (first ∷ es) e all here =
     let parts = and_parts (is_none (refusal b first)) (accepts (after b first) es) all in
     and_true (is_none (refusal b first)) (accepts (after b first) (es ++ e ∷ [])) parts.0 (accepts_push (after b first) es e parts.1 here)
 
-pub edits_in-change : (w : List Operation) (e : Kept) → edits_in (w ++ Change e ∷ []) ≡ edits_in w ++ edit_of e ∷ []
+pub edits_in-change : (w : List Operation) (e : CodeEdit) → edits_in (w ++ Change e ∷ []) ≡ edits_in w ++ edit_of e ∷ []
 edits_in-change [] e = refl
 edits_in-change (Change first ∷ w) e = ap (λ es. edit_of first ∷ es) (edits_in-change w e)
 edits_in-change (Mark front ∷ w) e = edits_in-change w e
@@ -38,22 +38,22 @@ edits_in-mark [] f = refl
 edits_in-mark (Change first ∷ w) f = ap (λ es. edit_of first ∷ es) (edits_in-mark w f)
 edits_in-mark (Mark front ∷ w) f = edits_in-mark w f
 
-map_push : (queue : List Kept) (e : Kept) → map edit_of (queue ++ e ∷ []) ≡ map edit_of queue ++ edit_of e ∷ []
+map_push : (queue : List CodeEdit) (e : CodeEdit) → map edit_of (queue ++ e ∷ []) ≡ map edit_of queue ++ edit_of e ∷ []
 map_push [] e = refl
 map_push (first ∷ queue) e = ap (λ es. edit_of first ∷ es) (map_push queue e)
 
 -- ---- what waits, and the queue
 
 -- an edit at the end of the queue is pending last
-pub pending-queued : (c : CopiesSeen) (queue : List Kept) (e : Kept) → pending_of c (queue ++ e ∷ []) ≡ pending_of c queue ++ edit_of e ∷ []
+pub pending-queued : (c : CopiesSeen) (queue : List CodeEdit) (e : CodeEdit) → pending_of c (queue ++ e ∷ []) ≡ pending_of c queue ++ edit_of e ∷ []
 pending-queued c queue e = ap (λ es. edits_in c.waiting ++ es) (map_push queue e) ∙ sym (append_assoc (edits_in c.waiting) (map edit_of queue) (edit_of e ∷ []))
 
 -- the first edit of the queue may wait in the copies instead
-pub pending-logged : (c : CopiesSeen) (queue : List Kept) (e : Kept) → pending_of (with_waiting c (Change e)) queue ≡ pending_of c (e ∷ queue)
+pub pending-logged : (c : CopiesSeen) (queue : List CodeEdit) (e : CodeEdit) → pending_of (with_waiting c (Change e)) queue ≡ pending_of c (e ∷ queue)
 pending-logged c queue e = ap (λ es. es ++ map edit_of queue) (edits_in-change c.waiting e) ∙ append_assoc (edits_in c.waiting) (edit_of e ∷ []) (map edit_of queue)
 
 -- a mark is no edit
-pub pending-marked : (c : CopiesSeen) (queue : List Kept) (f : Beginning) → pending_of (with_waiting c (Mark f)) queue ≡ pending_of c queue
+pub pending-marked : (c : CopiesSeen) (queue : List CodeEdit) (f : Beginning) → pending_of (with_waiting c (Mark f)) queue ≡ pending_of c queue
 pending-marked c queue f = ap (λ es. es ++ map edit_of queue) (edits_in-mark c.waiting f)
 
 -- ---- a publication
@@ -102,7 +102,7 @@ published_by (Err _) c marked after f r m e =
 
 -- ---- a desk
 
-module _ (c : CopiesSeen) (queue : List Kept) (book : Book) (history : Beginning) (right : Opening) (d : IsDesk c queue book history right) where
+module _ (c : CopiesSeen) (queue : List CodeEdit) (book : Book) (history : Beginning) (right : Opening) (d : IsDesk c queue book history right) where
   pub counted : book.edits ≡ length c.shown.front.list + length (pending_of c queue)
   counted =
       ap (λ (b : Book). b.edits) d.ahead ∙ ((accepted_book c.shown.book.limits (c.shown.front.list ++ pending_of c queue) d.accepted).counted
@@ -120,14 +120,14 @@ module _ (c : CopiesSeen) (queue : List Kept) (book : Book) (history : Beginning
   pub none_pending : book.edits ≡ length c.shown.front.list → pending_of c queue ≡ []
   none_pending e = let none : length (pending_of c queue) ≡ 0 = omega (arith, counted) in none_of (pending_of c queue) none
 
-  pub staged_is : (e : Kept) → desk_seen c (queue ++ e ∷ []) ≡ with_staged (desk_seen c queue) (edit_of e)
+  pub staged_is : (e : CodeEdit) → desk_seen c (queue ++ e ∷ []) ≡ with_staged (desk_seen c queue) (edit_of e)
   staged_is e = ap (λ (es : List Edit). record { opening = c.shown.front.opening; limits = c.shown.book.limits; published = c.shown.front.list; pending = es }) (pending-queued c queue e)
 
   -- the list of all edits, with one more staged
-  all_staged : (e : Kept) → c.shown.front.list ++ pending_of c (queue ++ e ∷ []) ≡ (c.shown.front.list ++ pending_of c queue) ++ edit_of e ∷ []
+  all_staged : (e : CodeEdit) → c.shown.front.list ++ pending_of c (queue ++ e ∷ []) ≡ (c.shown.front.list ++ pending_of c queue) ++ edit_of e ∷ []
   all_staged e = ap (λ es. c.shown.front.list ++ es) (pending-queued c queue e) ∙ sym (append_assoc c.shown.front.list (pending_of c queue) (edit_of e ∷ []))
 
-  pub stage_keeps : (e : Kept) → refusal book (edit_of e) ≡ None → IsDesk c (queue ++ e ∷ []) (after book (edit_of e)) history right
+  pub stage_keeps : (e : CodeEdit) → refusal book (edit_of e) ≡ None → IsDesk c (queue ++ e ∷ []) (after book (edit_of e)) history right
   stage_keeps e free =
       let all = c.shown.front.list ++ pending_of c queue in
       let here : is_none (refusal (book_of c.shown.book.limits all) (edit_of e)) ≡ true = ap (λ (b : Book). is_none (refusal b (edit_of e))) (sym d.ahead) ∙ ap is_none free in
@@ -141,7 +141,7 @@ module _ (c : CopiesSeen) (queue : List Kept) (book : Book) (history : Beginning
       }
 
   -- the same, by the parts that a stage leaves
-  pub stage_gives : (e copy : Kept) (queue' : List Kept) (book' : Book) → queue' ≡ queue ++ e ∷ [] → book' ≡ after book (edit_of copy) → edit_of copy ≡ edit_of e → refusal book (edit_of e) ≡ None → IsDesk c queue' book' history right
+  pub stage_gives : (e copy : CodeEdit) (queue' : List CodeEdit) (book' : Book) → queue' ≡ queue ++ e ∷ [] → book' ≡ after book (edit_of copy) → edit_of copy ≡ edit_of e → refusal book (edit_of e) ≡ None → IsDesk c queue' book' history right
   stage_gives e copy queue' book' q b same free = rw (q, b, same) (stage_keeps e free)
 
   -- how many edits are pending
@@ -158,14 +158,14 @@ module _ (c : CopiesSeen) (queue : List Kept) (book : Book) (history : Beginning
   ready = record { copy = d.copy; list = refl; accepted = d.accepted; opening = d.opening }
 
   -- the same edits pending in another way
-  pub keeps_by : (c' : CopiesSeen) (queue' : List Kept) → c'.shown ≡ c.shown → pending_of c' queue' ≡ pending_of c queue → IsDesk c' queue' book history right
+  pub keeps_by : (c' : CopiesSeen) (queue' : List CodeEdit) → c'.shown ≡ c.shown → pending_of c' queue' ≡ pending_of c queue → IsDesk c' queue' book history right
   keeps_by c' queue' shown pending =
       let P : Version → List Edit → Type 0 = λ v es. IsBookOfItsList v × (book ≡ book_of v.book.limits (v.front.list ++ es)) × IsTrue (is_accepted v.book.limits (v.front.list ++ es)) × BeginsWith (v.front.list ++ es) history.list × (history.opening ≡ v.front.opening) in
       let t : P c'.shown (pending_of c' queue') = rw (shown, pending) (d.copy, d.ahead, d.accepted, d.reached, d.opening) in
       record { copy = t.0; ahead = t.1; accepted = t.2; reached = t.3; opening = t.4; head = d.head }
 
   -- all edits published
-  pub publish_keeps : (c' : CopiesSeen) (queue' : List Kept) → c'.shown ≡ published_version c (beginning history.opening (c.shown.front.list ++ pending_of c queue)) → pending_of c' queue' ≡ []
+  pub publish_keeps : (c' : CopiesSeen) (queue' : List CodeEdit) → c'.shown ≡ published_version c (beginning history.opening (c.shown.front.list ++ pending_of c queue)) → pending_of c' queue' ≡ []
       → IsDesk c' queue' book (beginning history.opening (c.shown.front.list ++ pending_of c queue)) right
   publish_keeps c' queue' shown pending =
       let all = c.shown.front.list ++ pending_of c queue in
@@ -181,7 +181,7 @@ module _ (c : CopiesSeen) (queue : List Kept) (book : Book) (history : Beginning
       ) in
       record { copy = t.0; ahead = t.1; accepted = t.2; reached = t.3; opening = t.4; head = d.head }
 
-  pub committed_is : (c' : CopiesSeen) (queue' : List Kept) → c'.shown ≡ published_version c (beginning history.opening (c.shown.front.list ++ pending_of c queue)) → pending_of c' queue' ≡ []
+  pub committed_is : (c' : CopiesSeen) (queue' : List CodeEdit) → c'.shown ≡ published_version c (beginning history.opening (c.shown.front.list ++ pending_of c queue)) → pending_of c' queue' ≡ []
       → desk_seen c' queue' ≡ with_committed (desk_seen c queue)
   committed_is c' queue' shown pending =
       let all = c.shown.front.list ++ pending_of c queue in

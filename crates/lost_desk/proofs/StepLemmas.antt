@@ -12,7 +12,7 @@ use Rattle.lost_spec.specs.Book.{Limits}
 use Rattle.lost_history.specs.History.{Opening}
 use Rattle.lost_desk.specs.Copies.{IsBookOfItsList, first_version}
 use Rattle.lost_desk.specs.Rule.{IsBeside, IsOneList, newcomer, named, Enters, names, shows}
-use Rattle.lost_desk.specs.Held.{MayFollow}
+use Rattle.lost_desk.specs.States.{MayFollow}
 
 -- every list begins with the empty one
 begins_empty : {A : Type 0} (xs : List A) → BeginsWith xs []

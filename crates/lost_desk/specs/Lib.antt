@@ -3,4 +3,4 @@ pub mod Seen
 pub mod Sets
 pub mod Copies
 pub mod Rule
-pub mod Held
+pub mod States

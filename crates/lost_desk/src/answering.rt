@@ -2,19 +2,19 @@
 ghost use Rattle.std.specs.Prelude.{◌≡◌, Some, IfOk};
 ghost use Rattle.lost_json.specs.Line.{line_reply};
 ghost use Rattle.lost_spec.specs.Text.{Text};
-ghost use Rattle.lost_query.specs.Request.{request_of};
+ghost use Rattle.lost_message.specs.Request.{request_of};
 ghost use Rattle.lost_query.specs.Place.{place_of};
 ghost use Rattle.lost_reading.specs.Requests.{line_request};
 ghost use Rattle.lost_spec.specs.Holders.{holders_of};
 ghost use Rattle.lost_desk.specs.Sets.{AreRightIn, KeepsOnly};
 
-use crate::CopyBook;
 use crate::sets::PlaceSets;
 use crate::with_holders::WithHolders;
 use lost_json::{ReadError, reply_request, write_reply};
 use lost_mapping::{Moment, Source};
 use lost_query::{Holdings, Place, Reply, Request, place_used};
-use lost_tokens::{Scratch, read_request};
+use lost_routing::Routing;
+use lost_tape::{Scratch, read_request};
 use std::alloc::{AllocError, Global};
 
 /// The reply to a line over these holdings by the server of this name at an instant, as [`lost_json::reply_line`] gives
@@ -43,7 +43,7 @@ pub(crate) fn reply_over<H: Holdings>(
 pub(crate) fn reply_over_sets<S: PlaceSets>(
     alloc: Global,
     sets: &mut S,
-    book: &CopyBook,
+    book: &Routing,
     name: &Source,
     moment: &Moment,
     line: &[u8],
@@ -65,7 +65,7 @@ pub(crate) fn reply_over_sets<S: PlaceSets>(
 fn answer_request<S: PlaceSets>(
     alloc: Global,
     sets: &mut S,
-    book: &CopyBook,
+    book: &Routing,
     name: &Source,
     moment: &Moment,
     request: &Request,
@@ -86,7 +86,7 @@ fn answer_request<S: PlaceSets>(
 fn answer_at_place<S: PlaceSets>(
     alloc: Global,
     sets: &mut S,
-    book: &CopyBook,
+    book: &Routing,
     name: &Source,
     moment: &Moment,
     request: &Request,
@@ -113,7 +113,7 @@ fn answer_at_place<S: PlaceSets>(
 /// The reply to a request over this book, or want of memory. What holds this place is known.
 fn answer_from_set(
     alloc: Global,
-    book: &CopyBook,
+    book: &Routing,
     name: &Source,
     moment: &Moment,
     request: &Request,

@@ -1,7 +1,7 @@
 //! The two copies, as the desk holds them.
 ghost use Rattle.std.specs.Prelude.{◌≡◌, drop, MatchResult};
 ghost use Rattle.lost_desk.specs.declared.version.Operation.TheVariants.{Mark};
-ghost use Rattle.lost_desk.specs.Held.{MayFollow, next_of, with_published, with_waiting};
+ghost use Rattle.lost_desk.specs.States.{MayFollow, next_of, with_published, with_waiting};
 
 use crate::rule::{OneList, Showing};
 use crate::version::{Operation, Version};
@@ -23,7 +23,7 @@ pub struct Copies {
 
 impl Model for Copies {
     ghost use Rattle.std.specs.Prelude.{drop};
-    ghost use Rattle.lost_desk.specs.Held.{CopiesSeen, copies_seen, IsThere};
+    ghost use Rattle.lost_desk.specs.States.{CopiesSeen, copies_seen, IsThere};
 
     ghost Value = { CopiesSeen };
 

@@ -2,12 +2,11 @@
 ghost use Rattle.std.specs.Prelude.{◌≡◌, ◌≢◌, ◌<◌, [], None, Some, length, MatchBool, IfOk, IfErr, IsOk, OnOk, OnErr};
 ghost use Rattle.lost_spec.specs.Laws.{BeginsWith};
 ghost use Rattle.lost_spec.specs.Book.{refusal, empty_book};
-ghost use Rattle.lost_book.specs.Edit.{edit_of};
+ghost use Rattle.lost_message.specs.Edit.{edit_of};
 ghost use Rattle.lost_history.specs.History.{beginning};
 ghost use Rattle.lost_desk.specs.Seen.{new_desk, staged_book, with_staged, with_committed};
 ghost use Rattle.lost_desk.specs.Copies.{first_version};
 
-use crate::CopyBook;
 use crate::announce::announce;
 use crate::copies::Copies;
 use crate::faults::CommitError;
@@ -15,6 +14,7 @@ use crate::queue::publish_all;
 use crate::told::Told;
 use lost_book::{Edit, EditError};
 use lost_history::{Front, Head};
+use lost_routing::Routing;
 use std::collections::VecDeque;
 use std::marker::{Brand, Model};
 use std::sync::Wait;
@@ -26,7 +26,7 @@ pub struct Desk {
     /// Edits that the copies do not have yet, behind those that they have.
     queue: VecDeque<Edit>,
     /// The book of all edits, published and pending.
-    ahead: CopyBook,
+    ahead: Routing,
     /// How far the history goes.
     front: Front,
     head: Head,
@@ -34,7 +34,7 @@ pub struct Desk {
 
 impl Model for Desk {
     ghost use Rattle.lost_desk.specs.Seen.{DeskSeen};
-    ghost use Rattle.lost_desk.specs.Held.{desk_seen, IsDesk};
+    ghost use Rattle.lost_desk.specs.States.{desk_seen, IsDesk};
 
     ghost Value = { DeskSeen };
 
@@ -139,7 +139,7 @@ impl Desk {
     pub(crate) fn of(
         copies: Copies,
         queue: VecDeque<Edit>,
-        ahead: CopyBook,
+        ahead: Routing,
         front: Front,
         head: Head,
     ) -> Desk

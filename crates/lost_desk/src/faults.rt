@@ -1,7 +1,5 @@
 //! Why a desk cannot be opened, or cannot commit.
-ghost use Rattle.std.specs.Prelude.{◌≡◌};
-ghost use Rattle.lost_desk.specs.Codes.{open_code, commit_code};
-
+use lost_spec::Coded;
 use std::alloc::AllocError;
 use thiserror::Error;
 
@@ -14,11 +12,13 @@ pub enum OpenError {
     Memory,
 }
 
-impl OpenError {
-    /// The number of the refusal, 1 or 2.
-    pub fn code(self) -> u8
-        ensures { result ≡ open_code self }
-    {
+/// The number of the refusal, 1 or 2.
+impl Coded for OpenError {
+    ghost use Rattle.lost_desk.specs.Codes.{open_code};
+
+    ghost code_of = { open_code };
+
+    fn code(self) -> u8 {
         match self {
             OpenError::Workers => 1,
             OpenError::Memory => 2,
@@ -44,11 +44,13 @@ pub enum CommitError {
     Memory,
 }
 
-impl CommitError {
-    /// The number of the refusal, 1.
-    pub fn code(self) -> u8
-        ensures { result ≡ commit_code self }
-    {
+/// The number of the refusal, 1.
+impl Coded for CommitError {
+    ghost use Rattle.lost_desk.specs.Codes.{commit_code};
+
+    ghost code_of = { commit_code };
+
+    fn code(self) -> u8 {
         match self {
             CommitError::Memory => 1,
         }

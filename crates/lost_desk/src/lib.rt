@@ -21,7 +21,6 @@ mod view;
 mod with_holders;
 
 /// The book in each copy.
-pub type CopyBook = lost_routing::Routing;
 
 pub use desk::Desk;
 pub use faults::{CommitError, OpenError};

@@ -3,16 +3,16 @@ ghost use Rattle.std.specs.Prelude.{◌≡◌, ◌<◌, IfOk, length, filter};
 ghost use Rattle.std.specs.List.{All};
 ghost use Rattle.lost_desk.specs.Sets.{is_living_at};
 
-use crate::CopyBook;
 use lost_mapping::Moment;
 use lost_query::Positions;
+use lost_routing::Routing;
 use std::alloc::{AllocError, Global};
 
 /// Those of the positions whose mappings are live and are no defaults, in their order, or want of memory. The positions
 /// are below the book's `len`; up to eight of them take no memory.
 pub(crate) fn living_among(
     alloc: Global,
-    book: &CopyBook,
+    book: &Routing,
     moment: &Moment,
     positions: &[usize],
 ) -> Result<Positions, AllocError>

@@ -5,7 +5,6 @@ ghost use Rattle.lost_desk.specs.Seen.{new_desk, new_reader};
 ghost use Rattle.lost_desk.specs.Copies.{first_version};
 ghost use Rattle.lost_desk.specs.Rule.{named, IsNewWriter, reader_of};
 
-use crate::CopyBook;
 use crate::copies::{Copies, CopyWriter};
 use crate::desk::Desk;
 use crate::faults::OpenError;
@@ -15,7 +14,8 @@ use crate::rule::{Meeting, Naming, Telling};
 use crate::version::Version;
 use lost_book::Limits;
 use lost_history::{Front, open_history};
-use lost_tokens::Scratch;
+use lost_routing::Routing;
+use lost_tape::Scratch;
 use std::alloc::{AllocError, Global};
 use std::collections::VecDeque;
 use std::snapshot::Snapshot;
@@ -47,7 +47,7 @@ pub fn open_desk<R: Wait>(
         return Err(OpenError::Workers);
     }
     let (head, front) = open_history();
-    let ahead = CopyBook::new(alloc, limits)?;
+    let ahead = Routing::new(alloc, limits)?;
     let (copies, readers) = open_copies(rt, alloc, limits, &front, workers)?;
     let desk = Desk::of(copies, VecDeque::new(alloc), ahead, front, head);
     Ok((desk, readers))
@@ -106,7 +106,7 @@ fn open_version(alloc: Global, limits: Limits, front: &Front) -> Result<Version,
     ensures { IfOk result (λ v. v ≡ first_version front.now.opening limits) }
 {
     Ok(Version {
-        book: CopyBook::new(alloc, limits)?,
+        book: Routing::new(alloc, limits)?,
         front: front.again(),
     })
 }

@@ -14,7 +14,7 @@ use crate::sets::PlaceSets;
 use crate::version::Version;
 use lost_history::Front;
 use lost_mapping::{Moment, Source};
-use lost_tokens::Scratch;
+use lost_tape::Scratch;
 use std::alloc::{AllocError, Global};
 
 impl Reader {

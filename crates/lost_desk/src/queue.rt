@@ -1,7 +1,7 @@
 //! How the queue of edits goes into the copies and is published with them.
 ghost use Rattle.std.specs.Prelude.{◌≡◌, ◌+◌, ◌<◌, [], length, MatchResult, OnOk};
 ghost use Rattle.lost_desk.specs.Copies.{edits_in};
-ghost use Rattle.lost_desk.specs.Held.{IsReady, pending_of, published_version};
+ghost use Rattle.lost_desk.specs.States.{IsReady, pending_of, published_version};
 
 use crate::copies::Copies;
 use crate::version::Operation;

@@ -6,7 +6,7 @@ ghost use Rattle.lost_history.specs.History.{longer};
 ghost use Rattle.lost_json.specs.Line.{line_reply};
 ghost use Rattle.left_right.specs.Sides.{view};
 ghost use Rattle.lost_desk.specs.Seen.{seen_book, with_seen};
-ghost use Rattle.lost_desk.specs.Held.{IsSeated, reader_seen};
+ghost use Rattle.lost_desk.specs.States.{IsSeated, reader_seen};
 
 use crate::answering::reply_over;
 use crate::rule::{Entering, OneList};
@@ -15,7 +15,7 @@ use crate::version::Version;
 use crate::view::View;
 use lost_history::Front;
 use lost_mapping::{Moment, Source};
-use lost_tokens::Scratch;
+use lost_tape::Scratch;
 use std::alloc::{AllocError, Global};
 use std::marker::Model;
 
@@ -35,7 +35,7 @@ pub struct Reader {
 impl Model for Reader {
     ghost use Rattle.left_right.specs.Sides as sides;
     ghost use Rattle.lost_desk.specs.Seen.{ReaderSeen};
-    ghost use Rattle.lost_desk.specs.Held.{reader_seen, IsReader};
+    ghost use Rattle.lost_desk.specs.States.{reader_seen, IsReader};
 
     ghost Value = { ReaderSeen };
 

@@ -1,18 +1,15 @@
 //! A copy of what is held, and how it takes in what is published.
-ghost use Rattle.std.specs.Prelude.{◌≡◌, OnOk, OnErr};
-ghost use Rattle.lost_spec.specs.Book.{after};
-ghost use Rattle.lost_book.specs.Edit.{edit_of};
 
-use crate::CopyBook;
 use left_right::Absorb;
-use lost_book::{Edit, EditError};
+use lost_book::Edit;
 use lost_history::Front;
+use lost_routing::Routing;
 use std::alloc::AllocError;
 
 /// One of the two copies: the book that readers ask, and the list of edits whose book it is.
 #[derive(Drop)]
 pub struct Version {
-    pub(crate) book: CopyBook,
+    pub(crate) book: Routing,
     pub(crate) front: Front,
 }
 
@@ -36,26 +33,11 @@ impl Absorb<Operation> for Version {
 
     fn absorb_first(&mut self, operation: &Operation, _other: &Version) -> Result<(), AllocError> {
         match operation {
-            Operation::Change(edit) => change(&mut self.book, edit),
+            Operation::Change(edit) => self.book.absorb(edit),
             Operation::Mark(front) => {
                 self.front = front.again();
                 Ok(())
             }
         }
-    }
-}
-
-/// Applies an edit to a copy's book. An edit that the book refuses changes nothing.
-///
-/// # Errors
-///
-/// Want of memory. The book is then unchanged.
-fn change(book: &mut CopyBook, edit: &Edit) -> Result<(), AllocError>
-    ensures changed { OnOk result (book.new ≡ after book.old (edit_of edit.now)) }
-    ensures unchanged { OnErr result (book.new ≡ book.old) }
-{
-    match book.apply(edit.clone()?) {
-        Err(EditError::Memory) => Err(AllocError),
-        _ => Ok(()),
     }
 }

@@ -5,11 +5,11 @@ ghost use Rattle.std.specs.Option.{option_copied};
 ghost use Rattle.lost_spec.specs.Holders.{holders_of};
 ghost use Rattle.lost_query.specs.Place.{place_of};
 
-use crate::CopyBook;
 use crate::living::living_among;
 use lost_civic::{CivicAddress, Element};
 use lost_mapping::{Mapping, Moment};
 use lost_query::{Holdings, Place, Positions};
+use lost_routing::Routing;
 use lost_urn::ServiceUrn;
 use std::alloc::{AllocError, Global};
 
@@ -18,7 +18,7 @@ use std::alloc::{AllocError, Global};
 #[derive(Drop)]
 pub(crate) struct WithHolders<'a> {
     pub(crate) alloc: Global,
-    pub(crate) book: &'a CopyBook,
+    pub(crate) book: &'a Routing,
     pub(crate) place: &'a Place,
     pub(crate) holders: &'a [usize],
     ghost right: { holders.now ≡ holders_of book.now (place_of place.now) },

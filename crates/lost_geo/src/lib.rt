@@ -6,7 +6,7 @@
 pub use bounds::Bounds;
 pub use lost_spec::faults::{GeoError, RingError};
 pub use point::GeoPoint;
-pub use polygon::Polygon;
+pub use polygon::{MAX_POSITIONS, MIN_POSITIONS, Polygon};
 pub use positions::{Positions, is_ring, is_ring_of};
 
 mod bounds;

@@ -14,10 +14,10 @@ use std::alloc::{AllocError, Global};
 use std::marker::Model;
 
 /// The fewest positions of a ring.
-pub(crate) const MIN_POSITIONS: usize = 4;
+pub const MIN_POSITIONS: usize = 4;
 
 /// The most positions of a ring.
-pub(crate) const MAX_POSITIONS: usize = 4096;
+pub const MAX_POSITIONS: usize = 4096;
 
 /// The area that one exterior ring bounds (RFC 5222, section 12.2). The plane is flat, and inside is by the even-odd
 /// rule; orientation and self-crossing are not examined (own rules). Contracts see it as the list of its positions.

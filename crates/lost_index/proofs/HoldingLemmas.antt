@@ -18,11 +18,11 @@ use Rattle.std.proofs.lemmas.Bool.Decides.{nat_tests}
 use Rattle.std.proofs.lemmas.List.Folds.{list_any-append, Any-from_list_any}
 use Rattle.std.proofs.lemmas.Map.Views.{any-filter_same, Contains-from_any, list_any-from_Contains, btree_map_contains_key_iff, btree_map_get_iff}
 use Rattle.lost_profile.specs.Keys.{SharesKey}
-use Rattle.lost_index.specs.Held.{numbers, holders}
+use Rattle.lost_index.specs.Entries.{numbers, holders}
 use Rattle.lost_index.specs.declared.note.Note.{Note}
 use Rattle.lost_index.specs.Notes.{notes_of, is_note, has_note, numbers_that_pass, is_holder, IsIndexed}
-use Rattle.lost_index.proofs.HeldLemmas.{at_same}
-use Rattle.lost_index.proofs.NotingLemmas.{any-from_contained}
+use Rattle.lost_index.proofs.EntryLemmas.{at_same}
+use Rattle.lost_index.proofs.NoteChangeLemmas.{any-from_contained}
 
 same_number : (n k : ℕ) → nat_eq n k ≡ true → n ≡ k
 same_number n k same = search (arith, nat_tests)
@@ -170,7 +170,7 @@ module _ {R L K O S : Type 0} (is_region : R → Type 0) (cover_of : R → List 
       let shared = meets any.1 is_one any.4 in
       passes_found near passes n (λ key. notes_of (get eq cells key)) probes same (outline_of any.1) shared.key
       (λ o equal. sym (alike_near (outline_of any.1) o equal) ∙ is_near any.1 is_one any.4) h shared.in_right
-      (indexed.are_noted n there.0 there.1 shared.key (outline_of any.1)
+      (indexed.have_notes n there.0 there.1 shared.key (outline_of any.1)
       (record { region = any.1; stands = stands; covered = shared.in_left; outlined = refl }))
 
   alike : All (λ e. passes e.0 ≡ some_holds e.1) held.entries

@@ -1,8 +1,8 @@
-pub mod NotingLemmas
+pub mod NoteChangeLemmas
 pub mod NoteLemmas
 pub mod CellLemmas
 pub mod CutLemmas
-pub mod HeldLemmas
+pub mod EntryLemmas
 pub mod IndexLemmas
 pub mod FilterLemmas
 pub mod HoldingLemmas

@@ -6,7 +6,7 @@ use Rattle.std.proofs.lemmas.Bool.Decides.{nat_tests}
 use Rattle.std.proofs.lemmas.List.Sorted.{IsPermutation-insert, IsPermutation-remove, list_any-IsPermutation}
 use Rattle.lost_index.specs.declared.note.Note.{Note}
 use Rattle.lost_index.specs.Notes.{is_note, has_note}
-use Rattle.lost_index.proofs.NotingLemmas.{any-from_contained}
+use Rattle.lost_index.proofs.NoteChangeLemmas.{any-from_contained}
 
 or_right : (a b : Bool) → b ≡ true → (a || b) ≡ true
 or_right true b h = refl
@@ -76,11 +76,11 @@ module _ {O : Type 0} (same : O → O → Bool) where
       left_fails (nat_eq other note.number) (same outline note.outline) (apart_too number other note.number here apart)
 
   -- a note whose outline no region under the key has is the note of none of them
-  pub still_fails : {R : Type 0} (outline_of : R → O) (has_key : R → Bool) (still : List R) (region : R) (other : ℕ) (note : Note O)
-      → list_any (λ r. same (outline_of r) note.outline && has_key r) still ≡ false → Contains still region → has_key region ≡ true
+  pub still_fails : {R : Type 0} (outline_of : R → O) (has_key : R → Bool) (remaining : List R) (region : R) (other : ℕ) (note : Note O)
+      → list_any (λ r. same (outline_of r) note.outline && has_key r) remaining ≡ false → Contains remaining region → has_key region ≡ true
       → is_note same other (outline_of region) note ≡ false
-  still_fails outline_of has_key still region other note none stands has =
+  still_fails outline_of has_key remaining region other note none stands has =
       right_fails (nat_eq other note.number) (same (outline_of region) note.outline)
-      (fails_from (same (outline_of region) note.outline) (list_any (λ r. same (outline_of r) note.outline && has_key r) still) none
-      (λ alike. any-from_contained (λ r. same (outline_of r) note.outline && has_key r) still region stands
+      (fails_from (same (outline_of region) note.outline) (list_any (λ r. same (outline_of r) note.outline && has_key r) remaining) none
+      (λ alike. any-from_contained (λ r. same (outline_of r) note.outline && has_key r) remaining region stands
       (both (same (outline_of region) note.outline) (has_key region) alike has)))

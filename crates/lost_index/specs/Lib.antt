@@ -1,2 +1,2 @@
 pub mod Notes
-pub mod Held
+pub mod Entries

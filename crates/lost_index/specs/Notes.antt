@@ -30,27 +30,27 @@ pub record IsUnder {R K O : Type 0} (cover_of : R → List K) (outline_of : R �
 
 module _ {K O S : Type 0} (eq : K → K → Bool) (same : O → O → Bool) where
   -- the number is noted under the key, with an equal outline
-  abbrev pub IsNoted : HashMap K (List (Note O)) S → K → ℕ → O → Type 0
-  IsNoted cells key number outline = has_note same number outline (notes_of (get eq cells key)) ≡ true
+  abbrev pub HasNote : HashMap K (List (Note O)) S → K → ℕ → O → Type 0
+  HasNote cells key number outline = has_note same number outline (notes_of (get eq cells key)) ≡ true
 
   -- what was noted is
   abbrev pub KeepsNotes : HashMap K (List (Note O)) S → HashMap K (List (Note O)) S → Type 0
-  KeepsNotes old new = (key : K) (number : ℕ) (outline : O) → IsNoted old key number outline → IsNoted new key number outline
+  KeepsNotes old new = (key : K) (number : ℕ) (outline : O) → HasNote old key number outline → HasNote new key number outline
 
   -- what was noted of other numbers is
   abbrev pub KeepsOthers : ℕ → HashMap K (List (Note O)) S → HashMap K (List (Note O)) S → Type 0
   KeepsOthers gone old new = (key : K) (number : ℕ) (outline : O) → nat_eq gone number ≡ false
-      → IsNoted old key number outline → IsNoted new key number outline
+      → HasNote old key number outline → HasNote new key number outline
 
   -- what was noted under these keys with these outlines is
   abbrev pub KeepsUnder : (K → O → Type 0) → HashMap K (List (Note O)) S → HashMap K (List (Note O)) S → Type 0
   KeepsUnder stays old new = (key : K) (number : ℕ) (outline : O) → stays key outline
-      → IsNoted old key number outline → IsNoted new key number outline
+      → HasNote old key number outline → HasNote new key number outline
 
   -- the number is noted under each key of the cover of each region, with the region's outline
-  abbrev pub AreNoted : {R : Type 0} → (R → List K) → (R → O) → ℕ → List R → HashMap K (List (Note O)) S → Type 0
-  AreNoted cover_of outline_of number regions cells = (key : K) (outline : O) → IsUnder cover_of outline_of regions key outline
-      → IsNoted cells key number outline
+  abbrev pub HaveNotes : {R : Type 0} → (R → List K) → (R → O) → ℕ → List R → HashMap K (List (Note O)) S → Type 0
+  HaveNotes cover_of outline_of number regions cells = (key : K) (outline : O) → IsUnder cover_of outline_of regions key outline
+      → HasNote cells key number outline
 
 -- whether the number is held, with a region that contains the location
 abbrev pub is_holder : {R L : Type 0} → (R → L → Bool) → L → BTreeMap ℕ (List R) → ℕ → Bool
@@ -66,5 +66,5 @@ pub record IsIndexed {R K O S : Type 0} (is_region : R → Type 0) (cover_of : R
     (same : O → O → Bool) (held : BTreeMap ℕ (List R)) (cells : HashMap K (List (Note O)) S) : Type 0 where
   pub are_regions : (number : ℕ) (regions : List R) → tree.get nat_cmp held number ≡ Some regions
       → (region : R) → Contains regions region → is_region region
-  pub are_noted : (number : ℕ) (regions : List R) → tree.get nat_cmp held number ≡ Some regions
-      → AreNoted eq same cover_of outline_of number regions cells
+  pub have_notes : (number : ℕ) (regions : List R) → tree.get nat_cmp held number ≡ Some regions
+      → HaveNotes eq same cover_of outline_of number regions cells

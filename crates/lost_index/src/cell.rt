@@ -4,7 +4,7 @@ ghost use Rattle.std.specs.List.{list_any};
 ghost use Rattle.lost_index.specs.Notes.{has_note};
 
 use crate::entry;
-use crate::kept::Kept;
+use crate::indexed_region::IndexedRegion;
 use crate::note::Note;
 use lost_profile::Profile;
 use std::alloc::{AllocError, Global};
@@ -67,30 +67,36 @@ impl<P: Profile> Cell<P> {
     }
 
     /// Takes the notes of a number out, but for the outlines of those regions in whose cover the key is.
-    pub(crate) fn remove(&mut self, number: u64, key: &P::Key, still: &[Kept<P>])
+    pub(crate) fn remove(&mut self, number: u64, key: &P::Key, remaining: &[IndexedRegion<P>])
         ensures others { (other : _) (outline : _) → nat_eq number other ≡ false → has_note P.Outline.eq other outline self.old ≡ true
             → has_note P.Outline.eq other outline self.new ≡ true }
-        ensures still { (other : _) (region : _) → Contains still.now region → list_any (P.Key.eq key.now) (P.cover_of region) ≡ true
+        ensures remaining { (other : _) (region : _) → Contains remaining.now region → list_any (P.Key.eq key.now) (P.cover_of region) ≡ true
             → has_note P.Outline.eq other (P.outline_of region) self.old ≡ true
             → has_note P.Outline.eq other (P.outline_of region) self.new ≡ true }
     {
         for position in (self.start_of(number)..self.end_of(number)).rev() {
-            self.remove_at(position, number, key, still);
+            self.remove_at(position, number, key, remaining);
         }
     }
 
     /// Takes the note at a position out, if it is of the number and of none of those regions in whose cover the key is.
-    fn remove_at(&mut self, position: usize, number: u64, key: &P::Key, still: &[Kept<P>])
+    fn remove_at(
+        &mut self,
+        position: usize,
+        number: u64,
+        key: &P::Key,
+        remaining: &[IndexedRegion<P>],
+    )
         ensures others { (other : _) (outline : _) → nat_eq number other ≡ false → has_note P.Outline.eq other outline self.old ≡ true
             → has_note P.Outline.eq other outline self.new ≡ true }
-        ensures still { (other : _) (region : _) → Contains still.now region → list_any (P.Key.eq key.now) (P.cover_of region) ≡ true
+        ensures remaining { (other : _) (region : _) → Contains remaining.now region → list_any (P.Key.eq key.now) (P.cover_of region) ≡ true
             → has_note P.Outline.eq other (P.outline_of region) self.old ≡ true
             → has_note P.Outline.eq other (P.outline_of region) self.new ≡ true }
     {
         let Some(note) = self.notes.get(position) else {
             return;
         };
-        if note.number == number && !entry::is_noted(still, key, &note.outline) {
+        if note.number == number && !entry::covers_with(remaining, key, &note.outline) {
             self.notes.remove(position);
         }
     }

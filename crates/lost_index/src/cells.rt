@@ -1,23 +1,23 @@
 //! The cells: the notes under each key.
 ghost use Rattle.std.specs.Prelude.{◌≡◌, [], OnOk, IsTrue};
 ghost use Rattle.std.specs.HashMap.{get};
-ghost use Rattle.lost_index.specs.Notes.{notes_of, IsNoted, IsUnder, KeepsNotes, KeepsOthers, KeepsUnder};
+ghost use Rattle.lost_index.specs.Notes.{notes_of, HasNote, IsUnder, KeepsNotes, KeepsOthers, KeepsUnder};
 
 use crate::cell::Cell;
-use crate::kept::Kept;
+use crate::indexed_region::IndexedRegion;
 use crate::note::Note;
 use lost_profile::Profile;
 use std::alloc::{AllocError, Global};
 use std::collections::HashMap;
 
 /// Puts a note under a key, or want of memory. What was noted stays.
-pub(crate) fn note<P: Profile>(
+pub(crate) fn add_note<P: Profile>(
     cells: &mut HashMap<P::Key, Cell<P>>,
     alloc: Global,
     key: P::Key,
     note: Note<P::Outline>,
 ) -> Result<(), AllocError>
-    ensures noted { OnOk result (IsNoted P.Key.eq P.Outline.eq cells.new key note.number note.outline) }
+    ensures added { OnOk result (HasNote P.Key.eq P.Outline.eq cells.new key note.number note.outline) }
     ensures keeps { KeepsNotes P.Key.eq P.Outline.eq cells.old cells.new }
 {
     if let Some(cell) = cells.get_mut(&key) {
@@ -27,37 +27,37 @@ pub(crate) fn note<P: Profile>(
     Ok(())
 }
 
-/// Takes the notes of a number under a key back, but for those of the regions `still`, and the cell with them where
+/// Takes the notes of a number under a key back, but for those of the regions `remaining`, and the cell with them where
 /// nothing else is noted there.
-pub(crate) fn unnote<P: Profile>(
+pub(crate) fn remove_note<P: Profile>(
     cells: &mut HashMap<P::Key, Cell<P>>,
     key: &P::Key,
     number: u64,
-    still: &[Kept<P>],
+    remaining: &[IndexedRegion<P>],
 )
     ensures others { KeepsOthers P.Key.eq P.Outline.eq number cells.old cells.new }
-    ensures still { KeepsUnder P.Key.eq P.Outline.eq (IsUnder P.cover_of P.outline_of still.now) cells.old cells.new }
+    ensures remaining { KeepsUnder P.Key.eq P.Outline.eq (IsUnder P.cover_of P.outline_of remaining.now) cells.old cells.new }
 {
-    if remove_from_cell(cells, key, number, still) {
+    if remove_from_cell(cells, key, number, remaining) {
         cells.remove(key);
     }
 }
 
-/// Takes the notes of a number out of the cell of a key, but for those of the regions `still`, and says whether the cell
+/// Takes the notes of a number out of the cell of a key, but for those of the regions `remaining`, and says whether the cell
 /// is then empty.
 fn remove_from_cell<P: Profile>(
     cells: &mut HashMap<P::Key, Cell<P>>,
     key: &P::Key,
     number: u64,
-    still: &[Kept<P>],
+    remaining: &[IndexedRegion<P>],
 ) -> bool
     ensures others { KeepsOthers P.Key.eq P.Outline.eq number cells.old cells.new }
-    ensures still { KeepsUnder P.Key.eq P.Outline.eq (IsUnder P.cover_of P.outline_of still.now) cells.old cells.new }
+    ensures remaining { KeepsUnder P.Key.eq P.Outline.eq (IsUnder P.cover_of P.outline_of remaining.now) cells.old cells.new }
     ensures empty { IsTrue result → notes_of (get P.Key.eq cells.new key.now) ≡ [] }
 {
     let Some(cell) = cells.get_mut(key) else {
         return false;
     };
-    cell.remove(number, key, still);
+    cell.remove(number, key, remaining);
     cell.is_empty()
 }

@@ -2,7 +2,7 @@
 ghost use Rattle.std.specs.Prelude.{◌≡◌, ◌≤◌, ◌++◌, ◌&&◌, [], length, All, IfOk, OnOk, OnErr};
 ghost use Rattle.std.specs.List.{list_any, slice_range};
 
-use crate::kept::Kept;
+use crate::indexed_region::IndexedRegion;
 use lost_profile::Profile;
 use std::alloc::{AllocError, Global};
 use std::marker::Model;
@@ -10,7 +10,7 @@ use std::marker::Model;
 /// The regions of one number, in order. Contracts see it as their list.
 #[derive(Drop)]
 pub(crate) struct Entry<P: Profile> {
-    kept: Vec<Kept<P>>,
+    kept: Vec<IndexedRegion<P>>,
 }
 
 impl<P: Profile> Model for Entry<P> {
@@ -29,13 +29,13 @@ impl<P: Profile> Entry<P> {
     {
         let mut kept = Vec::with_capacity(alloc, regions.len())?;
         for region in regions {
-            kept.push(Kept::new(alloc, region)?)?;
+            kept.push(IndexedRegion::new(alloc, region)?)?;
         }
         Ok(Entry { kept })
     }
 
     /// The regions as they are kept.
-    pub(crate) fn kept(&self) -> &[Kept<P>]
+    pub(crate) fn kept(&self) -> &[IndexedRegion<P>]
         ensures { result.now ≡ self.now }
     {
         &self.kept
@@ -77,12 +77,16 @@ impl<P: Profile> Entry<P> {
 }
 
 /// Whether the key is in the cover of some region with an outline that is equal to this one.
-pub(crate) fn is_noted<P: Profile>(kept: &[Kept<P>], key: &P::Key, outline: &P::Outline) -> bool
+pub(crate) fn covers_with<P: Profile>(
+    kept: &[IndexedRegion<P>],
+    key: &P::Key,
+    outline: &P::Outline,
+) -> bool
     ensures { result ≡ list_any
         (λ region. P.Outline.eq (P.outline_of region) outline.now && list_any (P.Key.eq key.now) (P.cover_of region)) kept.now }
 {
     for one in kept {
-        if one.is_noted(key, outline) {
+        if one.covers_with(key, outline) {
             return true;
         }
     }

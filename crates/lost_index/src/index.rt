@@ -2,12 +2,12 @@
 ghost use Rattle.std.specs.Prelude.{◌≡◌, ◌≤◌, ◌++◌, ◌∷◌, [], IfOk, OnOk, OnErr};
 ghost use Rattle.std.specs.List.{slice_range};
 ghost use Rattle.std.specs.List.Sorted.{IsStrictlyIncreasing};
-ghost use Rattle.lost_index.specs.Held.{numbers, IsHeld, IsAbove, HasRegions, with_number, without, holders};
+ghost use Rattle.lost_index.specs.Entries.{numbers, IsHeld, IsAbove, HasRegions, with_number, without, holders};
 
 use crate::cell::Cell;
 use crate::entry::Entry;
-use crate::kept::Kept;
-use crate::{held, noting, search};
+use crate::indexed_region::IndexedRegion;
+use crate::{entries, notes, search};
 use lost_profile::Profile;
 use std::alloc::{AllocError, Global};
 use std::collections::{BTreeMap, HashMap};
@@ -53,15 +53,15 @@ impl<P: Profile> Index<P> {
         ensures refused { OnErr result (self.new ≡ self.old) }
     {
         let entry = Entry::new(self.alloc, regions)?;
-        noting::note_new(
+        notes::add_notes(
             &mut self.cells,
             self.alloc,
             number,
             entry.kept(),
             none(entry.kept()),
         )?;
-        if let Err(entry) = held::put(&mut self.held, number, entry) {
-            noting::take_back(&mut self.cells, number, entry.kept(), none(entry.kept()));
+        if let Err(entry) = entries::put(&mut self.held, number, entry) {
+            notes::remove_notes(&mut self.cells, number, entry.kept(), none(entry.kept()));
             return Err(AllocError);
         }
         Ok(())
@@ -75,11 +75,11 @@ impl<P: Profile> Index<P> {
         ensures refused { OnErr result (self.new ≡ self.old) }
     {
         let mut entry = Entry::new(self.alloc, regions)?;
-        let still = held::kept_of(&self.held, number);
-        noting::note_new(&mut self.cells, self.alloc, number, entry.kept(), still)?;
-        if let Err(refused) = held::append(&mut self.held, number, &mut entry) {
-            let still = held::kept_of(&self.held, number);
-            noting::take_back(&mut self.cells, number, entry.kept(), still);
+        let remaining = entries::kept_of(&self.held, number);
+        notes::add_notes(&mut self.cells, self.alloc, number, entry.kept(), remaining)?;
+        if let Err(refused) = entries::append(&mut self.held, number, &mut entry) {
+            let remaining = entries::kept_of(&self.held, number);
+            notes::remove_notes(&mut self.cells, number, entry.kept(), remaining);
             return Err(refused);
         }
         Ok(())
@@ -93,9 +93,9 @@ impl<P: Profile> Index<P> {
         requires within { HasRegions to number self.old }
         ensures { self.new ≡ with_number number (λ held. slice_range held from to) self.old }
     {
-        let kept = held::kept_of(&self.held, number);
-        noting::take_rest_back(&mut self.cells, number, kept, from, to);
-        held::cut(&mut self.held, number, from, to);
+        let kept = entries::kept_of(&self.held, number);
+        notes::remove_rest_notes(&mut self.cells, number, kept, from, to);
+        entries::cut(&mut self.held, number, from, to);
     }
 
     /// Takes a number that is held out, with its regions. It takes no memory.
@@ -106,7 +106,7 @@ impl<P: Profile> Index<P> {
         let Some(entry) = self.held.remove(&number) else {
             unreachable!()
         };
-        noting::take_back(&mut self.cells, number, entry.kept(), none(entry.kept()));
+        notes::remove_notes(&mut self.cells, number, entry.kept(), none(entry.kept()));
     }
 
     /// The numbers with a region that contains the location, rising, each once. Or want of memory.
@@ -124,6 +124,6 @@ impl<P: Profile> Index<P> {
 }
 
 /// None of what is kept.
-fn none<P: Profile>(kept: &[Kept<P>]) -> &[Kept<P>] {
+fn none<P: Profile>(kept: &[IndexedRegion<P>]) -> &[IndexedRegion<P>] {
     &kept[..0]
 }

@@ -4,12 +4,12 @@
 
 mod cell;
 mod cells;
+mod entries;
 mod entry;
-mod held;
 mod index;
-mod kept;
+mod indexed_region;
 mod note;
-mod noting;
+mod notes;
 mod search;
 
 pub use index::Index;

@@ -1,1 +1,4 @@
 pub mod Line
+pub mod Outcome
+pub mod Step
+pub mod Stream

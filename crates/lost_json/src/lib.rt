@@ -1,11 +1,14 @@
-//! Lines of JSON (own format over RFC 5222): the line that answers a line. What reads lines and what writes them is passed
-//! on from the two crates below.
+//! Lines of JSON (own format over RFC 5222): the line that answers a line, and what a stream of desk lines and request lines
+//! is answered with, whatever its start and its limits. What reads lines and what writes them is passed on from the two
+//! crates below.
 #![tactic(auto)]
 
 mod line;
+mod replies;
 
 pub use line::{reply_line, reply_request};
 pub use lost_reading::{DeskFault, DeskLine, ReadError, read_desk, read_request};
 pub use lost_writing::{
     BAD_REQUEST, DeskReply, DeskText, INTERNAL_ERROR, law_constant_lines, write_desk, write_reply,
 };
+pub use replies::{bad_request, desk_answer, internal_error};

@@ -1,7 +1,7 @@
 //! The line that answers a line. Rules without a section are this profile's own.
 ghost use Rattle.std.specs.Prelude.{◌≡◌, Some, IfOk};
 ghost use Rattle.lost_spec.specs.Text.{Text};
-ghost use Rattle.lost_query.specs.Request.{request_of};
+ghost use Rattle.lost_message.specs.Request.{request_of};
 ghost use Rattle.lost_reading.specs.Requests.{line_request};
 ghost use Rattle.lost_json.specs.Line.{line_reply};
 

@@ -1,7 +1,5 @@
 //! Why a stream was not served to its end. Rules without a section are this profile's own.
-ghost use Rattle.std.specs.Prelude.{◌≡◌};
-ghost use Rattle.lost_lines.specs.Fault.{serve_code};
-
+use lost_spec::Coded;
 use thiserror::Error;
 
 /// Why a stream was not served to its end.
@@ -22,11 +20,13 @@ pub enum ServeError {
     Memory,
 }
 
-impl ServeError {
-    /// The number of the fault, from 1 to 4 in the order of the variants.
-    pub fn code(self) -> u8
-        ensures { result ≡ serve_code self }
-    {
+/// The number of the fault, from 1 to 4 in the order of the variants.
+impl Coded for ServeError {
+    ghost use Rattle.lost_lines.specs.Fault.{serve_code};
+
+    ghost code_of = { serve_code };
+
+    fn code(self) -> u8 {
         match self {
             ServeError::Read => 1,
             ServeError::Write => 2,

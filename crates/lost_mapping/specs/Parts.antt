@@ -41,8 +41,8 @@ parts_of parts = record {
 }
 
 -- parts where they lie, by what the items of their lists tell
-abbrev pub parts_told : {U R N : Type 0} → (U → Text) → (R → spec.Region) → (N → spec.DisplayName) → BorrowedParts U R N → spec.Parts
-parts_told uri_of region_of display_name_of parts = record {
+abbrev pub borrowed_parts_of : {U R N : Type 0} → (U → Text) → (R → spec.Region) → (N → spec.DisplayName) → BorrowedParts U R N → spec.Parts
+borrowed_parts_of uri_of region_of display_name_of parts = record {
   source = parts.source.now;
   source_id = parts.source_id.now;
   last_updated = parts.last_updated.now;

@@ -3,21 +3,21 @@
 ghost use Rattle.std.specs.Prelude.{◌≡◌};
 ghost use Rattle.std.specs.Result.{result_err};
 ghost use Rattle.lost_mapping.specs.Faults.{contact_fault, areas_fault};
-ghost use Rattle.lost_mapping.specs.Parts.{parts_told};
+ghost use Rattle.lost_mapping.specs.Parts.{borrowed_parts_of};
 
 use crate::number::is_number;
+use crate::part_items::PartItems;
 use crate::parts::BorrowedParts;
 use crate::regions::count_regions;
 use crate::shape::check_shape;
-use crate::telling::Telling;
 use crate::uris::are_uris;
 use lost_spec::faults::MappingError;
 
 /// Refuses bad URIs, and then a bad number.
-pub(crate) fn check_contact<T: Telling>(
+pub(crate) fn check_contact<T: PartItems>(
     parts: &BorrowedParts<'_, T::Uri, T::Region, T::DisplayName>,
 ) -> Result<(), MappingError>
-    ensures { result_err result ≡ contact_fault (parts_told T.uri_of T.region_of T.display_name_of parts.now) }
+    ensures { result_err result ≡ contact_fault (borrowed_parts_of T.uri_of T.region_of T.display_name_of parts.now) }
 {
     if !are_uris::<T>(parts.uris) {
         return Err(MappingError::BadUri);
@@ -29,10 +29,10 @@ pub(crate) fn check_contact<T: Telling>(
 }
 
 /// Refuses bad regions, and then what does not go together or is too much.
-pub(crate) fn check_areas<T: Telling>(
+pub(crate) fn check_areas<T: PartItems>(
     parts: &BorrowedParts<'_, T::Uri, T::Region, T::DisplayName>,
 ) -> Result<(), MappingError>
-    ensures { result_err result ≡ areas_fault (parts_told T.uri_of T.region_of T.display_name_of parts.now) }
+    ensures { result_err result ≡ areas_fault (borrowed_parts_of T.uri_of T.region_of T.display_name_of parts.now) }
 {
     let Some(counts) = count_regions::<T>(parts.regions) else {
         return Err(MappingError::BadRegion);

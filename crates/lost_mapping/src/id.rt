@@ -4,13 +4,13 @@ ghost use Rattle.std.specs.List.{list_all};
 ghost use Rattle.lost_spec.specs.Mapping.{is_id};
 
 /// The most bytes that a sourceId or a key has.
-const MAX_LEN: usize = 128;
+pub const MAX_ID_BYTES: usize = 128;
 
 /// Whether a text is a sourceId or a key: 1 to 128 bytes, none below 32 and none 127.
 pub(crate) fn is_id(text: &str) -> bool
     ensures { result ≡ is_id text.now }
 {
-    !text.is_empty() && text.len() <= MAX_LEN && has_id_bytes(text.as_bytes())
+    !text.is_empty() && text.len() <= MAX_ID_BYTES && has_id_bytes(text.as_bytes())
 }
 
 fn has_id_bytes(bytes: &[u8]) -> bool

@@ -8,14 +8,14 @@ ghost use Rattle.lost_spec.specs.Mapping.{is_source};
 use lost_urn::check_label;
 
 /// The most bytes that a source has.
-const MAX_LEN: usize = 253;
+pub const MAX_SOURCE_BYTES: usize = 253;
 
 /// Whether a text is a source: 1 to 253 bytes, and labels joined by single dots, in any case (RFC 5222, section 5.1;
 /// own spelling).
 pub(crate) fn is_source(text: &[u8]) -> bool
     ensures { result ≡ is_source text.now }
 {
-    !text.is_empty() && text.len() <= MAX_LEN && has_labels(text)
+    !text.is_empty() && text.len() <= MAX_SOURCE_BYTES && has_labels(text)
 }
 
 fn has_labels(text: &[u8]) -> bool

@@ -6,7 +6,7 @@ ghost use Rattle.lost_spec.specs.Mapping.{parts_fault, mapping_of, is_live};
 ghost use Rattle.lost_spec.specs.Book.{identity_of};
 ghost use Rattle.lost_mapping.specs.Expires.{expires_seen};
 ghost use Rattle.lost_mapping.specs.Faults.{Refuses};
-ghost use Rattle.lost_mapping.specs.Parts.{parts_of, parts_told, display_names_of};
+ghost use Rattle.lost_mapping.specs.Parts.{parts_of, borrowed_parts_of, display_names_of};
 ghost use Rattle.lost_mapping.specs.Shape.{IsShaped};
 ghost use Rattle.lost_mapping.specs.Texts.{texts_of};
 
@@ -15,10 +15,10 @@ use crate::expires::Expires;
 use crate::head::Head;
 use crate::identity::Identity;
 use crate::moment::Moment;
+use crate::part_items::PartItems;
 use crate::parts::{BorrowedParts, DisplayName, Parts};
 use crate::regions::Areas;
 use crate::stamp::Stamp;
-use crate::telling::Telling;
 use lost_civic::CivicPattern;
 use lost_geo::Polygon;
 use lost_spec::faults::MappingError;
@@ -111,10 +111,10 @@ impl Mapping {
     /// # Errors
     ///
     /// Those of `build`, but for [`MappingError::Memory`].
-    pub fn check<T: Telling>(
+    pub fn check<T: PartItems>(
         parts: &BorrowedParts<'_, T::Uri, T::Region, T::DisplayName>,
     ) -> Result<(), MappingError>
-        ensures { result_err result ≡ parts_fault (parts_told T.uri_of T.region_of T.display_name_of parts.now) }
+        ensures { result_err result ≡ parts_fault (borrowed_parts_of T.uri_of T.region_of T.display_name_of parts.now) }
     {
         Head::check(
             parts.source,

@@ -5,7 +5,7 @@ ghost use Rattle.std.specs.Option.{option_copied};
 ghost use Rattle.lost_spec.specs.Mapping.{is_number as is_number_text, is_dial_byte as is_dial_byte_code};
 
 /// The most bytes that a service number has.
-const MAX_LEN: usize = 64;
+pub const MAX_NUMBER_BYTES: usize = 64;
 
 /// Whether a service number, where there is one, has 1 to 64 digits, stars and hashes (RFC 5222, section 5.7; the
 /// length is an own rule).
@@ -16,7 +16,7 @@ pub(crate) fn is_number(number: Option<&str>) -> bool
     let Some(text) = number else {
         return true;
     };
-    !text.is_empty() && text.len() <= MAX_LEN && has_only_dial_bytes(text.as_bytes())
+    !text.is_empty() && text.len() <= MAX_NUMBER_BYTES && has_only_dial_bytes(text.as_bytes())
 }
 
 fn has_only_dial_bytes(text: &[u8]) -> bool

@@ -30,11 +30,11 @@ pub struct Parts {
 
 impl Parts {
     ghost use Rattle.std.specs.Prelude.{◌≡◌, string_bytes};
-    ghost use Rattle.lost_mapping.specs.Parts.{region_of, display_name_of, parts_of, parts_told};
+    ghost use Rattle.lost_mapping.specs.Parts.{region_of, display_name_of, parts_of, borrowed_parts_of};
 
     /// The same parts, borrowed.
     pub fn borrowed(&self) -> BorrowedParts<'_, String, Region, DisplayName>
-        ensures { parts_told string_bytes region_of display_name_of result ≡ parts_of self.now }
+        ensures { borrowed_parts_of string_bytes region_of display_name_of result ≡ parts_of self.now }
     {
         BorrowedParts {
             source: self.source.as_str(),

@@ -9,8 +9,8 @@ ghost use Rattle.lost_mapping.specs.Faults.{Refuses, fault_if, regions_fault, is
 ghost use Rattle.lost_mapping.specs.Parts.{region_of, regions_of};
 ghost use Rattle.lost_mapping.specs.Regions.{region_counts};
 
+use crate::part_items::PartItems;
 use crate::parts::{Region, RegionKind};
-use crate::telling::Telling;
 use lost_civic::{CivicError, CivicPattern};
 use lost_geo::{GeoPoint, Polygon};
 use lost_spec::faults::MappingError;
@@ -85,7 +85,7 @@ pub(crate) struct Counts {
 
 /// How many regions are polygons and how many are patterns, or nothing where one of them cannot be read. It takes no
 /// memory.
-pub(crate) fn count_regions<T: Telling>(regions: &[T::Region]) -> Option<Counts>
+pub(crate) fn count_regions<T: PartItems>(regions: &[T::Region]) -> Option<Counts>
     ensures { result ≡ region_counts (map T.region_of regions.now) }
 {
     let mut counts = Counts {

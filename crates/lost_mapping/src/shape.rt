@@ -7,25 +7,25 @@ ghost use Rattle.lost_spec.specs.Mapping.{has_right_key as has_right_key_text};
 ghost use Rattle.lost_mapping.specs.Faults.{shape_fault, has_right_count as has_right_number, is_oversized as is_oversized_list};
 
 use crate::id::is_id;
+use crate::part_items::PartItems;
 use crate::regions::Counts;
-use crate::telling::Telling;
 use lost_spec::faults::MappingError;
 
 /// The most polygons that a mapping has.
-const MAX_POLYGONS: usize = 64;
+pub const MAX_POLYGONS: usize = 64;
 
 /// The most patterns that a mapping has.
-const MAX_PATTERNS: usize = 256;
+pub const MAX_PATTERNS: usize = 256;
 
 /// The most display names that a mapping has.
-const MAX_DISPLAY_NAMES: usize = 16;
+pub const MAX_DISPLAY_NAMES: usize = 16;
 
 /// The most bytes that the language or the text of a display name has.
-const MAX_DISPLAY_NAME_LEN: usize = 1024;
+pub const MAX_DISPLAY_NAME_BYTES: usize = 1024;
 
 /// Refuses a default with a region and another mapping without one, then what is too large, then a key that is bad,
 /// or missing, or stands at a default.
-pub(crate) fn check_shape<T: Telling>(
+pub(crate) fn check_shape<T: PartItems>(
     is_default: bool,
     regions: usize,
     counts: Counts,
@@ -57,7 +57,7 @@ fn has_right_count(is_default: bool, regions: usize) -> bool
 }
 
 #[tactic(auto, using(std::proofs::lemmas::Bool::Decides::nat_tests))]
-fn is_oversized<T: Telling>(counts: Counts, names: &[T::DisplayName]) -> bool
+fn is_oversized<T: PartItems>(counts: Counts, names: &[T::DisplayName]) -> bool
     ensures { result ≡ is_oversized_list counts.polygons counts.patterns (map T.display_name_of names.now) }
 {
     counts.polygons > MAX_POLYGONS
@@ -66,11 +66,11 @@ fn is_oversized<T: Telling>(counts: Counts, names: &[T::DisplayName]) -> bool
         || has_long_name::<T>(names)
 }
 
-fn has_long_name<T: Telling>(names: &[T::DisplayName]) -> bool
+fn has_long_name<T: PartItems>(names: &[T::DisplayName]) -> bool
     ensures { result ≡ list_any (λ name. nat_lt 1024 (length name.lang) || nat_lt 1024 (length name.text)) (map T.display_name_of names.now) }
 {
     names.iter().any(|name| {
-        T::lang(name).len() > MAX_DISPLAY_NAME_LEN || T::text(name).len() > MAX_DISPLAY_NAME_LEN
+        T::lang(name).len() > MAX_DISPLAY_NAME_BYTES || T::text(name).len() > MAX_DISPLAY_NAME_BYTES
     })
 }
 

@@ -5,27 +5,27 @@ ghost use Rattle.lost_spec.specs.Text.{lowered, is_between, is_among, has_repeat
 ghost use Rattle.lost_spec.specs.Mapping.{is_uri as is_uri_text, are_uris as are_uri_texts, is_scheme as is_scheme_text, is_scheme_byte as is_scheme_byte_code, scheme_of as scheme_of_text};
 ghost use Rattle.lost_mapping.specs.Texts.{schemes_of};
 
-use crate::telling::Telling;
+use crate::part_items::PartItems;
 
 /// The most bytes that a URI has.
-const MAX_LEN: usize = 2048;
+pub const MAX_URI_BYTES: usize = 2048;
 
 /// The most URIs that a mapping has.
-const MAX_COUNT: usize = 16;
+pub const MAX_URIS: usize = 16;
 
 /// Whether there are 1 to 16 URIs, and no scheme stands twice, in any case (RFC 5222, section 5.8; the number is an
 /// own rule). Schemes are compared only where the number is right, so the work stays linear in the bytes given.
 #[tactic(auto, using(std::proofs::lemmas::Bool::Decides::nat_tests))]
-pub(crate) fn are_uris<T: Telling>(uris: &[T::Uri]) -> bool
+pub(crate) fn are_uris<T: PartItems>(uris: &[T::Uri]) -> bool
     ensures { result ≡ are_uri_texts (map T.uri_of uris.now) }
 {
     !uris.is_empty()
-        && uris.len() <= MAX_COUNT
+        && uris.len() <= MAX_URIS
         && each_is_uri::<T>(uris)
         && !repeats_scheme::<T>(uris)
 }
 
-fn each_is_uri<T: Telling>(uris: &[T::Uri]) -> bool
+fn each_is_uri<T: PartItems>(uris: &[T::Uri]) -> bool
     ensures { result ≡ list_all is_uri_text (map T.uri_of uris.now) }
 {
     uris.iter().all(|uri| is_uri(T::uri(uri).as_bytes()))
@@ -38,7 +38,7 @@ pub(crate) fn is_uri(uri: &[u8]) -> bool
     ensures { result ≡ is_uri_text uri.now }
 {
     let scheme = scheme_of(uri);
-    if uri.len() > MAX_LEN || scheme.len() + 1 >= uri.len() {
+    if uri.len() > MAX_URI_BYTES || scheme.len() + 1 >= uri.len() {
         return false;
     }
     is_scheme(scheme) && is_visible(uri)
@@ -88,7 +88,7 @@ fn is_scheme_byte(byte: u8) -> bool
 }
 
 /// Whether a scheme stands twice, in any case. It takes the square of the number of URIs.
-fn repeats_scheme<T: Telling>(uris: &[T::Uri]) -> bool
+fn repeats_scheme<T: PartItems>(uris: &[T::Uri]) -> bool
     ensures { result ≡ has_repeat (schemes_of (map T.uri_of uris.now)) }
 {
     let mut rest = uris;
@@ -101,7 +101,7 @@ fn repeats_scheme<T: Telling>(uris: &[T::Uri]) -> bool
     false
 }
 
-fn has_scheme<T: Telling>(uris: &[T::Uri], scheme: &[u8]) -> bool
+fn has_scheme<T: PartItems>(uris: &[T::Uri], scheme: &[u8]) -> bool
     ensures { result ≡ is_among (lowered scheme.now) (schemes_of (map T.uri_of uris.now)) }
 {
     uris.iter().any(|uri| scheme.eq_ignore_ascii_case(scheme_of(T::uri(uri).as_bytes())))

@@ -28,10 +28,6 @@ is_some-copied (Some x) = refl
 
 -- ---- what stands behind references
 
-pub list_any-map : {X Y : Type 0} (test : Y → Bool) (f : X → Y) (xs : List X) → list_any (λ x. test (f x)) xs ≡ list_any test (map f xs)
-list_any-map test f [] = refl
-list_any-map test f (x ∷ xs) = ap (λ b. test (f x) || b) (list_any-map test f xs)
-
 -- what stands behind references, of which one more is pushed
 pub seen_push : {X : Type 0} (old new : List (Bor X)) (x : Bor X) → new ≡ old ++ x ∷ [] → map (λ (y : Bor X). y.now) new ≡ map (λ (y : Bor X). y.now) old ++ x.now ∷ []
 seen_push {X} old new x pushed = ap (map (λ (y : Bor X). y.now)) pushed ∙ map_push (λ (y : Bor X). y.now) old x

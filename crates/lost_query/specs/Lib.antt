@@ -1,9 +1,6 @@
 pub mod Children
 pub mod Judged
 pub mod Place
-pub mod Request
-pub mod Path
-pub mod Reply
 pub mod Used
 pub mod Finding
 pub mod Ask

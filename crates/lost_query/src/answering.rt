@@ -1,20 +1,18 @@
 //! The answer to a request.
 ghost use Rattle.std.specs.Prelude.{◌≡◌, IfOk};
 ghost use Rattle.lost_spec.specs.Answer.{answer, answer_by_kind};
-ghost use Rattle.lost_query.specs.Request.{request_of};
-ghost use Rattle.lost_query.specs.Reply.{reply_of};
-ghost use Rattle.lost_query.specs.Path.{shown_path};
+ghost use Rattle.lost_message.specs.Request.{request_of};
+ghost use Rattle.lost_message.specs.Reply.{reply_of};
+ghost use Rattle.lost_message.specs.Path.{shown_path};
 
 use crate::boundaries::get_boundary;
 use crate::find_service::{Ask, find_service};
 use crate::holdings::Holdings;
 use crate::lists::{list_anywhere, list_at};
-use crate::path::{Path, path_of};
 use crate::places::{Used, locate};
 use crate::refusals::refusal;
-use crate::reply::Reply;
-use crate::request::Request;
 use lost_mapping::{Moment, Source};
+use lost_message::{Path, Reply, Request, path_of};
 use lost_spec::answers::AnswerError;
 use std::alloc::{AllocError, Global};
 

@@ -2,14 +2,13 @@
 ghost use Rattle.std.specs.Prelude.{◌≡◌, IfOk};
 ghost use Rattle.lost_spec.specs.Services.{by_key};
 ghost use Rattle.lost_spec.specs.Answer.{boundary_reply};
-ghost use Rattle.lost_query.specs.Reply.{reply_of};
-ghost use Rattle.lost_query.specs.Path.{shown_path};
+ghost use Rattle.lost_message.specs.Reply.{reply_of};
+ghost use Rattle.lost_message.specs.Path.{shown_path};
 
 use crate::holdings::Holdings;
-use crate::path::Path;
 use crate::refusals::refusal;
-use crate::reply::Reply;
 use lost_mapping::Moment;
+use lost_message::{Path, Reply};
 use lost_spec::answers::AnswerError;
 use std::alloc::AllocError;
 

@@ -5,20 +5,19 @@ ghost use Rattle.lost_spec.specs.Find.{FoundHolders, FoundDefaults, found, is_im
 ghost use Rattle.lost_spec.specs.Answer.{error_of, validation_for};
 ghost use Rattle.lost_query.specs.Finding.{mappings_of};
 ghost use Rattle.lost_query.specs.Place.{place_of};
-ghost use Rattle.lost_query.specs.Reply.{validation_of, reply_of};
+ghost use Rattle.lost_message.specs.Reply.{validation_of, reply_of};
 ghost use Rattle.lost_query.specs.Ask.{asked_reply};
 
 use crate::finding::{Finding, find};
 use crate::found::Found;
 use crate::holdings::Holdings;
-use crate::path::Path;
 use crate::place::Place;
 use crate::refusals::refusal;
-use crate::reply::{Reply, Validation};
 use crate::shown::show;
 use crate::validation::validate;
 use crate::warnings::{default_warnings, substitution_warnings};
 use lost_mapping::Moment;
+use lost_message::{Path, Reply, Validation};
 use lost_spec::answers::AnswerError;
 use lost_urn::ServiceUrn;
 use std::alloc::{AllocError, Global};

@@ -11,13 +11,10 @@ mod finding;
 mod found;
 mod holdings;
 mod lists;
-mod path;
 mod picks;
 mod place;
 mod places;
 mod refusals;
-mod reply;
-mod request;
 mod services;
 mod shown;
 mod used;
@@ -26,11 +23,11 @@ mod warnings;
 
 pub use answering::answer;
 pub use holdings::{Holdings, Positions};
-pub use lost_spec::answers::{AnswerError, Warning};
-pub use path::Path;
+pub use lost_message::{
+    AnswerError, Body, Boundary, FoundMappings, Location, Locations, Path, Reply, Request,
+    Validation, Warning,
+};
 pub use place::{Place, law_equal_places_are_one};
 pub use places::place_used;
-pub use reply::{Boundary, FoundMappings, Reply, Validation};
-pub use request::{Body, Location, Locations, Request};
 pub use services::children::Children;
 pub use validation::patterns::refers;

@@ -4,15 +4,14 @@ ghost use Rattle.std.specs.Option.{option_copied};
 ghost use Rattle.lost_spec.specs.Request.{ListServicesByLocationResponse, ListServicesResponse};
 ghost use Rattle.lost_spec.specs.Services.{services, all_services};
 ghost use Rattle.lost_query.specs.Place.{place_of};
-ghost use Rattle.lost_query.specs.Reply.{reply_of};
-ghost use Rattle.lost_query.specs.Path.{shown_path};
+ghost use Rattle.lost_message.specs.Reply.{reply_of};
+ghost use Rattle.lost_message.specs.Path.{shown_path};
 
 use crate::holdings::Holdings;
-use crate::path::Path;
 use crate::place::Place;
-use crate::reply::Reply;
 use crate::services::services_at;
 use lost_mapping::Moment;
+use lost_message::{Path, Reply};
 use lost_urn::ServiceUrn;
 use std::alloc::{AllocError, Global};
 

@@ -9,16 +9,15 @@ ghost use Rattle.lost_spec.specs.Answer.{point_place, address_place, place_of, a
 ghost use Rattle.lost_spec.specs.Holders.{locations_in, place_at, place_used};
 ghost use Rattle.lost_civic.specs.Pairs.{seen_pairs};
 ghost use Rattle.lost_query.specs.Place.{place_of as seen_place};
-ghost use Rattle.lost_query.specs.Request.{body_of, location_of, locations_of, request_of};
+ghost use Rattle.lost_message.specs.Request.{body_of, location_of, locations_of, request_of};
 ghost use Rattle.lost_query.specs.Used.{reply_used, used_place};
 
-use crate::path::{Path, path_of};
 use crate::place::Place;
-use crate::request::{Body, Location, Locations, Request};
 use crate::used::{is_geodetic, location_used};
 use lost_civic::{CivicAddress, CivicError};
 use lost_geo::GeoPoint;
 use lost_mapping::Source;
+use lost_message::{Body, Location, Locations, Path, Request, path_of};
 use lost_spec::answers::AnswerError;
 use std::alloc::{AllocError, Global};
 

@@ -2,9 +2,9 @@
 ghost use Rattle.std.specs.Prelude.{◌≡◌, ◌||◌, map, option_map};
 ghost use Rattle.std.specs.Option.{option_copied};
 ghost use Rattle.lost_spec.specs.Answer.{is_geodetic, is_civic, location_used};
-ghost use Rattle.lost_query.specs.Request.{location_of, locations_of};
+ghost use Rattle.lost_message.specs.Request.{location_of, locations_of};
 
-use crate::request::{Location, Locations};
+use lost_message::{Location, Locations};
 
 /// The name of the profile of points (RFC 5222, section 12.2).
 const GEODETIC: &str = "geodetic-2d";

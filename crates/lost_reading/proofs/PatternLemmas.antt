@@ -14,7 +14,7 @@ use Rattle.lost_spec.specs.Civic.{Pairs, names_of}
 use Rattle.lost_civic.specs.Pairs.{is_pattern_pair}
 use Rattle.lost_civic.proofs.PatternLemmas.{is_none-pattern_fault}
 use Rattle.lost_reading.specs.Members.{pairs_of}
-use Rattle.lost_reading.specs.Told.{is_pattern_entry, members_region}
+use Rattle.lost_reading.specs.TreeParts.{is_pattern_entry, members_region}
 
 -- ---- no name stands twice
 

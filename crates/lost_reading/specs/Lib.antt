@@ -4,4 +4,4 @@ pub mod Requests
 pub mod Desk
 pub mod DeskLines
 pub mod Lines
-pub mod Told
+pub mod TreeParts

@@ -9,7 +9,7 @@ ghost use Rattle.lost_spec.specs.Book as book;
 ghost use Rattle.lost_spec.specs.Mapping as spec;
 ghost use Rattle.lost_reading.specs.Members.{required, optional, defaulting, list_in};
 ghost use Rattle.lost_reading.specs.Desk.{parts_of_members, mapping_order};
-ghost use Rattle.lost_reading.specs.Told.{tree_parts};
+ghost use Rattle.lost_reading.specs.TreeParts.{tree_parts};
 
 use crate::desk::DeskFault;
 use crate::fits::{Fits, list};

@@ -7,15 +7,16 @@ ghost use Rattle.lost_spec.specs.Book as book;
 ghost use Rattle.lost_spec.specs.Mapping as spec;
 ghost use Rattle.lost_spec.specs.Moment.{is_stamp, stamp_of};
 ghost use Rattle.lost_spec.specs.Text.{lowered};
-ghost use Rattle.lost_reading.specs.Desk.{Stage, parts_of_members, mapping_order, withdrawal_fault, withdrawal, withdrawal_order, is_desk_name, order_named, order_of_member, order_in, desk_line, desk_fault_code};
+ghost use Rattle.lost_reading.specs.Desk.{Stage, parts_of_members, mapping_order, withdrawal_fault, withdrawal, withdrawal_order, is_desk_name, order_named, order_of_member, order_in, desk_line};
 ghost use Rattle.lost_reading.specs.DeskLines.{order_of, fault_of, GivesOrder, GivesLine};
 
 use crate::checks::check_members;
 use crate::parts::read_parts;
 use crate::reading::{only_member, read_tree, text_member};
 use crate::request::ReadError;
-use lost_book::Edit;
 use lost_mapping::{Identity, Mapping, Stamp};
+use lost_message::Edit;
+use lost_spec::Coded;
 use lost_spec::faults::{MappingError, StampError};
 use serde_json::{Map, Value};
 use std::alloc::Global;
@@ -41,11 +42,13 @@ pub enum DeskFault {
     Mapping(MappingError),
 }
 
-impl DeskFault {
-    /// The number of the refusal on the desk's lines: 1 to 12, and 20 for want of memory.
-    pub fn code(self) -> u8
-        ensures { result ≡ desk_fault_code self }
-    {
+/// The number of the refusal on the desk's lines: 1 to 12, and 20 for want of memory.
+impl Coded for DeskFault {
+    ghost use Rattle.lost_reading.specs.Desk.{desk_fault_code};
+
+    ghost code_of = { desk_fault_code };
+
+    fn code(self) -> u8 {
         match self {
             DeskFault::BadLine => 1,
             DeskFault::Mapping(fault) => fault.code(),
@@ -67,7 +70,7 @@ pub fn read_desk(alloc: Global, line: &[u8]) -> Result<Option<DeskLine>, DeskFau
         fault ≢ DeskFault.Mapping MappingError.Memory → desk_line line.now ≡ Some (Err fault)) }
 {
     match read_tree(alloc, line) {
-        Ok(tree) => read_line(alloc, &tree),
+        Ok(tree) => read_tree_order(alloc, &tree),
         Err(ReadError::BadRequest) => Ok(None),
         Err(ReadError::Memory) => Err(DeskFault::Mapping(MappingError::Memory)),
     }
@@ -85,7 +88,7 @@ impl From<ReadError> for DeskFault {
 }
 
 /// The order of a tree: an object with exactly one member, whose name is that of a desk line.
-fn read_line(alloc: Global, tree: &Value) -> Result<Option<DeskLine>, DeskFault>
+fn read_tree_order(alloc: Global, tree: &Value) -> Result<Option<DeskLine>, DeskFault>
     ensures { GivesLine result (order_in (view tree.now)) }
 {
     match only_member(tree) {

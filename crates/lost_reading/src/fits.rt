@@ -4,7 +4,7 @@ ghost use Rattle.std.specs.Prelude.{◌≡◌, is_some, map, option_map};
 ghost use Rattle.serde_json.specs.View.{view, items_view, members_view};
 ghost use Rattle.lost_reading.specs.Members.{each_of, list_in};
 ghost use Rattle.lost_reading.specs.Desk.{display_name_of_members, region_in};
-ghost use Rattle.lost_reading.specs.Told.{text_told, position_told, display_name_told, text_told-is, position_told-is, region_told-is, display_name_told-is};
+ghost use Rattle.lost_reading.specs.TreeParts.{text_or_empty, position_or_zeros, display_name_or_empty, text_or_empty-is, position_or_zeros-is, region_in-is, display_name_or_empty-is};
 
 use crate::kinds::position;
 use crate::reading::text_member;
@@ -42,9 +42,9 @@ impl Fits for String {
 
     ghost meant = { as_str };
 
-    ghost told = { text_told };
+    ghost told = { text_or_empty };
 
-    ghost told_is = { text_told-is };
+    ghost told_is = { text_or_empty-is };
 
     fn fits(value: &Value) -> bool {
         value.as_str().is_some()
@@ -59,9 +59,9 @@ impl Fits for (i64, i64) {
 
     ghost meant = { position_in };
 
-    ghost told = { position_told };
+    ghost told = { position_or_zeros };
 
-    ghost told_is = { position_told-is };
+    ghost told_is = { position_or_zeros-is };
 
     fn fits(value: &Value) -> bool {
         position(value).is_some()
@@ -79,7 +79,7 @@ impl Fits for Region {
 
     ghost told = { region_in };
 
-    ghost told_is = { region_told-is };
+    ghost told_is = { region_in-is };
 
     fn fits(_value: &Value) -> bool {
         true
@@ -94,9 +94,9 @@ impl Fits for DisplayName {
 
     ghost meant = { display_name_in };
 
-    ghost told = { display_name_told };
+    ghost told = { display_name_or_empty };
 
-    ghost told_is = { display_name_told-is };
+    ghost told_is = { display_name_or_empty-is };
 
     fn fits(value: &Value) -> bool {
         match value.as_object() {

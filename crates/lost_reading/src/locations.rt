@@ -2,7 +2,7 @@
 ghost use Rattle.std.specs.Prelude.{◌≡◌, ◌<◌, None, Some, Ok, length, map, codes};
 ghost use Rattle.serde_json.specs.View.{view, members_view};
 ghost use Rattle.lost_spec.specs.Text.{is_among, has_repeat};
-ghost use Rattle.lost_query.specs.Request.{body_of, location_of, locations_of};
+ghost use Rattle.lost_message.specs.Request.{body_of, location_of, locations_of};
 ghost use Rattle.lost_reading.specs.Gives.{Gives};
 ghost use Rattle.lost_reading.specs.Members as kinds;
 ghost use Rattle.lost_reading.specs.Members.{the_member};
@@ -11,7 +11,7 @@ ghost use Rattle.lost_reading.specs.Requests.{point_body, address_body, body_in,
 use crate::kinds::named_texts;
 use crate::reading::{Kind, member, readable, required};
 use crate::request::ReadError;
-use lost_query::{Body, Location, Locations};
+use lost_message::{Body, Location, Locations};
 use serde_json::{Map, Value};
 use std::alloc::Global;
 use std::borrow::CowStr;
@@ -26,7 +26,7 @@ pub const GEODETIC: &str = "geodetic-2d";
 pub const CIVIC: &str = "civic";
 
 /// The most locations of a request.
-const MAX_LOCATIONS: usize = 8;
+pub const MAX_LOCATIONS: usize = 8;
 
 /// A list of 1 to 8 locations, no two of one profile (RFC 5222, section 8.3.1; bounds own).
 impl<'a> Kind for Locations<'a> {

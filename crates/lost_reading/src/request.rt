@@ -2,15 +2,16 @@
 ghost use Rattle.std.specs.Prelude.{◌≡◌, None, Err, option_and_then, codes};
 ghost use Rattle.serde_json.specs.Find.{as_object};
 ghost use Rattle.serde_json.specs.View.{view, members_view};
-ghost use Rattle.lost_query.specs.Request.{request_of};
-ghost use Rattle.lost_reading.specs.Gives.{Gives, read_code};
+ghost use Rattle.lost_message.specs.Request.{request_of};
+ghost use Rattle.lost_reading.specs.Gives.{Gives};
 ghost use Rattle.lost_reading.specs.Members as kinds;
 ghost use Rattle.lost_reading.specs.Requests.{find_service_of, services_at_of, services_of, boundary_of, request_named, request_in, line_request};
 
 use crate::options::{ByValue, read_path};
 use crate::reading::{defaulting, only_member, read_tree, required};
 use crate::services::{optional_service, required_service};
-use lost_query::{Locations, Request};
+use lost_message::{Locations, Request};
+use lost_spec::Coded;
 use serde_json::{Map, Value};
 use std::alloc::Global;
 use std::borrow::CowStr;
@@ -27,11 +28,13 @@ pub enum ReadError {
     Memory,
 }
 
-impl ReadError {
-    /// The number of the refusal, 1 or 2 in the order of the variants.
-    pub fn code(self) -> u8
-        ensures { result ≡ read_code self }
-    {
+/// The number of the refusal, 1 or 2 in the order of the variants.
+impl Coded for ReadError {
+    ghost use Rattle.lost_reading.specs.Gives.{read_code};
+
+    ghost code_of = { read_code };
+
+    fn code(self) -> u8 {
         match self {
             ReadError::BadRequest => 1,
             ReadError::Memory => 2,

@@ -8,7 +8,7 @@ ghost use Rattle.lost_spec.specs.Mapping.{is_region};
 ghost use Rattle.lost_mapping.specs.Regions.{region_kind as kind_of_region};
 ghost use Rattle.lost_reading.specs.Members.{the_member};
 ghost use Rattle.lost_reading.specs.Desk.{ring_region, pattern_region, region_with, region_of_members, region_in};
-ghost use Rattle.lost_reading.specs.Told.{text_told, position_told, member_told, display_name_told, is_pattern_entry, members_region};
+ghost use Rattle.lost_reading.specs.TreeParts.{text_or_empty, position_or_zeros, member_text_or_empty, display_name_or_empty, is_pattern_entry, members_region};
 
 use crate::fits::list;
 use crate::kinds::position;
@@ -16,7 +16,7 @@ use crate::locations::{CIVIC, GEODETIC};
 use crate::reading::{member, text_member};
 use lost_civic::CivicPattern;
 use lost_geo::{Positions, is_ring_of};
-use lost_mapping::{RegionKind, Telling};
+use lost_mapping::{PartItems, RegionKind};
 use serde_json::{Map, Value};
 
 /// A tree, from whose values positions and the parts of a mapping are told.
@@ -25,25 +25,25 @@ pub(crate) struct Tree;
 impl Positions for Tree {
     type Item = Value;
 
-    ghost position_of = { λ item. position_told (view item) };
+    ghost position_of = { λ item. position_or_zeros (view item) };
 
     fn position(item: &Value) -> (i64, i64) {
         position(item).unwrap_or((0, 0))
     }
 }
 
-impl Telling for Tree {
+impl PartItems for Tree {
     type Uri = Value;
 
     type Region = Value;
 
     type DisplayName = Value;
 
-    ghost uri_of = { λ uri. text_told (view uri) };
+    ghost uri_of = { λ uri. text_or_empty (view uri) };
 
     ghost region_of = { λ region. region_in (view region) };
 
-    ghost display_name_of = { λ name. display_name_told (view name) };
+    ghost display_name_of = { λ name. display_name_or_empty (view name) };
 
     fn uri(uri: &Value) -> &str {
         uri.as_str().unwrap_or("")
@@ -67,7 +67,7 @@ impl Telling for Tree {
 
 /// The text of a member of an object, or the empty one where there is none.
 fn text_of_member<'v>(value: &'v Value, name: &str) -> &'v str
-    ensures { result.now ≡ member_told name.now (view value.now) }
+    ensures { result.now ≡ member_text_or_empty name.now (view value.now) }
 {
     match value.as_object() {
         Some(members) => text_member(members, name).unwrap_or(""),

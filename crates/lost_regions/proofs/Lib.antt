@@ -1,3 +1,3 @@
-pub mod HeldLemmas
+pub mod UnderNumberLemmas
 pub mod RegionLemmas
 pub mod RowLemmas

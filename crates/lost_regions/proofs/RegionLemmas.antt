@@ -4,7 +4,7 @@ use Rattle.lost_spec.specs.Ring.{Point}
 use Rattle.lost_spec.specs.Civic.{Pairs}
 use Rattle.lost_spec.specs.Mapping.{Mapping}
 use Rattle.lost_regions.specs.Regions.{Regions, HasAll, with_more, with_other}
-use Rattle.lost_regions.proofs.HeldLemmas.{held_changed, last_change}
+use Rattle.lost_regions.proofs.UnderNumberLemmas.{held_changed, last_change}
 
 -- equal lists make equal regions
 pub same_lists : (p p' : List (ℕ × List (List Point))) (a a' r r' : List (ℕ × List Pairs)) → p ≡ p' → a ≡ a' → r ≡ r'

@@ -6,10 +6,10 @@ use Rattle.std.proofs.lemmas.List.Elements.{All-nil}
 use Rattle.lost_spec.specs.Ring.{Point}
 use Rattle.lost_spec.specs.Civic.{Pairs}
 use Rattle.lost_spec.specs.Mapping.{Mapping}
-use Rattle.lost_index.specs.Held.{IsAbove, with_number, without}
-use Rattle.lost_regions.specs.Held.{IsAbsent, IsHeldWith}
+use Rattle.lost_index.specs.Entries.{IsAbove, with_number, without}
+use Rattle.lost_regions.specs.UnderNumber.{IsAbsent, IsHeldWith}
 use Rattle.lost_regions.specs.Regions.{regions_of, with_mapping, with_other, without_number, HasAll, AreHeld, IsAboveAll}
-use Rattle.lost_regions.proofs.HeldLemmas.{is_held, changed, removed}
+use Rattle.lost_regions.proofs.UnderNumberLemmas.{is_held, changed, removed}
 use Rattle.lost_regions.proofs.RegionLemmas.{same_lists}
 
 -- mappings beside their numbers

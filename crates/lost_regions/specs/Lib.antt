@@ -1,2 +1,2 @@
-pub mod Held
+pub mod UnderNumber
 pub mod Regions

@@ -3,8 +3,8 @@ use Rattle.std.specs.Prelude.{ℕ, List, [], ◌∷◌, ◌++◌, map}
 use Rattle.lost_spec.specs.Ring.{Point}
 use Rattle.lost_spec.specs.Civic.{Pairs}
 use Rattle.lost_spec.specs.Mapping.{Mapping}
-use Rattle.lost_index.specs.Held.{IsAbove, IsHeld, with_number, without}
-use Rattle.lost_regions.specs.Held.{IsHeldWith}
+use Rattle.lost_index.specs.Entries.{IsAbove, IsHeld, with_number, without}
+use Rattle.lost_regions.specs.UnderNumber.{IsHeldWith}
 
 -- numbers with polygons, which are asked for a point, and with patterns, which are asked for an address and for required elements
 pub record Regions : Type 0 where

@@ -1,7 +1,7 @@
 //! What is done to one of the indexes.
 ghost use Rattle.std.specs.Prelude.{◌≡◌, ◌+◌, ◌<◌, ◌^◌, ◌++◌, length};
-ghost use Rattle.lost_index.specs.Held.{with_number};
-ghost use Rattle.lost_regions.specs.Held.{IsHeldWith};
+ghost use Rattle.lost_index.specs.Entries.{with_number};
+ghost use Rattle.lost_regions.specs.UnderNumber.{IsHeldWith};
 
 use lost_index::Index;
 use lost_profile::Profile;

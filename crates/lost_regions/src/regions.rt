@@ -3,8 +3,8 @@ ghost use Rattle.std.specs.Prelude.{◌≡◌, ◌∷◌, ◌++◌, [], IfOk, On
 ghost use Rattle.lost_spec.specs.Ring.{inside};
 ghost use Rattle.lost_spec.specs.Civic.{matches};
 ghost use Rattle.lost_civicdex.specs.Covers.{names_all};
-ghost use Rattle.lost_index.specs.Held.{IsAbove, holders, with_number};
-ghost use Rattle.lost_regions.specs.Held.{IsHeldWith};
+ghost use Rattle.lost_index.specs.Entries.{IsAbove, holders, with_number};
+ghost use Rattle.lost_regions.specs.UnderNumber.{IsHeldWith};
 ghost use Rattle.lost_regions.specs.Regions.{no_regions, AreHeld, IsAboveAll, HasAll, with_mapping, with_more, with_other, without_number};
 
 use crate::copies::{patterns_of, polygons_of};

@@ -12,8 +12,8 @@ use Rattle.lost_reading.specs.Desk.{Stage, Commit, desk_line}
 use Rattle.lost_writing.specs.declared.desk_reply.DeskReply.TheVariants.{Committed}
 use Rattle.lost_writing.specs.DeskReplies.{desk_text}
 use Rattle.lost_lines.specs.Run.{Whole, Reply}
-use Rattle.lost_stream.specs.Stream.{Lists, Unmarked, RefusedMemory, edit_text}
-use Rattle.lost_stream.specs.Step.{IsAnswered}
+use Rattle.lost_json.specs.Stream.{Lists, Unmarked, RefusedMemory, edit_text}
+use Rattle.lost_json.specs.Step.{IsAnswered}
 use Rattle.lost_replay.specs.Books.{Books, AreBooksOf, BooksStep}
 use Rattle.lost_replay.specs.Pair.{with_staged, with_committed}
 use Rattle.lost_replay.specs.Replay.{replay_terms}

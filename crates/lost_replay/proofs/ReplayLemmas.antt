@@ -11,9 +11,9 @@ use Rattle.lost_lines.specs.declared.turns.Turns.{Turns}
 use Rattle.lost_lines.specs.Run.{Cut, Reply, Run}
 use Rattle.lost_lines.specs.Stream.{IsServed, IsCutOff, IsWholeSoFar, IsSpent, IsHeldBack}
 use Rattle.lost_lines.specs.Outcome.{Passage, IsOutcome}
-use Rattle.lost_stream.specs.Stream.{Lists}
-use Rattle.lost_stream.specs.Step.{Step}
-use Rattle.lost_stream.proofs.OutcomeLemmas.{streamed, streamed_in_part, streamed_so_far, stream_spent}
+use Rattle.lost_json.specs.Stream.{Lists}
+use Rattle.lost_json.specs.Step.{Step}
+use Rattle.lost_json.proofs.OutcomeLemmas.{streamed, streamed_in_part, streamed_so_far, stream_spent}
 use Rattle.lost_replay.specs.declared.replayer.Replayer.{Replayer}
 use Rattle.lost_replay.specs.Books.{Books, AreBooksOf, BooksStep}
 use Rattle.lost_replay.specs.Replay.{replay_terms, no_edits, IsReplayed, IsReplayedInPart, IsReplayedSoFar, IsReplaySpent, IsReplayOutcome}

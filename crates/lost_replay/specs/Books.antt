@@ -3,8 +3,8 @@ use Rattle.std.specs.Prelude.{◌≡◌, length}
 use Rattle.lost_spec.specs.Book.{Book, book_of}
 use Rattle.lost_book.specs.Bounds.{widest}
 use Rattle.lost_lines.specs.Run.{Cut, Reply}
-use Rattle.lost_stream.specs.Stream.{Terms, Lists}
-use Rattle.lost_stream.specs.Step.{Step}
+use Rattle.lost_json.specs.Stream.{Terms, Lists}
+use Rattle.lost_json.specs.Step.{Step}
 
 -- the book that is published, and the book of the staged edits too
 pub record Books : Type 0 where

@@ -9,8 +9,8 @@ use Rattle.lost_lines.specs.declared.fault.ServeError.{ServeError}
 use Rattle.lost_lines.specs.declared.fault.ServeError.TheVariants.{Read, TurnsSpent, Memory}
 use Rattle.lost_lines.specs.declared.turns.Turns.{Turns}
 use Rattle.lost_lines.specs.Outcome.{Passage}
-use Rattle.lost_stream.specs.Stream.{Terms, Lists, internal_error, bad_request}
-use Rattle.lost_stream.specs.Outcome.{IsStreamed, IsStreamedInPart, IsStreamedSoFar, IsStreamSpent}
+use Rattle.lost_json.specs.Stream.{Terms, Lists, internal_error, bad_request}
+use Rattle.lost_json.specs.Outcome.{IsStreamed, IsStreamedInPart, IsStreamedSoFar, IsStreamSpent}
 
 -- a replay by the server of this name at an instant: the books have the widest limits, want of memory is `internalError`
 -- and counted, a line over the limit is `badRequest`, and a line that is no desk line gets the line that answers it

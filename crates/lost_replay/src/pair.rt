@@ -2,7 +2,7 @@
 ghost use Rattle.std.specs.Prelude.{◌≡◌, ◌≢◌, ◌+◌, ◌-◌, ◌<◌, ◌++◌, ◌∷◌, [], None, Some, Err, IfOk, IfErr, OnOk, OnErr, map, length};
 ghost use Rattle.std.specs.Result.{result_err};
 ghost use Rattle.lost_spec.specs.Book.{empty_book, refusal, after, after_all};
-ghost use Rattle.lost_book.specs.Edit.{edit_of};
+ghost use Rattle.lost_message.specs.Edit.{edit_of};
 ghost use Rattle.lost_replay.specs.Pair.{with_staged, with_committed};
 
 use lost_book::{Edit, EditError, Limits};
@@ -12,16 +12,13 @@ use std::collections::VecDeque;
 use std::marker::Model;
 use std::mem::swap;
 
-/// How mappings are held.
-pub(crate) type Held = Routing;
-
 /// The book that requests are answered from, and a book in which edits are staged. A commit swaps the two, so it takes
 /// neither memory nor time that grows with them; the edits that the other book then lacks are applied to it before the
 /// next one is staged. Contracts see the published book, and the book of what is staged too.
 #[derive(Drop)]
 pub(crate) struct Pair {
-    published: Held,
-    other: Held,
+    published: Routing,
+    other: Routing,
     /// The edits by which the two books differ, in order.
     edits: VecDeque<Edit>,
     /// Whether the other book lacks them; else the published one does.
@@ -30,7 +27,7 @@ pub(crate) struct Pair {
 
 impl Model for Pair {
     ghost use Rattle.std.specs.Prelude.{map};
-    ghost use Rattle.lost_book.specs.Edit.{edit_of};
+    ghost use Rattle.lost_message.specs.Edit.{edit_of};
     ghost use Rattle.lost_replay.specs.Pair.{IsPair, pair_seen};
     ghost use Rattle.lost_replay.specs.Books.{Books};
 
@@ -47,22 +44,22 @@ impl Pair {
         ensures { IfOk result (λ pair. pair ≡ record { published = empty_book limits; staged = empty_book limits }) }
     {
         Ok(Pair {
-            published: Held::new(alloc, limits)?,
-            other: Held::new(alloc, limits)?,
+            published: Routing::new(alloc, limits)?,
+            other: Routing::new(alloc, limits)?,
             edits: VecDeque::new(alloc),
             is_behind: false,
         })
     }
 
     /// The book that is published.
-    pub(crate) fn published(&self) -> &Held
+    pub(crate) fn published(&self) -> &Routing
         ensures { result.now ≡ self.now.published }
     {
         &self.published
     }
 
     /// The book of what is staged too.
-    pub(crate) fn staged(&self) -> &Held
+    pub(crate) fn staged(&self) -> &Routing
         ensures { result.now ≡ self.now.staged }
     {
         if self.is_behind {
@@ -126,7 +123,7 @@ impl Pair {
 }
 
 /// Applies an edit that is not refused to a book, and queues it for another book; or changes nothing for want of memory.
-fn take_in(book: &mut Held, edits: &mut VecDeque<Edit>, edit: Edit) -> Result<(), AllocError>
+fn take_in(book: &mut Routing, edits: &mut VecDeque<Edit>, edit: Edit) -> Result<(), AllocError>
     requires { refusal book.old (edit_of edit) ≡ None }
     ensures applied { OnOk result (book.new ≡ after book.old (edit_of edit)) }
     ensures queued { OnOk result (map edit_of edits.new.items ≡ map edit_of edits.old.items ++ edit_of edit ∷ []) }
@@ -143,7 +140,7 @@ fn take_in(book: &mut Held, edits: &mut VecDeque<Edit>, edit: Edit) -> Result<()
 }
 
 /// Applies the edits of a queue to a book, or as many as there is memory for; the others stay queued.
-fn apply_all(book: &mut Held, edits: &mut VecDeque<Edit>) -> Result<(), AllocError>
+fn apply_all(book: &mut Routing, edits: &mut VecDeque<Edit>) -> Result<(), AllocError>
     ensures same { after_all book.new (map edit_of edits.new.items) ≡ after_all book.old (map edit_of edits.old.items) }
     ensures all { OnOk result (edits.new.items ≡ []) }
 {
@@ -154,25 +151,14 @@ fn apply_all(book: &mut Held, edits: &mut VecDeque<Edit>) -> Result<(), AllocErr
 }
 
 /// Applies the first edit of a queue to a book, or changes nothing for want of memory.
-fn apply_first(book: &mut Held, edits: &mut VecDeque<Edit>) -> Result<(), AllocError>
+fn apply_first(book: &mut Routing, edits: &mut VecDeque<Edit>) -> Result<(), AllocError>
     ensures same { after_all book.new (map edit_of edits.new.items) ≡ after_all book.old (map edit_of edits.old.items) }
     ensures one { OnOk result (0 < length edits.old.items → length edits.old.items ≡ length edits.new.items + 1) }
 {
     let Some(edit) = edits.front() else {
         return Ok(());
     };
-    apply(book, edit)?;
+    book.absorb(edit)?;
     let _applied = edits.pop_front();
     Ok(())
-}
-
-/// Applies an edit to a book, or changes nothing for want of memory. An edit that the book refuses changes nothing.
-fn apply(book: &mut Held, edit: &Edit) -> Result<(), AllocError>
-    ensures applied { OnOk result (book.new ≡ after book.old (edit_of edit.now)) }
-    ensures unchanged { OnErr result (book.new ≡ book.old) }
-{
-    match book.apply(edit.clone()?) {
-        Err(EditError::Memory) => Err(AllocError),
-        _ => Ok(()),
-    }
 }

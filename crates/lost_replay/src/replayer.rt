@@ -3,13 +3,13 @@ ghost use Rattle.std.specs.Prelude.{◌≡◌, IfOk};
 ghost use Rattle.lost_replay.specs.Replayer.{Begins, books_of};
 
 use crate::books::Books;
-use lost_json::{DeskFault, DeskLine, DeskReply};
+use lost_json::{DeskFault, DeskLine, DeskReply, bad_request, desk_answer, internal_error};
 use lost_lines::{Answer, Answerer};
 use lost_mapping::{MappingError, Moment, Source};
 use lost_reading::Line;
 use lost_routing::Routing;
-use lost_stream::{bad_request, desk_answer, internal_error};
-use lost_tokens::{Scratch, read_line};
+use lost_spec::Coded;
+use lost_tape::{Scratch, read_line};
 use std::alloc::{AllocError, Global};
 
 /// What answers the lines of a replay: the name of the server and the moment stay, the books go with each line. The

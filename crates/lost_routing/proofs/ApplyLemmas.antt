@@ -5,10 +5,10 @@ use Rattle.std.specs.declared.alloc.AllocError.{AllocError}
 use Rattle.lost_spec.specs.declared.faults.EditError.TheVariants.{EditsSpent}
 use Rattle.lost_spec.specs.Moment.{Stamp}
 use Rattle.lost_spec.specs.Book.{Book, Limits, Identity, replaced, is_spent, publish_refusal, replace_refusal, withdraw_refusal}
-use Rattle.lost_routing.specs.Kept.{Kept, with_mapping_at}
+use Rattle.lost_routing.specs.Store.{Stored, with_mapping_at}
 use Rattle.std.proofs.lemmas.Bool.Decides.{nat_tests}
 use Rattle.lost_spec.specs.Mapping.{Mapping}
-use Rattle.lost_routing.specs.Held.{IsNew, IsRouted}
+use Rattle.lost_routing.specs.Invariants.{IsNew, IsRouted}
 use Rattle.lost_routing.proofs.SplitLemmas.{all_join, all_map}
 
 one_more : (e k : ℕ) → k < e → k < e + 1
@@ -76,7 +76,7 @@ within_withdraw b id stamp h = not_at b.limits.edits b.edits (unspent (is_spent 
 
 -- ---- the mapping of an identity
 
-pub ok_replaced : (result : Result (Unit {0}) AllocError) (m : Mapping) (old new : Kept) (i : ℕ) → slice_set old.mappings i m ≡ replaced m old.mappings
+pub ok_replaced : (result : Result (Unit {0}) AllocError) (m : Mapping) (old new : Stored) (i : ℕ) → slice_set old.mappings i m ≡ replaced m old.mappings
     → OnOk result (new ≡ with_mapping_at i m old) → OnOk result (new.mappings ≡ replaced m old.mappings)
 ok_replaced (Ok x) m old new i same changed = ap (λ k. k.mappings) changed ∙ same
 ok_replaced (Err x) m old new i same changed = tt

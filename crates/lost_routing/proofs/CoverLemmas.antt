@@ -18,12 +18,12 @@ use Rattle.lost_civic.specs.declared.elements.Element.{Element}
 use Rattle.lost_query.specs.Judged.{is_reference, is_referring}
 use Rattle.lost_civicdex.specs.Keys.{Key}
 use Rattle.lost_civicdex.specs.Covers.{names_all}
-use Rattle.lost_index.specs.Held.{holders}
+use Rattle.lost_index.specs.Entries.{holders}
 use Rattle.lost_tables.specs.declared.tables.Tables.{Tables}
-use Rattle.lost_tables.specs.Notes.{ByIdentity, ByKey, ByService, ByDefault, numbers_of, IsListed, IsNoted}
+use Rattle.lost_tables.specs.Lookup.{ByIdentity, ByKey, ByService, ByDefault, numbers_of, IsListed, IsFullyListed}
 use Rattle.lost_tables.specs.Picks.{Covers}
 use Rattle.lost_regions.specs.Regions.{Regions}
-use Rattle.lost_routing.specs.Held.{IsKept}
+use Rattle.lost_routing.specs.Invariants.{IsStore}
 
 itself : (n : ℕ) → nat_eq n n ≡ true
 itself n = search (arith, nat_tests)
@@ -109,12 +109,12 @@ service_is m t u h = same_service_is m.service u (right_of (is_live m t) (same_s
 
 -- ---- covers
 
-module _ (ns : List ℕ) (ms : List Mapping) (tables : Tables) (regions : Regions) (kept : IsKept ns ms tables regions) where
+module _ (ns : List ℕ) (ms : List Mapping) (tables : Tables) (regions : Regions) (kept : IsStore ns ms tables regions) where
   abbrev Among : List ℕ → ℕ → Type 0
   Among candidates number = list_any (nat_eq number) candidates ≡ true
 
-  pub noted_at : (place number : ℕ) (m : Mapping) → slice_get ms place ≡ Some m → slice_get ns place ≡ Some number → IsNoted tables m number
-  noted_at place number m at_m at_n = row_at (λ e. IsNoted tables e.1 e.0) ns ms kept.noted place number m at_m at_n
+  pub noted_at : (place number : ℕ) (m : Mapping) → slice_get ms place ≡ Some m → slice_get ns place ≡ Some number → IsFullyListed tables m number
+  noted_at place number m at_m at_n = row_at (λ e. IsFullyListed tables e.1 e.0) ns ms kept.listed place number m at_m at_n
 
   pub covers_identity : (id : Identity) (candidates : List ℕ) → candidates ≡ numbers_of tables (ByIdentity id)
       → Covers (λ m. has_identity m id) ns ms candidates

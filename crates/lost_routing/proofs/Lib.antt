@@ -1,6 +1,6 @@
 pub mod CoverLemmas
 pub mod SplitLemmas
-pub mod KeptLemmas
+pub mod StoreLemmas
 pub mod ApplyLemmas
 pub mod QuestionLemmas
 pub mod NamedLemmas

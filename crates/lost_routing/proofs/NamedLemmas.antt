@@ -17,12 +17,12 @@ use Rattle.lost_civic.specs.Texts.{text_of}
 use Rattle.lost_civicdex.specs.Keys.{Key, key_of}
 use Rattle.lost_civicdex.specs.Covers.{names_all}
 use Rattle.lost_civicdex.proofs.RequiredLemmas.{required_agree}
-use Rattle.lost_index.specs.Held.{holders}
+use Rattle.lost_index.specs.Entries.{holders}
 use Rattle.lost_query.specs.Judged.{is_reference, is_referring}
 use Rattle.lost_tables.specs.declared.tables.Tables.{Tables}
 use Rattle.lost_tables.specs.Picks.{Covers}
 use Rattle.lost_regions.specs.Regions.{Regions}
-use Rattle.lost_routing.specs.Held.{IsKept}
+use Rattle.lost_routing.specs.Invariants.{IsStore}
 use Rattle.lost_routing.proofs.CoverLemmas.{covers_at_reference}
 
 apart : (a b : ℕ) → a < b → a ≡ b → ⊥
@@ -123,7 +123,7 @@ module _ (address : Pairs) where
     nowhere_where_none ms none some =
         nowhere_where_missing ms (subst (λ (l : List Key). length l < length elements) (sym none) some)
 
-    pub covers_naming : (ns : List ℕ) (ms : List Mapping) (tables : Tables) (regions : Regions) → IsKept ns ms tables regions
+    pub covers_naming : (ns : List ℕ) (ms : List Mapping) (tables : Tables) (regions : Regions) → IsStore ns ms tables regions
         → (required : List Key) (candidates : List ℕ) → required ≡ keys_of_all elements → candidates ≡ holders names_all required regions.references
         → Covers (is_referring t u address elements) ns ms candidates
     covers_naming ns ms tables regions kept required candidates are is =

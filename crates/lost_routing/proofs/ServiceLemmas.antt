@@ -18,10 +18,10 @@ use Rattle.lost_query.proofs.AddedLemmas.{same_service-itself, living-added}
 use Rattle.lost_query.proofs.HasChildren.{with_some-ascending_by}
 use Rattle.lost_tables.specs.declared.tables.Tables.{Tables}
 use Rattle.lost_tables.specs.Lists.{Stands}
-use Rattle.lost_tables.specs.Notes.{service_rows, is_row_with, ServicesAreWalked}
+use Rattle.lost_tables.specs.Lookup.{service_rows, is_row_with, ServicesAreWalked}
 use Rattle.lost_tables.proofs.PickLemmas.{there_if, some_passes, first_passes, none_given}
 use Rattle.lost_regions.specs.Regions.{Regions}
-use Rattle.lost_routing.specs.Held.{IsKept}
+use Rattle.lost_routing.specs.Invariants.{IsStore}
 use Rattle.lost_routing.specs.Walk.{is_live_of, live_position}
 use Rattle.lost_routing.proofs.CoverLemmas.{noted_at}
 
@@ -83,7 +83,7 @@ none_walked q t ns ms rows children none = record {
   each = λ j row position n m below. absurd (omega (arith, below));
 }
 
-module _ (ns : List ℕ) (ms : List Mapping) (tables : Tables) (regions : Regions) (kept : IsKept ns ms tables regions) (q : Option Service) (t : Instant) where
+module _ (ns : List ℕ) (ms : List Mapping) (tables : Tables) (regions : Regions) (kept : IsStore ns ms tables regions) (q : Option Service) (t : Instant) where
   is_well_formed : (position n : ℕ) (m : Mapping) → slice_get ms position ≡ Some m → slice_get ns position ≡ Some n → IsTrue (is_service m.service)
   is_well_formed position n m at_m at_n = (noted_at ns ms tables regions kept position n m at_m at_n).well_formed
 

@@ -6,7 +6,7 @@ use Rattle.std.specs.List.{AllByRecursion, zip}
 use Rattle.std.specs.List.Sorted.{IsStrictlySortedBy}
 use Rattle.std.proofs.lemmas.Bool.Decides.{nat_tests}
 use Rattle.lost_spec.specs.Mapping.{Mapping}
-use Rattle.lost_routing.specs.Held.{IsNew}
+use Rattle.lost_routing.specs.Invariants.{IsNew}
 
 -- ---- a list at a position
 

@@ -1,4 +1,4 @@
-pub mod Kept
-pub mod Held
+pub mod Store
+pub mod Invariants
 pub mod Applied
 pub mod Walk

@@ -1,12 +1,13 @@
 //! How edits change the routing. Rules without a section are this profile's own.
 ghost use Rattle.std.specs.Prelude.{◌≡◌, ◌≢◌, None, Some, Err, IfErr, OnOk, OnErr};
 ghost use Rattle.lost_spec.specs.Book.{Publish, Replace, Withdraw, refusal, after};
-ghost use Rattle.lost_book.specs.Edit.{edit_of};
+ghost use Rattle.lost_message.specs.Edit.{edit_of};
 ghost use Rattle.lost_routing.specs.Applied.{IsApplied};
 
 use crate::routing::Routing;
 use lost_book::{Edit, EditError, check_publish, check_replace, check_withdraw};
 use lost_mapping::{Identity, Mapping, Stamp};
+use std::alloc::AllocError;
 
 impl Routing {
     /// Applies an edit: a publish appends, a replacement keeps the place, a withdrawal closes up, and the edition rises
@@ -30,11 +31,26 @@ impl Routing {
         }
     }
 
+    /// Applies a copy of an edit. An edit that the book refuses changes nothing.
+    ///
+    /// # Errors
+    ///
+    /// Want of memory. The book is then unchanged.
+    pub fn absorb(&mut self, edit: &Edit) -> Result<(), AllocError>
+        ensures changed { OnOk result (self.new ≡ after self.old (edit_of edit.now)) }
+        ensures unchanged { OnErr result (self.new ≡ self.old) }
+    {
+        match self.apply(edit.clone()?) {
+            Err(EditError::Memory) => Err(AllocError),
+            _ => Ok(()),
+        }
+    }
+
     fn publish(&mut self, mapping: Mapping) -> Result<(), EditError>
         ensures { IsApplied self.old (Publish mapping) result self.new }
     {
         check_publish(self, &mapping)?;
-        if self.held.put(self.edits, mapping).is_err() {
+        if self.store.put(self.edits, mapping).is_err() {
             return Err(EditError::Memory);
         }
         self.edits += 1;
@@ -45,7 +61,7 @@ impl Routing {
         ensures { IsApplied self.old (Replace mapping) result self.new }
     {
         check_replace(self, &mapping)?;
-        if self.held.replace(mapping).is_err() {
+        if self.store.replace(mapping).is_err() {
             return Err(EditError::Memory);
         }
         self.edits += 1;
@@ -56,7 +72,7 @@ impl Routing {
         ensures { IsApplied self.old (Withdraw identity.now stamp.now) result self.new }
     {
         check_withdraw(self, identity, stamp)?;
-        self.held.withdraw(identity);
+        self.store.withdraw(identity);
         self.edits += 1;
         Ok(())
     }

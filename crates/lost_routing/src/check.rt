@@ -2,7 +2,7 @@
 ghost use Rattle.std.specs.Prelude.{◌≡◌};
 ghost use Rattle.std.specs.Result.{result_err};
 ghost use Rattle.lost_spec.specs.Book.{refusal};
-ghost use Rattle.lost_book.specs.Edit.{edit_of};
+ghost use Rattle.lost_message.specs.Edit.{edit_of};
 
 use crate::routing::Routing;
 use lost_book::{Edit, EditError, Limits, Register, check_edit};
@@ -37,14 +37,14 @@ impl Register for Routing {
     }
 
     fn is_held(&self, identity: &Identity) -> bool {
-        self.held.is_held(identity)
+        self.store.is_held(identity)
     }
 
     fn held(&self, identity: &Identity) -> Option<&Mapping> {
-        self.held.with_identity(identity)
+        self.store.with_identity(identity)
     }
 
     fn is_key_of_another(&self, identity: &Identity, key: &str) -> bool {
-        self.held.is_key_of_another(identity, key)
+        self.store.is_key_of_another(identity, key)
     }
 }

@@ -1,13 +1,13 @@
 //! What a replacement and a withdrawal do to the mappings. Nothing here checks the edit.
 ghost use Rattle.std.specs.Prelude.{◌≡◌, OnOk, OnErr};
 ghost use Rattle.lost_spec.specs.Book.{replaced, without};
-ghost use Rattle.lost_routing.specs.Held.{StaysBelow};
+ghost use Rattle.lost_routing.specs.Invariants.{StaysBelow};
 
-use crate::held::Held;
+use crate::store::Store;
 use lost_mapping::{Identity, Mapping};
 use std::alloc::AllocError;
 
-impl Held {
+impl Store {
     /// Puts a mapping in the place of the one with its identity, or want of memory, which changes nothing.
     pub(crate) fn replace(&mut self, mapping: Mapping) -> Result<(), AllocError>
         ensures replaced { OnOk result (self.new.mappings ≡ replaced mapping self.old.mappings) }

@@ -1,6 +1,6 @@
 //! What an edit does to the tables and to the indexes.
 ghost use Rattle.std.specs.Prelude.{◌≡◌, OnOk, OnErr};
-ghost use Rattle.lost_tables.specs.Notes.{IsNoted, KeepsOthers};
+ghost use Rattle.lost_tables.specs.Lookup.{IsFullyListed, KeepsOthers};
 ghost use Rattle.lost_regions.specs.Regions.{IsAboveAll, AreHeld, HasAll, with_mapping, with_other, without_number};
 
 use lost_mapping::Mapping;
@@ -17,14 +17,14 @@ pub(crate) fn enter(
     number: u64,
 ) -> Result<(), AllocError>
     requires { IsAboveAll number regions.old }
-    ensures noted { OnOk result (IsNoted tables.new mapping.now number) }
+    ensures listed { OnOk result (IsFullyListed tables.new mapping.now number) }
     ensures others { KeepsOthers number tables.old tables.new }
     ensures put { OnOk result (regions.new ≡ with_mapping number mapping.now regions.old) }
     ensures refused { OnErr result (regions.new ≡ regions.old) }
 {
-    tables.note(mapping, number)?;
+    tables.add_mapping(mapping, number)?;
     if regions.put(number, mapping).is_err() {
-        tables.take_back(mapping, number);
+        tables.remove_mapping(mapping, number);
         return Err(AllocError);
     }
     Ok(())
@@ -40,18 +40,18 @@ pub(crate) fn exchange(
     number: u64,
 ) -> Result<(), AllocError>
     requires { HasAll number old.now.polygons old.now.patterns regions.old }
-    ensures noted { OnOk result (IsNoted tables.new new.now number) }
+    ensures listed { OnOk result (IsFullyListed tables.new new.now number) }
     ensures others { KeepsOthers number tables.old tables.new }
-    ensures still { OnErr result (IsNoted tables.old old.now number → IsNoted tables.new old.now number) }
+    ensures remaining { OnErr result (IsFullyListed tables.old old.now number → IsFullyListed tables.new old.now number) }
     ensures changed { OnOk result (regions.new ≡ with_other number new.now regions.old) }
     ensures refused { OnErr result (regions.new ≡ regions.old) }
 {
-    tables.note_change(old, new, number)?;
+    tables.add_change(old, new, number)?;
     if regions.change(number, old, new).is_err() {
-        tables.take_change_back(new, old, number);
+        tables.remove_change(new, old, number);
         return Err(AllocError);
     }
-    tables.take_change_back(old, new, number);
+    tables.remove_change(old, new, number);
     Ok(())
 }
 
@@ -61,6 +61,6 @@ pub(crate) fn leave(tables: &mut Tables, regions: &mut Regions, mapping: &Mappin
     ensures others { KeepsOthers number tables.old tables.new }
     ensures taken { regions.new ≡ without_number number regions.old }
 {
-    tables.take_back(mapping, number);
+    tables.remove_mapping(mapping, number);
     regions.take(number);
 }

@@ -26,18 +26,18 @@ impl Holdings for Routing {
     }
 
     fn by_key(&self, moment: &Moment, key: &str) -> Option<usize> {
-        self.held.of_live_key(moment, key)
+        self.store.of_live_key(moment, key)
     }
 
     #[tactic(auto, unfolding(lost_spec::specs::Find::is_implemented))]
     fn implemented(&self, moment: &Moment, service: &ServiceUrn) -> bool {
-        self.held.implemented(moment, service)
+        self.store.implemented(moment, service)
     }
 
     fn holding(&self, moment: &Moment, place: &Place) -> Result<Positions, AllocError> {
         match place {
-            Place::Point(point) => self.held.holding_point(moment, point),
-            Place::Address(address) => self.held.holding_address(moment, address),
+            Place::Point(point) => self.store.holding_point(moment, point),
+            Place::Address(address) => self.store.holding_address(moment, address),
         }
     }
 
@@ -48,17 +48,17 @@ impl Holdings for Routing {
         service: &ServiceUrn,
     ) -> Result<Positions, AllocError> {
         match place {
-            Place::Point(point) => self.held.at_point(moment, point, service),
-            Place::Address(address) => self.held.at_address(moment, address, service),
+            Place::Point(point) => self.store.at_point(moment, point, service),
+            Place::Address(address) => self.store.at_address(moment, address, service),
         }
     }
 
     fn defaults(&self, moment: &Moment, service: &ServiceUrn) -> Result<Positions, AllocError> {
-        self.held.defaults(moment, service)
+        self.store.defaults(moment, service)
     }
 
     fn of_service(&self, moment: &Moment, service: &ServiceUrn) -> Result<Positions, AllocError> {
-        self.held.of_service(moment, service)
+        self.store.of_service(moment, service)
     }
 
     fn referring(
@@ -68,7 +68,7 @@ impl Holdings for Routing {
         address: &CivicAddress,
         elements: &[Element],
     ) -> Result<Positions, AllocError> {
-        self.held.referring(moment, service, address, elements)
+        self.store.referring(moment, service, address, elements)
     }
 
     #[tactic(auto, unfolding(lost_spec::specs::Services::all_services))]
@@ -77,6 +77,6 @@ impl Holdings for Routing {
         moment: &Moment,
         above: Option<&ServiceUrn>,
     ) -> Result<Vec<ServiceUrn>, AllocError> {
-        self.held.services_below(moment, above)
+        self.store.services_below(moment, above)
     }
 }

@@ -6,13 +6,13 @@ mod apply;
 mod check;
 mod edits;
 mod entering;
-mod held;
 mod holdings;
 mod placed;
 mod questions;
 mod routing;
 mod scan;
 mod services;
+mod store;
 mod validating;
 mod walk;
 

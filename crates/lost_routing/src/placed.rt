@@ -7,8 +7,8 @@ ghost use Rattle.lost_spec.specs.Positions.{positions};
 ghost use Rattle.lost_spec.specs.Find.{AtPoint, AtAddress, holds, is_holder};
 ghost use Rattle.lost_spec.specs.Services.{is_holding};
 
-use crate::held::Held;
 use crate::scan::{FEW, scan};
+use crate::store::Store;
 use lost_book::{holds_address, holds_point, serves};
 use lost_civic::CivicAddress;
 use lost_geo::GeoPoint;
@@ -18,7 +18,7 @@ use lost_tables::picks;
 use lost_urn::ServiceUrn;
 use std::alloc::AllocError;
 
-impl Held {
+impl Store {
     /// The mappings that pass a test which only mappings pass that hold the point, or want of memory.
     fn selected_at_point<F: Fn(&Mapping) -> bool>(
         &self,

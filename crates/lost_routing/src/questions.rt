@@ -7,7 +7,7 @@ ghost use Rattle.lost_spec.specs.Positions.{positions};
 ghost use Rattle.lost_spec.specs.Find.{is_standby, serves};
 ghost use Rattle.lost_spec.specs.Services.{has_live_key};
 
-use crate::held::Held;
+use crate::store::Store;
 use lost_book::{has_identity, has_key, serves};
 use lost_mapping::{Identity, Mapping, Moment};
 use lost_query::Positions;
@@ -15,7 +15,7 @@ use lost_tables::picks;
 use lost_urn::ServiceUrn;
 use std::alloc::AllocError;
 
-impl Held {
+impl Store {
     /// Where the mapping with this identity stands.
     #[tactic(auto, using(crate::proofs::CoverLemmas::covers_identity))]
     pub(crate) fn of_identity(&self, identity: &Identity) -> Option<usize>

@@ -4,7 +4,7 @@ ghost use Rattle.lost_spec.specs.Book.{empty_book};
 ghost use Rattle.lost_spec.specs.Holders.{holders_of};
 ghost use Rattle.lost_query.specs.Place.{place_of};
 
-use crate::held::Held;
+use crate::store::Store;
 use lost_book::Limits;
 use lost_mapping::Mapping;
 use lost_query::Place;
@@ -17,18 +17,18 @@ use std::marker::Model;
 pub struct Routing {
     pub(crate) limits: Limits,
     pub(crate) edits: u64,
-    pub(crate) held: Held,
+    pub(crate) store: Store,
 }
 
 impl Model for Routing {
     ghost use Rattle.lost_spec.specs.Book as spec;
-    ghost use Rattle.lost_routing.specs.Held.{IsRouted};
+    ghost use Rattle.lost_routing.specs.Invariants.{IsRouted};
 
     ghost Value = { spec.Book };
 
-    ghost view = { λ r. record { limits = r.limits; mappings = r.held.mappings; edits = r.edits } };
+    ghost view = { λ r. record { limits = r.limits; mappings = r.store.mappings; edits = r.edits } };
 
-    ghost invariant = { λ r. IsRouted (record { limits = r.limits; mappings = r.held.mappings; edits = r.edits }) r.held.numbers };
+    ghost invariant = { λ r. IsRouted (record { limits = r.limits; mappings = r.store.mappings; edits = r.edits }) r.store.numbers };
 }
 
 impl Routing {
@@ -41,7 +41,7 @@ impl Routing {
         Ok(Routing {
             limits,
             edits: 0,
-            held: Held::new(alloc),
+            store: Store::new(alloc),
         })
     }
 
@@ -56,7 +56,7 @@ impl Routing {
     pub fn len(&self) -> usize
         ensures { result ≡ length self.now.mappings }
     {
-        self.held.len()
+        self.store.len()
     }
 
     /// The mapping at a position, which is below `len`.
@@ -64,7 +64,7 @@ impl Routing {
         requires { position < length self.now.mappings }
         ensures { slice_get self.now.mappings position ≡ Some result.now }
     {
-        self.held.mapping(position)
+        self.store.mapping(position)
     }
 
     /// The set of a place: the mappings that hold it, live or not, in rising positions (own rule), or want of memory.
@@ -72,8 +72,8 @@ impl Routing {
         ensures { IfOk result (λ places. places.items ≡ holders_of self.now (place_of place.now)) }
     {
         let places = match place {
-            Place::Point(point) => self.held.holders_of_point(point),
-            Place::Address(address) => self.held.holders_of_address(address),
+            Place::Point(point) => self.store.holders_of_point(point),
+            Place::Address(address) => self.store.holders_of_address(address),
         }?;
         Ok(places.into_vec()?)
     }
@@ -85,7 +85,7 @@ impl Routing {
         Ok(Routing {
             limits: self.limits,
             edits: self.edits,
-            held: self.held.clone()?,
+            store: self.store.clone()?,
         })
     }
 }

@@ -7,7 +7,7 @@ ghost use Rattle.lost_spec.specs.Mapping.{is_live};
 ghost use Rattle.lost_spec.specs.Services.{children_in};
 ghost use Rattle.lost_routing.specs.Walk.{is_live_of, live_position};
 
-use crate::held::Held;
+use crate::store::Store;
 use lost_mapping::{Mapping, Moment};
 use lost_query::Children;
 use lost_tables::{laws, picks};
@@ -15,7 +15,7 @@ use lost_tiered::TieredVec;
 use lost_urn::ServiceUrn;
 use std::alloc::AllocError;
 
-impl Held {
+impl Store {
     /// The services just below one, or the topmost, of the live mappings, or want of memory. It looks at one live
     /// mapping of each service, and not at the others.
     pub(crate) fn services_below(

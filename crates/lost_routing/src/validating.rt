@@ -4,7 +4,7 @@ ghost use Rattle.lost_spec.specs.Positions.{positions};
 ghost use Rattle.lost_civicdex.specs.Keys.{key_of};
 ghost use Rattle.lost_query.specs.Judged.{is_referring};
 
-use crate::held::Held;
+use crate::store::Store;
 use lost_book::serves;
 use lost_civic::{CivicAddress, Element};
 use lost_civicdex::RequiredElements;
@@ -14,7 +14,7 @@ use lost_tables::picks;
 use lost_urn::ServiceUrn;
 use std::alloc::AllocError;
 
-impl Held {
+impl Store {
     /// The live mappings of this service with some pattern that names each of these elements with the address's
     /// comparison text, or want of memory. Without elements the mappings of the service are tested; where an element
     /// does not stand in the address there are none.

@@ -4,12 +4,12 @@ ghost use Rattle.std.specs.List.{list_any};
 ghost use Rattle.lost_spec.specs.Service.{same_service};
 ghost use Rattle.lost_spec.specs.Find.{serves, is_of_chain};
 
-use crate::held::Held;
+use crate::store::Store;
 use lost_mapping::{Mapping, Moment};
 use lost_tables::picks;
 use lost_urn::ServiceUrn;
 
-impl Held {
+impl Store {
     /// Whether some live mapping has the service or one above it. It takes no memory.
     pub(crate) fn implemented(&self, moment: &Moment, service: &ServiceUrn) -> bool
         ensures { result ≡ list_any (is_of_chain moment.now service.now) self.now.mappings }

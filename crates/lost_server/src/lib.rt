@@ -12,4 +12,4 @@ mod serving;
 pub use lost_lines::{Counts, Gate, NoGate, ServeError, Turns, Watched};
 pub use lost_replay::{Replayer, replay};
 pub use run_fault::RunFault;
-pub use serving::{Manners, serve};
+pub use serving::{ConnectionSettings, serve};

@@ -1,6 +1,6 @@
 //! Why a server stopped before all its connections had ended. Rules without a section are this profile's own.
 ghost use Rattle.std.specs.Prelude.{◌≡◌};
-ghost use Rattle.lost_server.specs.RunFault.{run_code, fault_of};
+ghost use Rattle.lost_server.specs.RunFault.{fault_of};
 
 use lost_desk::OpenError;
 use std::alloc::AllocError;
@@ -18,19 +18,6 @@ pub enum RunFault {
     /// A growth, a reader's place or a thread was refused.
     #[error("memory ran out")]
     Memory,
-}
-
-impl RunFault {
-    /// The number of the fault, from 1 to 3 in the order of the variants.
-    pub fn code(self) -> u8
-        ensures { result ≡ run_code self }
-    {
-        match self {
-            RunFault::Workers => 1,
-            RunFault::Accept => 2,
-            RunFault::Memory => 3,
-        }
-    }
 }
 
 impl From<AllocError> for RunFault {

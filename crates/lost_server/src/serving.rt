@@ -29,7 +29,7 @@ type Query<R> = Connection<Incoming<R>, Outgoing<R>>;
 
 /// How a server treats those that it serves.
 #[derive(Clone, Copy, PartialEq, Eq, Debug)]
-pub struct Manners {
+pub struct ConnectionSettings {
     /// For how long a read or a write of a query connection may wait; `None` for ever.
     pub idle: Option<Duration>,
     /// Whether nothing is said on standard error of connections that end in a fault.
@@ -58,7 +58,7 @@ struct Shared<'n, R: Clock + Eprint + Drop, G> {
 
 /// What one worker has.
 #[derive(Drop)]
-struct Working<R: Clock + Eprint + Drop> {
+struct WorkerParts<R: Clock + Eprint + Drop> {
     reader: CachedReader<RandomState>,
     queries: Queries<R>,
 }
@@ -86,13 +86,13 @@ pub fn serve<
     workers: u32,
     connections: u32,
     gate: &G,
-    manners: Manners,
+    settings: ConnectionSettings,
 ) -> Result<Counts, RunFault>
     ensures workers { (result ≡ Err RunFault.Workers) ↔ ((workers < 1) ⊎ (64 < workers)) }
 {
     match open_desk(rt, alloc, Limits::widest(), workers) {
         Ok((mut desk, readers)) => {
-            let result = match notices_of(rt, alloc, manners.is_quiet) {
+            let result = match notices_of(rt, alloc, settings.is_quiet) {
                 Ok(notices) => {
                     let shared = Shared {
                         rt,
@@ -100,7 +100,7 @@ pub fn serve<
                         name,
                         gate,
                         notices: &notices,
-                        idle: manners.idle,
+                        idle: settings.idle,
                     };
                     serve_all(
                         &shared,
@@ -167,7 +167,7 @@ fn workers_of<R: Clock + Eprint + RandomSource + Drop>(
     alloc: Global,
     mut readers: Readers,
     queries: Queries<R>,
-) -> Result<Vec<Working<R>>, AllocError> {
+) -> Result<Vec<WorkerParts<R>>, AllocError> {
     let mut workers = Vec::new(alloc);
     for _ in 0..MAX_WAITING {
         let Some(reader) = readers.take() else {
@@ -179,7 +179,7 @@ fn workers_of<R: Clock + Eprint + RandomSource + Drop>(
         let Ok(reader) = CachedReader::with_hasher(alloc, reader, PLACES, hasher) else {
             return Err(AllocError);
         };
-        workers.push(Working {
+        workers.push(WorkerParts {
             reader,
             queries: queries.clone()?,
         })?;
@@ -191,7 +191,7 @@ fn workers_of<R: Clock + Eprint + RandomSource + Drop>(
 /// threads. Gives the sum of what was counted.
 fn in_threads<R: Threads + Wait + Clock + Eprint + Drop + Send + Sync, G: Gate + Sync>(
     shared: &Shared<'_, R, G>,
-    workers: Vec<Working<R>>,
+    workers: Vec<WorkerParts<R>>,
     desk: &mut Desk,
     query_listener: &TcpListener,
     desk_listener: &TcpListener,
@@ -247,9 +247,9 @@ fn sum_of<R: Threads + Wait>(rt: &R, threads: Vec<JoinHandle<Counts>>) -> Counts
 /// What the thread of a worker does: it serves query connections until there are no more, and gives what it counted.
 fn work<R: Wait + Clock + Eprint + Drop, G: Gate>(
     shared: &Shared<'_, R, G>,
-    worker: Working<R>,
+    worker: WorkerParts<R>,
 ) -> Counts {
-    let Working {
+    let WorkerParts {
         mut reader,
         queries,
     } = worker;

@@ -1,9 +1,7 @@
 //! The refusals that definitions and code share. A variant's number, where a line or a table shows one, is its `code`.
 //! Rules without a section are this profile's own.
 
-ghost use Rattle.std.specs.Prelude.{◌≡◌};
-ghost use Rattle.lost_spec.specs.Codes.{urn_code, geo_code, ring_code, civic_code, source_code, stamp_code, mapping_code, edit_code};
-
+use crate::code::Coded;
 use thiserror::Error;
 
 /// Why a text is no service URN (RFC 5031, section 3; the bounds are an own rule).
@@ -25,11 +23,13 @@ pub enum UrnError {
     Memory,
 }
 
-impl UrnError {
-    /// The number of the refusal, from 1 to 7 in the order of the checks.
-    pub fn code(self) -> u8
-        ensures { result ≡ urn_code self }
-    {
+/// The number of the refusal, from 1 to 7 in the order of the checks.
+impl Coded for UrnError {
+    ghost use Rattle.lost_spec.specs.Codes.{urn_code};
+
+    ghost code_of = { urn_code };
+
+    fn code(self) -> u8 {
         match self {
             UrnError::Prefix => 1,
             UrnError::EmptyLabel => 2,
@@ -51,11 +51,13 @@ pub enum GeoError {
     Longitude,
 }
 
-impl GeoError {
-    /// The number of the refusal, 1 or 2 in the order of the checks.
-    pub fn code(self) -> u8
-        ensures { result ≡ geo_code self }
-    {
+/// The number of the refusal, 1 or 2 in the order of the checks.
+impl Coded for GeoError {
+    ghost use Rattle.lost_spec.specs.Codes.{geo_code};
+
+    ghost code_of = { geo_code };
+
+    fn code(self) -> u8 {
         match self {
             GeoError::Latitude => 1,
             GeoError::Longitude => 2,
@@ -74,11 +76,13 @@ pub enum RingError {
     TooLong,
 }
 
-impl RingError {
-    /// The number of the refusal, from 1 to 3 in the order of the checks.
-    pub fn code(self) -> u8
-        ensures { result ≡ ring_code self }
-    {
+/// The number of the refusal, from 1 to 3 in the order of the checks.
+impl Coded for RingError {
+    ghost use Rattle.lost_spec.specs.Codes.{ring_code};
+
+    ghost code_of = { ring_code };
+
+    fn code(self) -> u8 {
         match self {
             RingError::TooShort => 1,
             RingError::NotClosed => 2,
@@ -103,11 +107,13 @@ pub enum CivicError {
     UnknownElement,
 }
 
-impl CivicError {
-    /// The number of the refusal.
-    pub fn code(self) -> u8
-        ensures { result ≡ civic_code self }
-    {
+/// The number of the refusal.
+impl Coded for CivicError {
+    ghost use Rattle.lost_spec.specs.Codes.{civic_code};
+
+    ghost code_of = { civic_code };
+
+    fn code(self) -> u8 {
         match self {
             CivicError::NoKnownElement => 1,
             CivicError::Repeated => 2,
@@ -127,11 +133,13 @@ pub enum SourceError {
     Memory,
 }
 
-impl SourceError {
-    /// The number of the refusal, 1 or 2.
-    pub fn code(self) -> u8
-        ensures { result ≡ source_code self }
-    {
+/// The number of the refusal, 1 or 2.
+impl Coded for SourceError {
+    ghost use Rattle.lost_spec.specs.Codes.{source_code};
+
+    ghost code_of = { source_code };
+
+    fn code(self) -> u8 {
         match self {
             SourceError::Bad => 1,
             SourceError::Memory => 2,
@@ -148,11 +156,13 @@ pub enum StampError {
     Memory,
 }
 
-impl StampError {
-    /// The number of the refusal, 1 or 2.
-    pub fn code(self) -> u8
-        ensures { result ≡ stamp_code self }
-    {
+/// The number of the refusal, 1 or 2.
+impl Coded for StampError {
+    ghost use Rattle.lost_spec.specs.Codes.{stamp_code};
+
+    ghost code_of = { stamp_code };
+
+    fn code(self) -> u8 {
         match self {
             StampError::Bad => 1,
             StampError::Memory => 2,
@@ -189,11 +199,13 @@ pub enum MappingError {
     Memory,
 }
 
-impl MappingError {
-    /// The number of the refusal on the desk's lines: 2 to 12 in the order of the checks, and 20.
-    pub fn code(self) -> u8
-        ensures { result ≡ mapping_code self }
-    {
+/// The number of the refusal on the desk's lines: 2 to 12 in the order of the checks, and 20.
+impl Coded for MappingError {
+    ghost use Rattle.lost_spec.specs.Codes.{mapping_code};
+
+    ghost code_of = { mapping_code };
+
+    fn code(self) -> u8 {
         match self {
             MappingError::BadSource => 2,
             MappingError::BadSourceId => 3,
@@ -232,11 +244,13 @@ pub enum EditError {
     Memory,
 }
 
-impl EditError {
-    /// The number of the refusal on the desk's lines, from 13 to 20. It is not the order of the checks.
-    pub fn code(self) -> u8
-        ensures { result ≡ edit_code self }
-    {
+/// The number of the refusal on the desk's lines, from 13 to 20. It is not the order of the checks.
+impl Coded for EditError {
+    ghost use Rattle.lost_spec.specs.Codes.{edit_code};
+
+    ghost code_of = { edit_code };
+
+    fn code(self) -> u8 {
         match self {
             EditError::IdentityHeld => 13,
             EditError::IdentityUnknown => 14,

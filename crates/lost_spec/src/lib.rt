@@ -3,6 +3,9 @@
 #![tactic(auto)]
 
 pub mod answers;
+mod code;
 pub mod faults;
 pub mod laws;
 pub mod rows;
+
+pub use code::Coded;

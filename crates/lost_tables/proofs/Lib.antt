@@ -1,4 +1,4 @@
-pub mod NoteLemmas
+pub mod LookupLemmas
 pub mod TableLemmas
 pub mod PickLemmas
 pub mod WalkLemmas

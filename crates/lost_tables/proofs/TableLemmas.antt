@@ -8,7 +8,7 @@ use Rattle.lost_spec.specs.Mapping.{Mapping}
 use Rattle.lost_spec.specs.Book.{Identity, identity_of}
 use Rattle.lost_tables.specs.declared.tables.Tables.{Tables}
 use Rattle.lost_tables.specs.Lists.{Stands, KeepsOtherNumbers, KeepsUnder, under_text, under_identity}
-use Rattle.lost_tables.specs.Notes.{ByIdentity, ByKey, ByService, ByDefault, Keeps, KeepsOthers, IsNoted, default_text}
+use Rattle.lost_tables.specs.Lookup.{ByIdentity, ByKey, ByService, ByDefault, Keeps, KeepsOthers, IsFullyListed, default_text}
 
 -- what stands where a test passes
 there_if : {X : Type 0} (b : Bool) (x : X) (P : X → Type 0) → IfSome (if b then Some x else None) P → b ≡ true → P x
@@ -42,7 +42,7 @@ module _ (old new : Tables) where
       → IfSome key (λ key. KeepsUnder key (under_text old.keys) (under_text new.keys))
       → KeepsUnder service (under_text old.services) (under_text new.services)
       → IfSome standing (λ text. KeepsUnder text (under_text old.defaults) (under_text new.defaults))
-      → IsNoted old m number → IsNoted new m number
+      → IsFullyListed old m number → IsFullyListed new m number
   still_noted m number identity key service standing is_identity is_key is_service is_standing identities keys services defaults noted = record {
     by_identity = subst (λ i. KeepsUnder i (under_identity old.identities) (under_identity new.identities)) is_identity identities number noted.by_identity;
     by_key = kept_if m.key (under_text old.keys) (under_text new.keys) number
@@ -56,7 +56,7 @@ module _ (old new : Tables) where
   }
 
   -- and where all stays
-  pub noted_kept : Keeps old new → (m : Mapping) (number : ℕ) → IsNoted old m number → IsNoted new m number
+  pub noted_kept : Keeps old new → (m : Mapping) (number : ℕ) → IsFullyListed old m number → IsFullyListed new m number
   noted_kept keeps m number noted = record {
     by_identity = keeps (ByIdentity (identity_of m)) number noted.by_identity;
     by_key = kept_all m.key (under_text old.keys) (under_text new.keys) number (λ key. keeps (ByKey key) number) noted.by_key;

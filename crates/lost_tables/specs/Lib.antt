@@ -1,3 +1,3 @@
 pub mod Lists
-pub mod Notes
+pub mod Lookup
 pub mod Picks

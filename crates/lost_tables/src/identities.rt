@@ -21,6 +21,6 @@ pub(crate) fn list(
     if lists::add(lists, identity, number)? {
         return Ok(());
     }
-    lists::note(lists, alloc, identity.clone()?, number)?;
+    lists::insert(lists, alloc, identity.clone()?, number)?;
     Ok(())
 }

@@ -3,8 +3,8 @@
 #![tactic(auto)]
 
 mod cell;
+mod defaults;
 mod identities;
-mod known;
 pub mod laws;
 mod lists;
 pub mod picks;

@@ -36,7 +36,7 @@ pub(crate) fn add<K: Eq + Hash + Drop>(
 }
 
 /// Lists a number under a key, or want of memory. What was listed stays.
-pub(crate) fn note<K: Eq + Hash + Drop>(
+pub(crate) fn insert<K: Eq + Hash + Drop>(
     lists: &mut IndexMap<K, Cell>,
     alloc: Global,
     key: K,
@@ -52,17 +52,17 @@ pub(crate) fn note<K: Eq + Hash + Drop>(
     Ok(())
 }
 
-/// Takes a number away from a key, unless the key is that of `still`.
+/// Takes a number away from a key, unless the key is that of `remaining`.
 pub(crate) fn unlist<K: Eq + Hash + Drop>(
     lists: &mut IndexMap<K, Cell>,
     gone: &K,
-    still: Option<&K>,
+    remaining: Option<&K>,
     number: u64,
 )
     ensures others { KeepsOtherNumbers number (under K.eq lists.old) (under K.eq lists.new) }
-    ensures still { IfSome (option_copied still.entry) (λ key. KeepsUnder key (under K.eq lists.old) (under K.eq lists.new)) }
+    ensures remaining { IfSome (option_copied remaining.entry) (λ key. KeepsUnder key (under K.eq lists.old) (under K.eq lists.new)) }
 {
-    if !is_key(still, gone) {
+    if !is_key(remaining, gone) {
         unlist_under(lists, gone, number);
     }
 }

@@ -1,7 +1,7 @@
 //! The numbers of mappings by identity, by key, by service, and by service of defaults.
 
 use crate::cell::Cell;
-use crate::known::default_text;
+use crate::defaults::default_text;
 use crate::{identities, lists, texts};
 use indexmap::IndexMap;
 use lost_mapping::{Identity, Mapping};
@@ -21,11 +21,11 @@ pub struct Tables {
 impl Tables {
     ghost use Rattle.std.specs.Prelude.{◌≡◌, ◌<◌, Some, [], length, slice_get, OnOk};
     ghost use Rattle.lost_spec.specs.Service.{Service, service_text};
-    ghost use Rattle.lost_tables.specs.Notes.{Note, ByIdentity, ByKey, ByService, ByDefault, numbers_of, service_rows, Keeps, KeepsOthers, IsNoted};
+    ghost use Rattle.lost_tables.specs.Lookup.{LookupKey, ByIdentity, ByKey, ByService, ByDefault, numbers_of, service_rows, Keeps, KeepsOthers, IsFullyListed};
 
     /// Tables with no number. It takes no memory.
     pub fn new(alloc: Global) -> Tables
-        ensures { (note : Note) → numbers_of result note ≡ [] }
+        ensures { (note : LookupKey) → numbers_of result note ≡ [] }
     {
         Tables {
             alloc,
@@ -85,20 +85,20 @@ impl Tables {
     }
 
     /// Lists a number under each note of a mapping, or want of memory; it is then listed under none of them.
-    pub fn note(&mut self, mapping: &Mapping, number: u64) -> Result<(), AllocError>
-        ensures noted { OnOk result (IsNoted self.new mapping.now number) }
+    pub fn add_mapping(&mut self, mapping: &Mapping, number: u64) -> Result<(), AllocError>
+        ensures listed { OnOk result (IsFullyListed self.new mapping.now number) }
         ensures keeps { OnOk result (Keeps self.old self.new) }
         ensures others { KeepsOthers number self.old self.new }
     {
         if self.list(mapping, number).is_err() {
-            self.take_back(mapping, number);
+            self.remove_mapping(mapping, number);
             return Err(AllocError);
         }
         Ok(())
     }
 
     /// Takes a number away from each note of a mapping. It takes no memory.
-    pub fn take_back(&mut self, mapping: &Mapping, number: u64)
+    pub fn remove_mapping(&mut self, mapping: &Mapping, number: u64)
         ensures others { KeepsOthers number self.old self.new }
     {
         let service = mapping.service().text();
@@ -110,45 +110,45 @@ impl Tables {
 
     /// Lists the number of a mapping under each note of the one that is to replace it, or want of memory; it is then
     /// listed under none of those that the old mapping does not have.
-    pub fn note_change(
+    pub fn add_change(
         &mut self,
         old: &Mapping,
         new: &Mapping,
         number: u64,
     ) -> Result<(), AllocError>
-        ensures noted { OnOk result (IsNoted self.new new.now number) }
+        ensures listed { OnOk result (IsFullyListed self.new new.now number) }
         ensures keeps { OnOk result (Keeps self.old self.new) }
         ensures others { KeepsOthers number self.old self.new }
-        ensures still { IsNoted self.old old.now number → IsNoted self.new old.now number }
+        ensures remaining { IsFullyListed self.old old.now number → IsFullyListed self.new old.now number }
     {
         if self.list(new, number).is_err() {
-            self.take_change_back(new, old, number);
+            self.remove_change(new, old, number);
             return Err(AllocError);
         }
         Ok(())
     }
 
     /// Takes a number away from those notes of a mapping that another mapping does not have. It takes no memory.
-    pub fn take_change_back(&mut self, gone: &Mapping, still: &Mapping, number: u64)
+    pub fn remove_change(&mut self, gone: &Mapping, remaining: &Mapping, number: u64)
         ensures others { KeepsOthers number self.old self.new }
-        ensures still { IsNoted self.old still.now number → IsNoted self.new still.now number }
+        ensures remaining { IsFullyListed self.old remaining.now number → IsFullyListed self.new remaining.now number }
     {
-        let (service, kept) = (gone.service().text(), still.service().text());
-        let (identity, same) = (gone.identity(), still.identity());
+        let (service, kept) = (gone.service().text(), remaining.service().text());
+        let (identity, same) = (gone.identity(), remaining.identity());
         lists::unlist(&mut self.identities, identity, Some(same), number);
-        texts::unlist(&mut self.keys, gone.key(), still.key(), number);
+        texts::unlist(&mut self.keys, gone.key(), remaining.key(), number);
         texts::unlist(&mut self.services, Some(service), Some(kept), number);
         texts::unlist(
             &mut self.defaults,
             default_text(gone),
-            default_text(still),
+            default_text(remaining),
             number,
         );
     }
 
     /// Lists a number under each note of a mapping, or want of memory. What was listed stays.
     fn list(&mut self, mapping: &Mapping, number: u64) -> Result<(), AllocError>
-        ensures noted { OnOk result (IsNoted self.new mapping.now number) }
+        ensures listed { OnOk result (IsFullyListed self.new mapping.now number) }
         ensures keeps { Keeps self.old self.new }
     {
         let service = mapping.service().text();

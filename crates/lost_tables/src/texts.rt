@@ -54,20 +54,20 @@ fn list_under(
     Ok(())
 }
 
-/// Takes a number away from a text, where there is one, unless the text is that of `still`.
+/// Takes a number away from a text, where there is one, unless the text is that of `remaining`.
 pub(crate) fn unlist(
     lists: &mut IndexMap<String, Cell>,
     gone: Option<&str>,
-    still: Option<&str>,
+    remaining: Option<&str>,
     number: u64,
 )
     ensures others { KeepsOtherNumbers number (under_text lists.old) (under_text lists.new) }
-    ensures still { IfSome (option_copied still.entry) (λ text. KeepsUnder text (under_text lists.old) (under_text lists.new)) }
+    ensures remaining { IfSome (option_copied remaining.entry) (λ text. KeepsUnder text (under_text lists.old) (under_text lists.new)) }
 {
     let Some(text) = gone else {
         return;
     };
-    if !is_text(still, text) {
+    if !is_text(remaining, text) {
         unlist_under(lists, text, number);
     }
 }

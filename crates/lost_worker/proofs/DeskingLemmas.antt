@@ -9,9 +9,9 @@ use Rattle.lost_lines.specs.declared.turns.Turns.{Turns}
 use Rattle.lost_lines.specs.Run.{Reply, Run}
 use Rattle.lost_lines.specs.Stream.{IsServed, IsCutOff, IsWholeSoFar, IsSpent, IsHeldBack}
 use Rattle.lost_lines.specs.Outcome.{Passage, IsOutcome}
-use Rattle.lost_stream.specs.Step.{Step}
-use Rattle.lost_stream.specs.Outcome.{IsStreamed, IsStreamedInPart, IsStreamedSoFar, IsStreamSpent, IsStreamOutcome}
-use Rattle.lost_stream.proofs.OutcomeLemmas.{streamed, streamed_in_part, streamed_so_far, stream_spent}
+use Rattle.lost_json.specs.Step.{Step}
+use Rattle.lost_json.specs.Outcome.{IsStreamed, IsStreamedInPart, IsStreamedSoFar, IsStreamSpent, IsStreamOutcome}
+use Rattle.lost_json.proofs.OutcomeLemmas.{streamed, streamed_in_part, streamed_so_far, stream_spent}
 use Rattle.lost_worker.specs.declared.desking.Desking.{Desking}
 use Rattle.lost_worker.specs.Desking.{IsSameDesk, Desks, desk_terms, lists_of}
 

@@ -10,8 +10,8 @@ use Rattle.lost_reading.specs.Desk.{Stage, Commit}
 use Rattle.lost_writing.specs.DeskReplies.{desk_text}
 use Rattle.lost_desk.specs.Seen.{DeskSeen, staged_book, with_staged, with_committed}
 use Rattle.lost_lines.specs.Run.{Reply}
-use Rattle.lost_stream.specs.Stream.{Unmarked, RefusedMemory, refused_text}
-use Rattle.lost_stream.specs.Step.{IsAnswered}
+use Rattle.lost_json.specs.Stream.{Unmarked, RefusedMemory, refused_text}
+use Rattle.lost_json.specs.Step.{IsAnswered}
 use Rattle.lost_worker.specs.Desking.{IsSameDesk, desk_terms, lists_of}
 
 pub IsSameDesk-from_staged : (old new : DeskSeen) (edit : Edit) → new ≡ with_staged old edit → IsSameDesk old new

@@ -3,8 +3,8 @@ use Rattle.std.specs.Prelude.{◌≡◌, false, ◌++◌}
 use Rattle.lost_spec.specs.Book.{Limits}
 use Rattle.lost_desk.specs.Seen.{DeskSeen}
 use Rattle.lost_lines.specs.Run.{Cut, Reply}
-use Rattle.lost_stream.specs.Stream.{Terms, Lists, refused_text}
-use Rattle.lost_stream.specs.Step.{Step}
+use Rattle.lost_json.specs.Stream.{Terms, Lists, refused_text}
+use Rattle.lost_json.specs.Step.{Step}
 use Rattle.lost_worker.specs.declared.desking.Desking.{Desking}
 
 -- a desk's connection: want of memory is code 20, and a line that is over the limit or no desk line is code 1

@@ -9,7 +9,7 @@ use Rattle.lost_desk.specs.Seen.{ReaderSeen, seen_book}
 use Rattle.lost_lines.specs.declared.counts.Counts.{Counts}
 use Rattle.lost_lines.specs.Stream.{IsServed}
 use Rattle.lost_lines.specs.Run.{Cut, Whole, TooLong, Unread, Reply}
-use Rattle.lost_stream.specs.Stream.{bad_request, internal_error}
+use Rattle.lost_json.specs.Stream.{bad_request, internal_error}
 use Rattle.lost_worker.specs.Moments.{Gives}
 
 -- what answers the lines of a connection: what it has seen, and the moments that are told

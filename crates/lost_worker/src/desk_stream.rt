@@ -2,13 +2,13 @@
 ghost use Rattle.std.specs.Prelude.{◌≢◌, Err};
 ghost use Rattle.lost_lines.specs.Calls.{AreFresh, StreamFaults};
 ghost use Rattle.lost_lines.specs.Outcome.{passage_of};
-ghost use Rattle.lost_stream.specs.Outcome.{IsStreamOutcome};
+ghost use Rattle.lost_json.specs.Outcome.{IsStreamOutcome};
 ghost use Rattle.lost_worker.specs.Desking.{IsSameDesk, desk_terms, lists_of};
 
 use crate::desking::Desking;
 use lost_desk::Desk;
 use lost_lines::{Counts, NoGate, ServeError, Turns, Watched, run_lines};
-use lost_tokens::Scratch;
+use lost_tape::Scratch;
 use std::alloc::Global;
 use std::io::{Read, Write};
 use std::sync::Wait;

@@ -1,21 +1,21 @@
 //! What answers the lines of a desk's connection.
 ghost use Rattle.std.specs.Prelude.{◌≡◌, ◌≢◌, Some, None, Ok, Err, IfOk, IfErr, IfSome};
 ghost use Rattle.lost_spec.specs.Text.{Text as Bytes};
-ghost use Rattle.lost_book.specs.Edit.{edit_of};
+ghost use Rattle.lost_message.specs.Edit.{edit_of};
 ghost use Rattle.lost_reading.specs.Desk.{Stage, Commit, desk_line};
 ghost use Rattle.lost_reading.specs.DeskLines.{order_of};
 ghost use Rattle.lost_lines.specs.Answer.{reply_of};
-ghost use Rattle.lost_stream.specs.Step.{IsAnswered};
+ghost use Rattle.lost_json.specs.Step.{IsAnswered};
 ghost use Rattle.lost_worker.specs.Desking.{IsSameDesk, desk_terms, lists_of};
 
 use lost_book::Edit;
 use lost_desk::Desk;
-use lost_json::{DeskFault, DeskLine, DeskReply};
+use lost_json::{DeskFault, DeskLine, DeskReply, desk_answer};
 use lost_lines::{Answer, Answerer};
 use lost_mapping::MappingError;
 use lost_reading::Line;
-use lost_stream::desk_answer;
-use lost_tokens::{Scratch, read_line};
+use lost_spec::Coded;
+use lost_tape::{Scratch, read_line};
 use std::alloc::Global;
 use std::sync::Wait;
 
@@ -34,7 +34,7 @@ impl<T: Wait> Answerer for Desking<'_, '_, '_, T> {
     ghost step = { Desks };
 
     fn answer(&mut self, alloc: Global, line: &[u8]) -> Answer {
-        match read_desk(alloc, line, self.scratch) {
+        match read_desk_by_tape(alloc, line, self.scratch) {
             Ok(Some(DeskLine::Edit(edit))) => stage(self.desk, edit),
             Ok(Some(DeskLine::Commit)) => commit(self.rt, self.desk),
             Ok(None) => desk_answer(DeskReply::Refused(1)),
@@ -55,7 +55,7 @@ impl<T: Wait> Answerer for Desking<'_, '_, '_, T> {
 }
 
 /// Reads a desk line by its tokens, or `None` where a line is no desk line, which a request is not.
-fn read_desk(
+fn read_desk_by_tape(
     alloc: Global,
     line: &[u8],
     scratch: &mut Scratch,

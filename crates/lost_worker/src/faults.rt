@@ -1,7 +1,4 @@
 //! Why a reader gets no cache.
-ghost use Rattle.std.specs.Prelude.{◌≡◌};
-ghost use Rattle.lost_worker.specs.Codes.{cache_code};
-
 use thiserror::Error;
 
 /// Why a reader gets no cache.
@@ -13,11 +10,13 @@ pub enum CacheError {
     Memory,
 }
 
-impl CacheError {
-    /// The number of the refusal, 1 or 2.
-    pub fn code(self) -> u8
-        ensures { result ≡ cache_code self }
-    {
+/// The number of the refusal, 1 or 2.
+impl Coded for CacheError {
+    ghost use Rattle.lost_worker.specs.Codes.{cache_code};
+
+    ghost code_of = { cache_code };
+
+    fn code(self) -> u8 {
         match self {
             CacheError::Capacity => 1,
             CacheError::Memory => 2,

@@ -2,9 +2,9 @@
 
 use crate::moments::Moments;
 use crate::replier::Replier;
+use lost_json::{bad_request, internal_error};
 use lost_lines::{Answer, Answerer, Text};
 use lost_mapping::Source;
-use lost_stream::{bad_request, internal_error};
 use std::alloc::Global;
 
 /// What answers the lines of a connection: the name of the server stays, and each line that goes to the replier takes a

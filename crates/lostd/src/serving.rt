@@ -5,7 +5,7 @@ ghost use Rattle.lostd.specs.Trouble.{serve_trouble};
 use crate::replaying::said_of;
 use clap::ArgMatches;
 use lost_mapping::Source;
-use lost_server::{Manners, NoGate, RunFault, ServeError, serve};
+use lost_server::{ConnectionSettings, NoGate, RunFault, ServeError, serve};
 use lost_trouble::{Trouble, server_name};
 use std::io::ErrorKind;
 use std::net::{Net, TcpListener, TcpStream};
@@ -22,7 +22,7 @@ pub(crate) struct ServeOrder<'a> {
     desk: &'a str,
     workers: u32,
     connections: u32,
-    manners: Manners,
+    settings: ConnectionSettings,
 }
 
 /// What the arguments order.
@@ -45,7 +45,7 @@ pub(crate) fn order_of<'a, R: Eprint + AllocGlobal>(
         desk: given.get_str("desk").unwrap_or(""),
         workers: given.get_one::<u32>("workers").unwrap_or(0),
         connections: given.get_one::<u32>("connections").unwrap_or(0),
-        manners: Manners {
+        settings: ConnectionSettings {
             idle,
             is_quiet: given.get_flag("quiet"),
         },
@@ -78,7 +78,7 @@ pub(crate) fn serve_addresses<
         order.workers,
         order.connections,
         &NoGate,
-        order.manners,
+        order.settings,
     )
     .map_err(trouble_of)?;
     println!(rt; "done lines={} faults={}", counts.lines, counts.faults).map_err(|_| Trouble::Run(

@@ -4,7 +4,7 @@ use crate::clients::{Found, ask_all};
 use crate::desks::{ask, commit_all};
 use crate::gates::Meeting;
 use crate::lines::{COMMIT, PUBLISH, QUESTION};
-use lost_server::{Counts, Gate, Manners, NoGate, RunFault, serve};
+use lost_server::{Counts, Gate, ConnectionSettings, NoGate, RunFault, serve};
 use std::alloc::Global;
 use std::io;
 use std::net::{Net, TcpListener, TcpStream};
@@ -32,7 +32,7 @@ fn serve_bench<
     connections: u32,
     gate: &G,
 ) -> Result<Counts, RunFault> {
-    let manners = Manners {
+    let manners = ConnectionSettings {
         idle: Some(Duration::from_secs(IDLE)),
         is_quiet: false,
     };

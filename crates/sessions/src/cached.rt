@@ -1,10 +1,11 @@
 //! One session through a desk and a reader that keeps places.
 use lost_book::{Edit, Limits};
 use lost_desk::{Desk, Reader, open_desk};
-use lost_json::{DeskFault, DeskLine, DeskReply, read_desk};
+use lost_json::{
+    DeskFault, DeskLine, DeskReply, bad_request, desk_answer, internal_error, read_desk,
+};
 use lost_lines::{Answer, Answerer, NoGate, Text, Turns, Watched, run_lines};
 use lost_mapping::{MappingError, Moment, Source};
-use lost_stream::{bad_request, desk_answer, internal_error};
 use lost_worker::CachedReader;
 use std::alloc::Global;
 use std::sync::Wait;

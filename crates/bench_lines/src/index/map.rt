@@ -1,6 +1,6 @@
 //! What finds the boundaries at a point: an index, or a list in which the district of the point is known.
 
-ghost use Rattle.lost_index.specs.Held.{IsAbove};
+ghost use Rattle.lost_index.specs.Entries.{IsAbove};
 
 use crate::index::shapes::district;
 use lost_geo::{GeoPoint, Polygon};

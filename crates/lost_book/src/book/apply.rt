@@ -2,13 +2,13 @@
 ghost use Rattle.std.specs.Prelude.{◌≡◌, ◌≢◌, true, None, Some, IfErr, OnOk, OnErr};
 ghost use Rattle.lost_spec.specs.Book.{Publish, Replace, Withdraw, refusal, after};
 ghost use Rattle.lost_book.specs.Applied.{IsApplied, is_publish};
-ghost use Rattle.lost_book.specs.Edit.{edit_of};
+ghost use Rattle.lost_message.specs.Edit.{edit_of};
 
 use crate::book::Book;
 use crate::changes;
-use crate::edit::Edit;
 use crate::register::{check_publish, check_replace, check_withdraw};
 use lost_mapping::{Identity, Mapping, Stamp};
+use lost_message::Edit;
 use lost_spec::faults::EditError;
 
 impl Book {

@@ -1,5 +1,5 @@
 use Rattle.std.proofs.Common.{◌≡◌, length}
-use Rattle.lost_desk.specs.Held.{pending_of}
+use Rattle.lost_desk.specs.States.{pending_of}
 use Rattle.lost_desk.proofs.queue.log_all.Given as goal
 
 abbrev pub invariant-loop-copies : goal.invariant-loop-copies

@@ -1,6 +1,6 @@
 use Rattle.std.proofs.Common.{◌∙◌, ap}
 use Rattle.lost_desk.specs.declared.version.Operation.TheVariants.{Mark}
-use Rattle.lost_desk.specs.Held.{with_waiting}
+use Rattle.lost_desk.specs.States.{with_waiting}
 use Rattle.lost_desk.proofs.DeskLemmas.{may_follow, published_by}
 use Rattle.lost_desk.proofs.queue.publish_logged.Goals as goal
 

@@ -5,8 +5,8 @@ use Rattle.lost_mapping.proofs.regions.count_regions.Given as goal
 
 abbrev pub invariant-loop-region : goal.invariant-loop-region
 invariant-loop-region g l =
-    let left = map g.T.Telling.region_of l.rest in
-    let all = map g.T.Telling.region_of l.regions in
+    let left = map g.T.PartItems.region_of l.rest in
+    let all = map g.T.PartItems.region_of l.regions in
     record {
       polygons : l.counts.polygons + length (polygons_of left) ≡ length (polygons_of all);
       patterns : l.counts.patterns + length (patterns_of left) ≡ length (patterns_of all);

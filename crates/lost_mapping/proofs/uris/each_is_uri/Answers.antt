@@ -8,6 +8,6 @@ use Rattle.lost_mapping.proofs.uris.each_is_uri.Goals as goal
 
 pub returns : goal.returns
 returns g c =
-    let uri_of = g.T.Telling.uri_of in
+    let uri_of = g.T.PartItems.uri_of in
     let direct : c.all.result ≡ list_all (λ uri. is_uri (uri_of uri)) c.args.uris.now = all_from_yields_List (λ uri. is_uri (uri_of uri)) _ _ c.all.result c.all.ensures.ran (YieldsList-from_slice c.args.uris.now (cc)) (λ x b q k. search (rules, tests)) in
     direct ∙ sym (list_all-map is_uri uri_of c.args.uris.now)

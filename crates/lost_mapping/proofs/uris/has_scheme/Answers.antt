@@ -9,7 +9,7 @@ use Rattle.lost_mapping.proofs.uris.has_scheme.Goals as goal
 
 pub returns : goal.returns
 returns g c =
-    let uri_of = g.T.Telling.uri_of in
+    let uri_of = g.T.PartItems.uri_of in
     let is_same : Text → Bool = same_text (lowered c.args.scheme.now) in
     let direct : c.any.result ≡ list_any (λ uri. is_same (lowered (scheme_of (uri_of uri)))) c.args.uris.now = any_from_yields_List (λ uri. is_same (lowered (scheme_of (uri_of uri)))) _ _ c.any.result c.any.ensures.ran (YieldsList-from_slice c.args.uris.now (cc)) (λ x b q k. search (rules, tests)) in
     direct

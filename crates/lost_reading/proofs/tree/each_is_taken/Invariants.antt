@@ -1,6 +1,6 @@
 use Rattle.std.proofs.Common.{◌≡◌}
 use Rattle.std.specs.List.{list_all}
-use Rattle.lost_reading.specs.Told.{is_pattern_entry}
+use Rattle.lost_reading.specs.TreeParts.{is_pattern_entry}
 use Rattle.lost_reading.proofs.tree.each_is_taken.Given as goal
 
 abbrev pub invariant-loop-name : goal.invariant-loop-name

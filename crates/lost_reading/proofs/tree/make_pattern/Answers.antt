@@ -1,7 +1,7 @@
 use Rattle.std.proofs.Common.{◌≡◌, ◌∙◌, ◌&&◌, true, false, length, sym, ap, ℕ}
 use Rattle.std.specs.List.{list_all}
 use Rattle.lost_spec.specs.Text.{is_between}
-use Rattle.lost_reading.specs.Told.{is_pattern_entry}
+use Rattle.lost_reading.specs.TreeParts.{is_pattern_entry}
 use Rattle.lost_reading.proofs.PatternLemmas.{is_region-entries}
 use Rattle.lost_reading.proofs.tree.make_pattern.Goals as goal
 

@@ -1,7 +1,7 @@
 use Rattle.std.proofs.Common.{◌+◌, ◌++◌, length, arith, ◌∙◌}
 use Rattle.std.specs.List.{slice_range}
 use Rattle.std.proofs.lemmas.List.{length-append}
-use Rattle.lost_regions.proofs.HeldLemmas.{is_held, has_regions, same_change, rest_part}
+use Rattle.lost_regions.proofs.UnderNumberLemmas.{is_held, has_regions, same_change, rest_part}
 use Rattle.lost_regions.proofs.part.keep_rest.Goals as goal
 
 pub cut-requires-clause-held : goal.cut-requires-clause-held

@@ -1,7 +1,7 @@
 -- The other numbers stand where another is written over one.
 use Rattle.std.proofs.Common.{◌-◌, arith}
 use Rattle.std.proofs.lemmas.List.{length-set}
-use Rattle.lost_tables.proofs.NoteLemmas.{others-set}
+use Rattle.lost_tables.proofs.LookupLemmas.{others-set}
 use Rattle.lost_tables.proofs.cell.write_over.Goals as goal
 
 pub loop-start-preserved : goal.loop-start-preserved

@@ -1,5 +1,5 @@
 use Rattle.std.proofs.Common.{Err, ap, ◌∙◌}
-use Rattle.lost_book.specs.Edit.{edit_of}
+use Rattle.lost_message.specs.Edit.{edit_of}
 use Rattle.lost_worker.proofs.StageLemmas.{staged_step, refused_step}
 use Rattle.lost_worker.proofs.desking.stage.Goals as goal
 

@@ -1,6 +1,6 @@
 use Rattle.std.proofs.Common.{drop, sym, subst}
 use Rattle.lost_desk.specs.Copies.{taken_all}
-use Rattle.lost_desk.specs.Held.{MayFollow}
+use Rattle.lost_desk.specs.States.{MayFollow}
 use Rattle.lost_desk.proofs.StepLemmas.{publishes}
 use Rattle.lost_desk.proofs.copies.Copies.publish.Goals as goal
 

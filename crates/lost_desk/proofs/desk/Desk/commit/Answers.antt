@@ -1,5 +1,5 @@
 use Rattle.std.proofs.Common.{◌≡◌, length, sym, ◌∙◌, ap, arith}
-use Rattle.lost_desk.specs.Held.{published_version, pending_of}
+use Rattle.lost_desk.specs.States.{published_version, pending_of}
 use Rattle.lost_desk.proofs.DeskLemmas.{counted, counted_all, none_pending, nothing_is, publish_keeps, committed_is}
 use Rattle.lost_desk.proofs.desk.Desk.commit.Goals as goal
 

@@ -4,7 +4,7 @@ use Rattle.lost_spec.specs.Book.{Edit}
 use Rattle.lost_history.specs.History.{Beginning}
 use Rattle.left_right.specs.Sides.{view}
 use Rattle.lost_desk.specs.declared.view.View.{View}
-use Rattle.lost_desk.specs.Held.{reader_seen}
+use Rattle.lost_desk.specs.States.{reader_seen}
 use Rattle.lost_desk.proofs.reader.Reader.reply_line.Goals as goal
 
 begins_seen : {Seat : Type 0} (at : Seat → View) (seat : Option Seat) (latest : Beginning) (new : List Edit)

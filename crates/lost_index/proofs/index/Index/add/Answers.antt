@@ -4,19 +4,19 @@ use Rattle.lost_index.proofs.index.Index.add.Goals as goal
 
 pub invariant_of-self : goal.invariant_of-self
 invariant_of-self g c =
-    IsIndexed-unnoted g.P.Profile.is_region g.P.Profile.cover_of g.P.Profile.outline_of g.P.Key.PartialEq.eq g.P.Outline.PartialEq.eq c.self.inside.held c.self.inside.cells c.note_new.new.cells
-    c.args.number c.kept_of-still.result.now c.self.invariant c.kept_of-still.ensures c.note_new.ensures.others c.note_new.ensures.still
+    IsIndexed-unnoted g.P.Profile.is_region g.P.Profile.cover_of g.P.Profile.outline_of g.P.Key.PartialEq.eq g.P.Outline.PartialEq.eq c.self.inside.held c.self.inside.cells c.add_notes.new.cells
+    c.args.number c.kept_of-remaining.result.now c.self.invariant c.kept_of-remaining.ensures c.add_notes.ensures.others c.add_notes.ensures.remaining
 
 pub invariant_of-self-in-Err : goal.invariant_of-self-in-Err
 invariant_of-self-in-Err g c =
     IsIndexed-refused g.P.Profile.is_region g.P.Profile.cover_of g.P.Profile.outline_of g.P.Key.PartialEq.eq g.P.Outline.PartialEq.eq c.self.inside.held c.append.new.held
-    c.self.inside.cells c.note_new.new.cells c.take_back.new.cells c.args.number c.kept_of-still.result.now c.kept_of-still-in-Err.result.now
-    c.self.invariant c.in-Err.ensures.refused c.kept_of-still.ensures c.kept_of-still-in-Err.ensures c.note_new.ensures.others
-    c.take_back.ensures.others c.note_new.ensures.still c.take_back.ensures.still
+    c.self.inside.cells c.add_notes.new.cells c.remove_notes.new.cells c.args.number c.kept_of-remaining.result.now c.kept_of-remaining-in-Err.result.now
+    c.self.invariant c.in-Err.ensures.refused c.kept_of-remaining.ensures c.kept_of-remaining-in-Err.ensures c.add_notes.ensures.others
+    c.remove_notes.ensures.others c.add_notes.ensures.remaining c.remove_notes.ensures.remaining
 
 pub invariant_of-self-in_default : goal.invariant_of-self-in_default
 invariant_of-self-in_default g c =
     IsIndexed-added g.P.Profile.is_region g.P.Profile.cover_of g.P.Profile.outline_of g.P.Key.PartialEq.eq g.P.Outline.PartialEq.eq c.self.inside.held c.append.new.held
-    c.self.inside.cells c.note_new.new.cells c.args.number c.kept_of-still.result.now c.in_ok-entry.entry c.self.invariant
-    c.kept_of-still.ensures (c.in_default.ensures.updates c.kept_of-still.result.now c.kept_of-still.ensures) c.note_new.ensures.others
-    c.note_new.ensures.still c.in_ok-entry.ensures.are_regions (rw (← c.kept.ensures) c.in_ok-note_new.ensures.noted)
+    c.self.inside.cells c.add_notes.new.cells c.args.number c.kept_of-remaining.result.now c.in_ok-entry.entry c.self.invariant
+    c.kept_of-remaining.ensures (c.in_default.ensures.updates c.kept_of-remaining.result.now c.kept_of-remaining.ensures) c.add_notes.ensures.others
+    c.add_notes.ensures.remaining c.in_ok-entry.ensures.are_regions (rw (← c.kept.ensures) c.in_ok-add_notes.ensures.added)

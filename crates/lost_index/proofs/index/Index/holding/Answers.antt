@@ -2,7 +2,7 @@
 use Rattle.std.proofs.Common.{nat_eq, ap, ◌∙◌}
 use Rattle.std.proofs.lemmas.List.Filters.{dedup_is}
 use Rattle.std.proofs.lemmas.Map.Keys.{IsStrictlyIncreasing-dedup}
-use Rattle.lost_index.specs.Held.{holders}
+use Rattle.lost_index.specs.Entries.{holders}
 use Rattle.lost_index.proofs.HoldingLemmas.{holding_is}
 use Rattle.lost_index.proofs.index.Index.holding.Goals as goal
 

@@ -1,7 +1,7 @@
 -- The notes of the other numbers stay.
 use Rattle.std.proofs.Common.{sym, subst, ◌∙◌}
-use Rattle.lost_index.specs.Held.{IsHeld}
-use Rattle.lost_index.proofs.HeldLemmas.{held_found}
+use Rattle.lost_index.specs.Entries.{IsHeld}
+use Rattle.lost_index.proofs.EntryLemmas.{held_found}
 use Rattle.lost_index.proofs.IndexLemmas.{IsIndexed-taken}
 use Rattle.lost_index.proofs.index.Index.take.Goals as goal
 
@@ -13,4 +13,4 @@ unreachable-requires g c =
 pub invariant_of-self : goal.invariant_of-self
 invariant_of-self g c =
     IsIndexed-taken g.P.Profile.is_region g.P.Profile.cover_of g.P.Profile.outline_of g.P.Key.PartialEq.eq g.P.Outline.PartialEq.eq c.self.inside.held c.remove.new.self
-    c.self.inside.cells c.take_back.new.cells c.args.number c.self.invariant c.remove.ensures.updates.0 c.take_back.ensures.others
+    c.self.inside.cells c.remove_notes.new.cells c.args.number c.self.invariant c.remove.ensures.updates.0 c.remove_notes.ensures.others

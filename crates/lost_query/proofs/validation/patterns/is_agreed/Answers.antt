@@ -5,7 +5,7 @@ use Rattle.std.proofs.lemmas.Iterator.Search.{any_from_yields_List}
 use Rattle.lost_spec.specs.Civic.{Pairs}
 use Rattle.lost_spec.specs.Validation.{agrees}
 use Rattle.lost_civic.specs.Element.{element_name}
-use Rattle.lost_query.proofs.PatternLemmas.{list_any-map}
+use Rattle.lost_message.proofs.FoldLemmas.{list_any-map}
 use Rattle.lost_query.proofs.validation.patterns.is_agreed.Goals as goal
 
 pub returns : goal.returns
@@ -13,4 +13,4 @@ returns c =
     let named = agrees c.args.address.now (element_name c.args.element) in
     let test : Bor Pairs → Bool = λ pattern. named pattern.now in
     let direct : c.any.result ≡ list_any test c.args.patterns.now = any_from_yields_List test _ _ c.any.result c.any.ensures.ran (YieldsList-from_slice c.args.patterns.now (cc)) (λ x b q k. search (rules, tests)) in
-    direct ∙ list_any-map named (λ (p : Bor Pairs). p.now) c.args.patterns.now
+    direct ∙ list_any-map (λ (p : Bor Pairs). p.now) named c.args.patterns.now

@@ -1,6 +1,6 @@
 use Rattle.std.proofs.Common.{rules, ◌≡◌, sym, ap, subst, ◌∙◌}
-use Rattle.lost_regions.specs.Held.{IsHeldWith}
-use Rattle.lost_regions.proofs.HeldLemmas.{is_held, grown, growth_undone}
+use Rattle.lost_regions.specs.UnderNumber.{IsHeldWith}
+use Rattle.lost_regions.proofs.UnderNumberLemmas.{is_held, grown, growth_undone}
 use Rattle.lost_regions.proofs.RegionLemmas.{same_lists}
 use Rattle.lost_regions.proofs.regions.Regions.grow.Goals as goal
 

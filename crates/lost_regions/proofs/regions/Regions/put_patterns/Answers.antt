@@ -1,6 +1,6 @@
 use Rattle.std.proofs.Common.{rules, ◌≡◌, refl, sym, ap, subst, ◌∙◌}
-use Rattle.lost_index.specs.Held.{IsAbove}
-use Rattle.lost_regions.proofs.HeldLemmas.{is_put, put_undone}
+use Rattle.lost_index.specs.Entries.{IsAbove}
+use Rattle.lost_regions.proofs.UnderNumberLemmas.{is_put, put_undone}
 use Rattle.lost_regions.proofs.RegionLemmas.{same_lists}
 use Rattle.lost_regions.proofs.regions.Regions.put_patterns.Goals as goal
 

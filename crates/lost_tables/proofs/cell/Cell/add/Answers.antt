@@ -1,6 +1,6 @@
 -- Where the search hits, the number stands there already.
 use Rattle.std.proofs.Common.{nat_eq}
-use Rattle.lost_tables.proofs.NoteLemmas.{stands-insert, stands_at}
+use Rattle.lost_tables.proofs.LookupLemmas.{stands-insert, stands_at}
 use Rattle.lost_tables.proofs.cell.Cell.add.Goals as goal
 
 pub returns-in_ok-insert-clause-keeps : goal.returns-in_ok-insert-clause-keeps

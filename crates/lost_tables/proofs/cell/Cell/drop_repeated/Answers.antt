@@ -1,7 +1,7 @@
 -- A list without repetitions has the same numbers.
 use Rattle.std.proofs.Common.{nat_eq}
 use Rattle.std.proofs.lemmas.List.Filters.{dedup_is}
-use Rattle.lost_tables.proofs.NoteLemmas.{stands-dedup}
+use Rattle.lost_tables.proofs.LookupLemmas.{stands-dedup}
 use Rattle.lost_tables.proofs.cell.Cell.drop_repeated.Goals as goal
 
 pub returns-then-self-len : goal.returns-then-self-len

@@ -1,0 +1,110 @@
+//! Codes 13 to 19: what the mappings that are held say against an edit.
+use crate::object::Object;
+use crate::quoting::quoted;
+use crate::stop::{Stop, found};
+use lost_book::{Register, has_key};
+use lost_mapping::{Identity, Mapping};
+use lost_query::Holdings;
+use lost_routing::Routing;
+
+/// What the mappings that are held, staged edits counted, say against an edit that is refused with this code.
+pub(crate) fn book_refusal(edit: &Object<'_>, code: u8, staged: &Routing) -> Result<(), Stop> {
+    match code {
+        18 => full(edit, staged),
+        19 => spent(edit, staged),
+        _ => match identity(edit)? {
+            Some(identity) => against(edit, code, staged, &identity),
+            None => Ok(()),
+        },
+    }
+}
+
+/// What names the mapping of an edit.
+fn identity(edit: &Object<'_>) -> Result<Option<Identity>, Stop> {
+    let (Some(source), Some(source_id)) = (edit.text("source"), edit.text("sourceId")) else {
+        return Ok(None);
+    };
+    if Identity::check(source, source_id).is_err() {
+        return Ok(None);
+    }
+    match Identity::parse(edit.alloc, source, source_id) {
+        Ok(identity) => Ok(Some(identity)),
+        Err(_) => Err(Stop::Memory),
+    }
+}
+
+/// What is held against an edit of the mapping with this identity.
+fn against(edit: &Object<'_>, code: u8, staged: &Routing, identity: &Identity) -> Result<(), Stop> {
+    let alloc = edit.alloc;
+    let source = identity.source().text();
+    let source_id = identity.source_id();
+    match code {
+        13 => Err(found(format!(in alloc; "{source} / {source_id} is held: send it as replace"))),
+        14 => Err(found(format!(in alloc; "{source} / {source_id} is not held"))),
+        15 => not_newer(edit, staged, identity),
+        16 => key_held(edit, staged, identity),
+        17 => key_unchanged(edit),
+        _ => Ok(()),
+    }
+}
+
+/// Code 15: the stamp is not after that of the mapping that is held.
+fn not_newer(edit: &Object<'_>, staged: &Routing, identity: &Identity) -> Result<(), Stop> {
+    let Some(held) = staged.held(identity) else {
+        return Ok(());
+    };
+    let source = identity.source().text();
+    let source_id = identity.source_id();
+    let stamp = held.stamp().text();
+    Err(found(format!(in edit.alloc;
+        "lastUpdated: it is not after {stamp}, that of {source} / {source_id}"
+    )))
+}
+
+/// Code 16: the key is that of another mapping.
+fn key_held(edit: &Object<'_>, staged: &Routing, identity: &Identity) -> Result<(), Stop> {
+    let Some(key) = edit.text("key") else {
+        return Ok(());
+    };
+    let Some(held) = with_key(staged, identity, key) else {
+        return Ok(());
+    };
+    let shown = quoted(edit.alloc, key)?;
+    let source = held.identity().source().text();
+    let source_id = held.identity().source_id();
+    Err(found(format!(in edit.alloc; "key {shown} is that of {source} / {source_id}")))
+}
+
+/// The first mapping of another identity that has this key. It takes time in proportion to the mappings that are held.
+fn with_key<'h>(staged: &'h Routing, identity: &Identity, key: &str) -> Option<&'h Mapping> {
+    for position in 0..staged.len() {
+        let held = staged.mapping(position);
+        if has_key(held, key) && held.identity() != identity {
+            return Some(held);
+        }
+    }
+    None
+}
+
+/// Code 17: the regions changed, and the key did not.
+fn key_unchanged(edit: &Object<'_>) -> Result<(), Stop> {
+    let Some(key) = edit.text("key") else {
+        return Ok(());
+    };
+    let shown = quoted(edit.alloc, key)?;
+    Err(found(format!(in edit.alloc;
+        "the regions changed, and key {shown} did not: give a new key"
+    )))
+}
+
+/// Code 18: as many mappings are held as may be.
+fn full(edit: &Object<'_>, staged: &Routing) -> Result<(), Stop> {
+    let count = staged.len();
+    Err(found(format!(in edit.alloc; "{count} mappings are held, and no more may be")))
+}
+
+/// Code 19: as many edits were accepted as may be.
+fn spent(edit: &Object<'_>, staged: &Routing) -> Result<(), Stop> {
+    let count = staged.edition();
+    Err(found(format!(in edit.alloc; "{count} edits were accepted, and no more may be")))
+}

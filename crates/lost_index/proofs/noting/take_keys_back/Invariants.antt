@@ -1,8 +1,0 @@
-use Rattle.lost_index.specs.Notes.{IsUnder, KeepsOthers, KeepsUnder}
-use Rattle.lost_index.proofs.noting.take_keys_back.Given as goal
-
-abbrev pub invariant-loop-key : goal.invariant-loop-key
-invariant-loop-key g l = record {
-  others : KeepsOthers g.P.Key.PartialEq.eq g.P.Outline.PartialEq.eq l.number l.initial.cells l.cells;
-  still : KeepsUnder g.P.Key.PartialEq.eq g.P.Outline.PartialEq.eq (IsUnder g.P.Profile.cover_of g.P.Profile.outline_of l.still) l.initial.cells l.cells;
-}

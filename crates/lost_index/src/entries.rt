@@ -1,0 +1,82 @@
+//! The entries of the numbers that are held.
+ghost use Rattle.std.specs.Prelude.{◌≡◌, ◌≤◌, ◌++◌, ◌∷◌, [], Some, cond, length, IfOk, OnOk, OnErr};
+ghost use Rattle.std.specs.BTreeMap.{get, is_at};
+ghost use Rattle.std.specs.List.{slice_range};
+ghost use Rattle.std.specs.Ordering.{nat_cmp};
+ghost use Rattle.lost_index.specs.Entries.{IsHeld, IsAbove, HasRegions, with_number};
+
+use crate::entry::Entry;
+use crate::indexed_region::IndexedRegion;
+use lost_profile::Profile;
+use std::alloc::AllocError;
+use std::collections::BTreeMap;
+
+/// The regions of a number that is held.
+pub(crate) fn kept_of<P: Profile>(
+    held: &BTreeMap<u64, Entry<P>>,
+    number: u64,
+) -> &[IndexedRegion<P>]
+    requires { IsHeld number held.now.entries }
+    ensures { get nat_cmp held.now number ≡ Some result.now }
+{
+    match held.get(&number) {
+        Some(entry) => entry.kept(),
+        None => unreachable!(),
+    }
+}
+
+/// Puts a number with its regions behind all, or gives the regions back for want of memory, which changes nothing.
+pub(crate) fn put<P: Profile>(
+    held: &mut BTreeMap<u64, Entry<P>>,
+    number: u64,
+    entry: Entry<P>,
+) -> Result<(), Entry<P>>
+    requires { IsAbove number held.old.entries }
+    ensures put { OnOk result (held.new.entries ≡ held.old.entries ++ (number, entry) ∷ []) }
+    ensures updates { OnOk result ((k : _) → get nat_cmp held.new k ≡ cond (is_at (nat_cmp number) k) (Some entry) (get nat_cmp held.old k)) }
+    ensures refused { OnErr result (held.new.entries ≡ held.old.entries) }
+{
+    match held.insert(number, entry) {
+        Ok(_) => Ok(()),
+        Err(refused) => Err(refused.value.1),
+    }
+}
+
+/// Puts more regions behind those of a number that is held, or want of memory, which changes nothing.
+pub(crate) fn append<P: Profile>(
+    held: &mut BTreeMap<u64, Entry<P>>,
+    number: u64,
+    more: &mut Entry<P>,
+) -> Result<(), AllocError>
+    requires { IsHeld number held.old.entries }
+    ensures appended { OnOk result (held.new.entries ≡ with_number number (λ regions. regions ++ more.old) held.old.entries) }
+    ensures updates { OnOk result ((regions : _) → get nat_cmp held.old number ≡ Some regions
+        → (k : _) → get nat_cmp held.new k ≡ cond (is_at (nat_cmp number) k) (Some (regions ++ more.old)) (get nat_cmp held.old k)) }
+    ensures refused { OnErr result (held.new.entries ≡ held.old.entries) }
+    ensures given_back { OnErr result (more.new ≡ more.old) }
+{
+    match held.get_mut(&number) {
+        Some(entry) => entry.append(more),
+        None => unreachable!(),
+    }
+}
+
+/// Keeps the regions of a number at the positions from `from` up to before `to`. It takes no memory.
+pub(crate) fn cut<P: Profile>(
+    held: &mut BTreeMap<u64, Entry<P>>,
+    number: u64,
+    from: usize,
+    to: usize,
+)
+    requires held { IsHeld number held.old.entries }
+    requires in_order { from ≤ to }
+    requires within { HasRegions to number held.old.entries }
+    ensures cut { held.new.entries ≡ with_number number (λ regions. slice_range regions from to) held.old.entries }
+    ensures updates { (regions : _) → get nat_cmp held.old number ≡ Some regions
+        → (k : _) → get nat_cmp held.new k ≡ cond (is_at (nat_cmp number) k) (Some (slice_range regions from to)) (get nat_cmp held.old k) }
+{
+    match held.get_mut(&number) {
+        Some(entry) => entry.cut(from, to),
+        None => unreachable!(),
+    }
+}

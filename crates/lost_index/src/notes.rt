@@ -1,0 +1,118 @@
+//! Noting a number under the keys of its regions, and taking those notes back.
+ghost use Rattle.std.specs.Prelude.{◌≤◌, length, All, OnOk};
+ghost use Rattle.std.specs.List.{slice_range};
+ghost use Rattle.lost_index.specs.Notes.{HasNote, IsUnder, KeepsNotes, KeepsOthers, KeepsUnder, HaveNotes};
+
+use crate::cell::Cell;
+use crate::cells;
+use crate::indexed_region::IndexedRegion;
+use crate::note::Note;
+use lost_profile::Profile;
+use std::alloc::{AllocError, Global};
+use std::collections::HashMap;
+
+/// Notes a number under the keys of new regions, or want of memory, with no new note left. The notes of other numbers
+/// stay, and so do those under the keys of `remaining`.
+pub(crate) fn add_notes<P: Profile>(
+    cells: &mut HashMap<P::Key, Cell<P>>,
+    alloc: Global,
+    number: u64,
+    new: &[IndexedRegion<P>],
+    remaining: &[IndexedRegion<P>],
+) -> Result<(), AllocError>
+    ensures added { OnOk result (HaveNotes P.Key.eq P.Outline.eq P.cover_of P.outline_of number new.now cells.new) }
+    ensures others { KeepsOthers P.Key.eq P.Outline.eq number cells.old cells.new }
+    ensures remaining { KeepsUnder P.Key.eq P.Outline.eq (IsUnder P.cover_of P.outline_of remaining.now) cells.old cells.new }
+{
+    if add_all_notes(cells, alloc, number, new).is_err() {
+        remove_notes(cells, number, new, remaining);
+        return Err(AllocError);
+    }
+    Ok(())
+}
+
+/// Notes a number under the keys of regions, or want of memory. What was noted stays.
+fn add_all_notes<P: Profile>(
+    cells: &mut HashMap<P::Key, Cell<P>>,
+    alloc: Global,
+    number: u64,
+    new: &[IndexedRegion<P>],
+) -> Result<(), AllocError>
+    ensures added { OnOk result (HaveNotes P.Key.eq P.Outline.eq P.cover_of P.outline_of number new.now cells.new) }
+    ensures keeps { KeepsNotes P.Key.eq P.Outline.eq cells.old cells.new }
+{
+    for one in new {
+        let note = Note {
+            number,
+            outline: one.outline(),
+        };
+        add_notes_under(cells, alloc, note, one.cover(alloc)?)?;
+    }
+    Ok(())
+}
+
+/// Puts a note under keys, or want of memory. What was noted stays.
+fn add_notes_under<P: Profile>(
+    cells: &mut HashMap<P::Key, Cell<P>>,
+    alloc: Global,
+    note: Note<P::Outline>,
+    keys: Vec<P::Key>,
+) -> Result<(), AllocError>
+    ensures added { OnOk result (All (λ key. HasNote P.Key.eq P.Outline.eq cells.new key note.number note.outline) keys.items) }
+    ensures keeps { KeepsNotes P.Key.eq P.Outline.eq cells.old cells.new }
+{
+    for key in keys {
+        cells::add_note(cells, alloc, key, note)?;
+    }
+    Ok(())
+}
+
+/// Takes the notes of a number under the keys of regions back, but for those with an outline of one of `remaining` that has
+/// the key in its cover too.
+pub(crate) fn remove_notes<P: Profile>(
+    cells: &mut HashMap<P::Key, Cell<P>>,
+    number: u64,
+    gone: &[IndexedRegion<P>],
+    remaining: &[IndexedRegion<P>],
+)
+    ensures others { KeepsOthers P.Key.eq P.Outline.eq number cells.old cells.new }
+    ensures remaining { KeepsUnder P.Key.eq P.Outline.eq (IsUnder P.cover_of P.outline_of remaining.now) cells.old cells.new }
+{
+    for one in gone {
+        remove_notes_under(cells, number, one.keys(), remaining);
+    }
+}
+
+/// Takes the notes of a number under the keys of regions back, but for the keys of those at the positions from `from`
+/// up to before `to`.
+pub(crate) fn remove_rest_notes<P: Profile>(
+    cells: &mut HashMap<P::Key, Cell<P>>,
+    number: u64,
+    kept: &[IndexedRegion<P>],
+    from: usize,
+    to: usize,
+)
+    requires in_order { from ≤ to }
+    requires within { to ≤ length kept.now }
+    ensures others { KeepsOthers P.Key.eq P.Outline.eq number cells.old cells.new }
+    ensures remaining { KeepsUnder P.Key.eq P.Outline.eq (IsUnder P.cover_of P.outline_of (slice_range kept.now from to)) cells.old cells.new }
+{
+    let remaining = &kept[from..to];
+    remove_notes(cells, number, &kept[..from], remaining);
+    remove_notes(cells, number, &kept[to..], remaining);
+}
+
+/// Takes the notes of a number under keys back, but for the keys of regions.
+fn remove_notes_under<P: Profile>(
+    cells: &mut HashMap<P::Key, Cell<P>>,
+    number: u64,
+    keys: &[P::Key],
+    remaining: &[IndexedRegion<P>],
+)
+    ensures others { KeepsOthers P.Key.eq P.Outline.eq number cells.old cells.new }
+    ensures remaining { KeepsUnder P.Key.eq P.Outline.eq (IsUnder P.cover_of P.outline_of remaining.now) cells.old cells.new }
+{
+    for key in keys {
+        cells::remove_note(cells, key, number, remaining);
+    }
+}

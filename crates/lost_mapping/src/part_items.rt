@@ -1,0 +1,88 @@
+//! How the parts of a mapping are told from what holds them, so that one body checks them wherever they lie. Rules without a
+//! section are this profile's own.
+ghost use Rattle.std.specs.Prelude.{string_bytes};
+ghost use Rattle.lost_mapping.specs.Parts.{region_of, display_name_of};
+
+use crate::parts::{DisplayName, Parts, Region, RegionKind};
+use lost_civic::CivicPattern;
+use lost_geo::is_ring;
+
+/// How the URIs, the regions and the display names of a mapping are told from the items of lists.
+pub trait PartItems {
+    ghost use Rattle.std.specs.Prelude.{◌≡◌};
+    ghost use Rattle.lost_spec.specs.Mapping as spec;
+    ghost use Rattle.lost_spec.specs.Text.{Text};
+    ghost use Rattle.lost_mapping.specs.Regions.{region_kind as kind_of_region};
+
+    /// What stands for a URI.
+    type Uri;
+
+    /// What stands for a region.
+    type Region;
+
+    /// What stands for a display name.
+    type DisplayName;
+
+    // The text of a URI.
+    ghost uri_of: { Self.Uri → Text };
+
+    // The region that an item tells.
+    ghost region_of: { Self.Region → spec.Region };
+
+    // The display name that an item tells.
+    ghost display_name_of: { Self.DisplayName → spec.DisplayName };
+
+    /// The text of a URI.
+    fn uri(uri: &Self::Uri) -> &str
+        ensures { result.now ≡ uri_of uri.now };
+
+    /// What a region is, or nothing where it cannot be read: a ring of points, or a pattern that is not refused (RFC 5222,
+    /// section 5.5).
+    fn region_kind(region: &Self::Region) -> Option<RegionKind>
+        ensures { result ≡ kind_of_region (region_of region.now) };
+
+    /// The language of a display name (RFC 5222, section 5.3).
+    fn lang(name: &Self::DisplayName) -> &str
+        ensures { result.now ≡ (display_name_of name.now).lang };
+
+    /// The text of a display name (RFC 5222, section 5.3).
+    fn text(name: &Self::DisplayName) -> &str
+        ensures { result.now ≡ (display_name_of name.now).text };
+}
+
+/// The lists of parts that are owned.
+impl PartItems for Parts {
+    type Uri = String;
+
+    type Region = Region;
+
+    type DisplayName = DisplayName;
+
+    ghost uri_of = { string_bytes };
+
+    ghost region_of = { region_of };
+
+    ghost display_name_of = { display_name_of };
+
+    fn uri(uri: &String) -> &str {
+        uri.as_str()
+    }
+
+    fn region_kind(region: &Region) -> Option<RegionKind> {
+        match region {
+            Region::Ring(positions) => is_ring(positions.as_slice()).then_some(RegionKind::Polygon),
+            Region::Pattern(pairs) => CivicPattern::check(pairs.as_slice())
+                .is_ok()
+                .then_some(RegionKind::Pattern),
+            Region::Unreadable => None,
+        }
+    }
+
+    fn lang(name: &DisplayName) -> &str {
+        name.lang.as_str()
+    }
+
+    fn text(name: &DisplayName) -> &str {
+        name.text.as_str()
+    }
+}

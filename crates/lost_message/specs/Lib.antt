@@ -1,0 +1,4 @@
+pub mod Edit
+pub mod Path
+pub mod Reply
+pub mod Request

@@ -1,0 +1,14 @@
+//! What lines say, as values: requests, replies and edits (RFC 5222, sections 5 to 13). What reads lines and what writes
+//! them stands on these types, and not on what answers or holds anything.
+#![tactic(auto)]
+
+mod edit;
+mod path;
+mod reply;
+mod request;
+
+pub use edit::Edit;
+pub use lost_spec::answers::{AnswerError, Warning};
+pub use path::{Path, path_of};
+pub use reply::{Boundary, FoundMappings, Reply, Validation};
+pub use request::{Body, Location, Locations, Request};

@@ -1,0 +1,65 @@
+//! Whole lines, each read once: a desk line, a request, or neither. Rules without a section are this profile's own.
+ghost use Rattle.serde_json.specs.View.{view};
+ghost use Rattle.lost_reading.specs.Desk.{order_of_member, order_in, desk_line};
+ghost use Rattle.lost_reading.specs.Requests.{request_of_member, request_in, line_request};
+ghost use Rattle.lost_reading.specs.Lines.{GivesWhole};
+
+use crate::desk::{DeskFault, DeskLine, is_desk_name, read_order};
+use crate::reading::{only_member, read_tree};
+use crate::request::{ReadError, read_member_request};
+use lost_message::Request;
+use lost_spec::faults::MappingError;
+use serde_json::Value;
+use std::alloc::Global;
+
+/// What a line is. A request borrows its texts from what it was read from, or owns them.
+#[derive(Drop)]
+pub enum Line<'a> {
+    /// A desk line, and what it orders.
+    Desk(DeskLine),
+    /// A request line.
+    Request(Request<'a>),
+    /// Neither of both.
+    Neither,
+}
+
+/// Reads a line (own format) from one tree: what [`crate::read_desk`] gives of a desk line, and what
+/// [`crate::read_request`] gives of any other.
+///
+/// # Errors
+///
+/// Those of [`crate::read_desk`]. Want of memory may come in place of any other answer.
+#[tactic(auto, unfolding(crate::specs::Requests::line_request, crate::specs::Desk::desk_line))]
+pub fn read_line_by_tree<'a>(alloc: Global, line: &[u8]) -> Result<Line<'a>, DeskFault>
+    ensures { GivesWhole result (desk_line line.now) (line_request line.now) }
+{
+    match read_tree(alloc, line) {
+        Ok(tree) => read_tree_line(alloc, &tree),
+        Err(ReadError::BadRequest) => Ok(Line::Neither),
+        Err(ReadError::Memory) => Err(DeskFault::Mapping(MappingError::Memory)),
+    }
+}
+
+/// What the tree of a line is.
+fn read_tree_line<'a>(alloc: Global, tree: &Value) -> Result<Line<'a>, DeskFault>
+    ensures { GivesWhole result (order_in (view tree.now)) (request_in (view tree.now)) }
+{
+    match only_member(tree) {
+        Some((name, value)) => read_member_line(alloc, name, value),
+        None => Ok(Line::Neither),
+    }
+}
+
+/// What the one member of a line is.
+fn read_member_line<'a>(alloc: Global, name: &str, value: &Value) -> Result<Line<'a>, DeskFault>
+    ensures { GivesWhole result (order_of_member (name.now, view value.now)) (request_of_member (name.now, view value.now)) }
+{
+    if is_desk_name(name) {
+        return Ok(Line::Desk(read_order(alloc, name, value)?));
+    }
+    match read_member_request(alloc, name, value) {
+        Ok(request) => Ok(Line::Request(request)),
+        Err(ReadError::BadRequest) => Ok(Line::Neither),
+        Err(ReadError::Memory) => Err(DeskFault::Mapping(MappingError::Memory)),
+    }
+}

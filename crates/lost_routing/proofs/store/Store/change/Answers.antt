@@ -1,0 +1,27 @@
+-- The notes of the others stay, and the mapping at the position is noted and in the indexes.
+use Rattle.std.proofs.Common.{◌<◌, length, sym, ap, subst}
+use Rattle.lost_routing.specs.Invariants.{IsStore}
+use Rattle.lost_routing.proofs.StoreLemmas.{at_has, at_changed, at_unchanged}
+use Rattle.lost_routing.proofs.store.Store.change.Goals as goal
+
+pub exchange-requires : goal.exchange-requires
+exchange-requires c =
+    at_has c.self.inside.numbers c.self.inside.mappings c.self.inside.tables c.self.inside.regions c.self.invariant
+    c.args.position c.at-number.result.now c.at.result.now
+    (subst (λ l. c.args.position < length l) (sym (ap (λ k. k.mappings) c.self.view_is)) c.requires) c.at-number.ensures c.at.ensures
+
+pub invariant_of-self : goal.invariant_of-self
+invariant_of-self c =
+    at_unchanged c.self.inside.numbers c.self.inside.mappings c.self.inside.tables c.self.inside.regions c.self.invariant
+    c.args.position c.at-number.result.now c.at.result.now
+    (subst (λ l. c.args.position < length l) (sym (ap (λ k. k.mappings) c.self.view_is)) c.requires) c.at-number.ensures c.at.ensures
+    c.exchange.new.tables c.exchange.new.regions c.in_err-exchange.ensures.remaining c.exchange.ensures.others c.in_err-exchange.ensures.refused
+
+pub invariant_of-self-2 : goal.invariant_of-self-2
+invariant_of-self-2 c =
+    subst (λ l. IsStore c.self.inside.numbers l c.exchange.new.tables c.exchange.new.regions) (sym c.set.ensures)
+    (at_changed c.self.inside.numbers c.self.inside.mappings c.self.inside.tables c.self.inside.regions c.self.invariant
+    c.args.position c.at-number.result.now c.at.result.now
+    (subst (λ l. c.args.position < length l) (sym (ap (λ k. k.mappings) c.self.view_is)) c.requires) c.at-number.ensures c.at.ensures
+    c.args.mapping c.exchange.new.tables c.exchange.new.regions c.in_ok-exchange.ensures.listed c.exchange.ensures.others
+    c.in_ok-exchange.ensures.changed)

@@ -1,0 +1,124 @@
+//! The mappings under their numbers, with the tables and the indexes by which they are found.
+ghost use Rattle.std.specs.Prelude.{◌≡◌, ◌<◌, Some, length, slice_get, IfOk, OnOk, OnErr};
+ghost use Rattle.lost_routing.specs.Invariants.{IsNew};
+ghost use Rattle.lost_routing.specs.Store.{nothing_stored, with_last, with_mapping_at, without_position};
+
+use crate::entering::{enter, exchange, leave};
+use lost_mapping::Mapping;
+use lost_regions::Regions;
+use lost_tables::Tables;
+use lost_tiered::TieredVec;
+use std::alloc::{AllocError, Global};
+use std::marker::Model;
+
+/// Mappings, each under a number; the numbers rise. Contracts see the numbers, and the mappings at the same positions.
+#[derive(Drop)]
+pub(crate) struct Store {
+    pub(crate) alloc: Global,
+    pub(crate) numbers: TieredVec<u64>,
+    pub(crate) mappings: TieredVec<Mapping>,
+    pub(crate) tables: Tables,
+    pub(crate) regions: Regions,
+}
+
+impl Model for Store {
+    ghost use Rattle.lost_routing.specs.Store as spec;
+    ghost use Rattle.lost_routing.specs.Invariants.{IsStore};
+
+    ghost Value = { spec.Stored };
+
+    ghost view = { λ h. record { numbers = h.numbers; mappings = h.mappings } };
+
+    ghost invariant = { λ h. IsStore h.numbers h.mappings h.tables h.regions };
+}
+
+impl Store {
+    /// No mappings. It takes no memory.
+    pub(crate) fn new(alloc: Global) -> Store
+        ensures { result ≡ nothing_stored }
+    {
+        Store {
+            alloc,
+            numbers: TieredVec::new(alloc),
+            mappings: TieredVec::new(alloc),
+            tables: Tables::new(alloc),
+            regions: Regions::new(alloc),
+        }
+    }
+
+    /// How many mappings there are.
+    pub(crate) fn len(&self) -> usize
+        ensures { result ≡ length self.now.mappings }
+    {
+        self.mappings.len()
+    }
+
+    /// The mapping at a position.
+    pub(crate) fn mapping(&self, position: usize) -> &Mapping
+        requires { position < length self.now.mappings }
+        ensures { slice_get self.now.mappings position ≡ Some result.now }
+    {
+        self.mappings.at(position)
+    }
+
+    /// Puts a mapping behind all, under a number that is above all. Or want of memory, which changes nothing.
+    pub(crate) fn put(&mut self, number: u64, mapping: Mapping) -> Result<(), AllocError>
+        requires { IsNew number self.old.numbers }
+        ensures put { OnOk result (self.new ≡ with_last number mapping self.old) }
+        ensures refused { OnErr result (self.new ≡ self.old) }
+    {
+        let position = self.numbers.len();
+        self.numbers.push(number)?;
+        if self.mappings.push(mapping).is_err() {
+            self.numbers.remove(position);
+            return Err(AllocError);
+        }
+        let mapping = self.mappings.at(position);
+        if enter(&mut self.tables, &mut self.regions, mapping, number).is_err() {
+            self.numbers.remove(position);
+            self.mappings.remove(position);
+            return Err(AllocError);
+        }
+        Ok(())
+    }
+
+    /// Puts a mapping in the place of the one at a position, under its number. Or want of memory, which changes nothing.
+    pub(crate) fn change(&mut self, position: usize, mapping: Mapping) -> Result<(), AllocError>
+        requires { position < length self.old.mappings }
+        ensures changed { OnOk result (self.new ≡ with_mapping_at position mapping self.old) }
+        ensures refused { OnErr result (self.new ≡ self.old) }
+    {
+        let number = *self.numbers.at(position);
+        exchange(
+            &mut self.tables,
+            &mut self.regions,
+            self.mappings.at(position),
+            &mapping,
+            number,
+        )?;
+        self.mappings.set(position, mapping);
+        Ok(())
+    }
+
+    /// Takes the mapping at a position out, with its number. It takes no memory.
+    pub(crate) fn take(&mut self, position: usize)
+        requires { position < length self.old.mappings }
+        ensures { self.new ≡ without_position position self.old }
+    {
+        let number = self.numbers.remove(position);
+        let mapping = self.mappings.remove(position);
+        leave(&mut self.tables, &mut self.regions, &mapping, number);
+    }
+
+    /// The same mappings under the same numbers, with indexes of their own, or want of memory.
+    pub(crate) fn clone(&self) -> Result<Store, AllocError>
+        ensures { IfOk result (λ copy. copy ≡ self.now) }
+    {
+        let mut copy = Store::new(self.alloc);
+        for position in 0..self.mappings.len() {
+            let mapping = self.mappings.at(position).clone()?;
+            copy.put(*self.numbers.at(position), mapping)?;
+        }
+        Ok(copy)
+    }
+}

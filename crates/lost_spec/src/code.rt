@@ -1,0 +1,12 @@
+//! The numbers of refusals and faults. Rules without a section are this profile's own.
+ghost use Rattle.std.specs.Prelude.{◌≡◌, ℕ};
+
+/// A refusal or a fault that has a number, as tables and the desk's lines show it.
+pub trait Coded {
+    // The number of each.
+    ghost code_of: { Self → ℕ };
+
+    /// Its number.
+    fn code(self) -> u8
+        ensures { result ≡ code_of self };
+}

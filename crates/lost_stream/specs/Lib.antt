@@ -1,3 +1,0 @@
-pub mod Stream
-pub mod Step
-pub mod Outcome

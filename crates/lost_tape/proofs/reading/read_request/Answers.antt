@@ -1,0 +1,4 @@
+use Rattle.lost_tape.proofs.reading.read_request.Goals as goal
+
+pub returns-in-Some : goal.returns-in-Some
+returns-in-Some c = c.in-Some.ensures.request

@@ -1,0 +1,22 @@
+//! Lines read by tokens (own format over RFC 5222): a line becomes one flat list of tokens in place of a tree. This reader
+//! takes requests, and desk lines that publish or replace a mapping; it answers only where it is certain, and leaves every
+//! other line to the tree.
+#![tactic(auto)]
+
+mod addresses;
+mod line;
+mod locations;
+mod mappings;
+mod members;
+mod nesting;
+mod numbers;
+mod options;
+mod part;
+mod reading;
+mod regions;
+mod requests;
+mod tree;
+
+pub use json::Scratch;
+pub use line::read_common;
+pub use reading::{read_line, read_request};

@@ -1,0 +1,113 @@
+//! A line as one list of tokens. Rules without a section are this profile's own.
+ghost use Rattle.std.specs.Prelude.{◌≡◌, ℕ, List, true, Some, None, Ok, IfSome, OnSome, option_and_then, map};
+ghost use Rattle.std.specs.Bool.{OnTrue};
+ghost use Rattle.std.specs.List.{list_all};
+ghost use Rattle.json.specs.Tape.{node_token};
+ghost use Rattle.serde_json.specs.Read.{read};
+ghost use Rattle.lost_message.specs.Request.{request_of};
+ghost use Rattle.lost_reading.specs.Desk.{order_in, desk_line};
+ghost use Rattle.lost_reading.specs.Lines.{GivesWhole};
+ghost use Rattle.lost_reading.specs.Requests.{request_in, line_request};
+ghost use Rattle.lost_tape.specs.Tapes.{data_of, is_sure, IsTapeOf};
+
+use crate::nesting::nests_within;
+use crate::numbers::whole_number;
+use crate::requests::read_root;
+use crate::tree::Tree;
+use json::{Node, Scratch, Tape};
+use lost_message::Request;
+use lost_reading::Line;
+use std::alloc::Global;
+
+/// The longest line that is read by tokens, in bytes.
+const MAX_TAPE_BYTES: usize = 131_072;
+
+/// Reads a request line of a common shape by its tokens (RFC 5222, sections 8 to 12; own format). `None` says nothing of
+/// the line, and comes for want of memory too: the tree decides then. The request borrows its texts from the line, or from
+/// `scratch` where they have escapes. What `scratch` holds is kept from line to line.
+pub fn read_common<'a>(
+    alloc: Global,
+    line: &'a [u8],
+    scratch: &'a mut Scratch,
+) -> Option<Request<'a>>
+    ensures request { IfSome result (λ request. line_request line.now ≡ Some (request_of request)) }
+    ensures no_desk_line { OnSome result (desk_line line.now ≡ None) }
+{
+    match read_common_line(alloc, line, scratch) {
+        Some(Line::Request(request)) => Some(request),
+        _ => None,
+    }
+}
+
+/// Reads a line of a common shape by its tokens: a request, or a desk line that publishes or replaces a mapping, none of it
+/// refused (own format). `None` says nothing of the line, as in [`read_common`].
+pub(crate) fn read_common_line<'a>(
+    alloc: Global,
+    line: &'a [u8],
+    scratch: &'a mut Scratch,
+) -> Option<Line<'a>>
+    ensures { IfSome result (λ found. GivesWhole (Ok found) (desk_line line.now) (line_request line.now)) }
+{
+    if line.len() > MAX_TAPE_BYTES {
+        return None;
+    }
+    match std::str::from_utf8(line) {
+        Ok(text) => read_text(alloc, text, scratch),
+        Err(_) => None,
+    }
+}
+
+/// What a text is.
+fn read_text<'a>(alloc: Global, text: &'a str, scratch: &'a mut Scratch) -> Option<Line<'a>>
+    ensures { IfSome result (λ found. GivesWhole (Ok found) (option_and_then order_in (read text.now)) (option_and_then request_in (read text.now))) }
+{
+    match Tape::parse(text, scratch, Vec::new(alloc)) {
+        Ok(tape) => read_tape(alloc, &tape),
+        Err(_) => None,
+    }
+}
+
+/// What a list of tokens is, that of the value of a text.
+fn read_tape<'a>(alloc: Global, tape: &Tape<'a>) -> Option<Line<'a>>
+    requires { (text : List ℕ) × IsTapeOf text tape.now }
+    ensures { (text : List ℕ) → IsTapeOf text tape.now → IfSome result (λ found.
+        GivesWhole (Ok found) (option_and_then order_in (read text)) (option_and_then request_in (read text))) }
+{
+    let root = root_of(tape)?;
+    read_root(alloc, &root)
+}
+
+/// The value of a list of tokens, where its numbers are whole and it nests no deeper than a tree may.
+fn root_of<'t, 'a>(tape: &'t Tape<'a>) -> Option<Tree<'t, 'a>>
+    requires { (text : List ℕ) × IsTapeOf text tape.now }
+    ensures { (text : List ℕ) → IsTapeOf text tape.now → IfSome result (λ root. read text ≡ Some (data_of root)) }
+{
+    let nodes = tape.nodes();
+    if !nests_within(nodes) || !are_sure(nodes) {
+        return None;
+    }
+    Some(Tree {
+        element: tape.root(),
+    })
+}
+
+/// Whether each number is a whole one that fits in 64 bits.
+fn are_sure(nodes: &[Node<'_>]) -> bool
+    ensures { OnTrue result (list_all is_sure (map node_token nodes.now) ≡ true) }
+{
+    for node in nodes {
+        if !is_sure(node) {
+            return false;
+        }
+    }
+    true
+}
+
+fn is_sure(node: &Node<'_>) -> bool
+    ensures { OnTrue result (is_sure (node_token node.now) ≡ true) }
+{
+    match node {
+        Node::Number(text) => whole_number(text).is_some(),
+        _ => true,
+    }
+}

@@ -1,0 +1,146 @@
+//! The locations of a request (RFC 5222, section 12). Rules without a section are this profile's own.
+ghost use Rattle.std.specs.Prelude.{◌≡◌, Some, IfSome, option_map, option_and_then, not, ◌||◌, if◌then◌else◌};
+ghost use Rattle.lost_spec.specs.Answer.{is_geodetic, is_civic};
+ghost use Rattle.lost_spec.specs.Request.{UnreadableBody};
+ghost use Rattle.lost_message.specs.Request.{body_of, location_of, locations_of};
+ghost use Rattle.lost_reading.specs.Members.{pairs_in};
+ghost use Rattle.lost_reading.specs.Requests.{point_body, address_body, is_known_system, location_of_members, location_in, locations_in};
+ghost use Rattle.lost_tape.specs.Tapes.{data_of, members_of};
+
+use crate::addresses::read_address;
+use crate::members::LocationMembers;
+use crate::part::{Part, read_each, read_position, text_of};
+use crate::tree::Tree;
+use lost_message::{Body, Location, Locations};
+use lost_reading::{CIVIC, GEODETIC, KNOWN_SYSTEM, are_locations};
+use std::alloc::Global;
+use std::borrow::CowStr;
+
+/// The locations that a request must have: 1 to 8, no two of one profile.
+pub(crate) fn read_locations<'a>(
+    alloc: Global,
+    member: &Option<Tree<'_, 'a>>,
+) -> Option<Locations<'a>>
+    ensures { IfSome result (λ locations. option_and_then locations_in (option_map data_of member.now) ≡ Some (locations_of locations)) }
+{
+    match member {
+        Some(tree) => read_each_location(alloc, tree),
+        None => None,
+    }
+}
+
+/// The locations of an array, where there are as many as there may be.
+fn read_each_location<'a>(alloc: Global, tree: &Tree<'_, 'a>) -> Option<Locations<'a>>
+    ensures { IfSome result (λ locations. locations_in (data_of tree.now) ≡ Some (locations_of locations)) }
+{
+    let mut items = tree.items()?;
+    let item = items.next()?;
+    let first = Location::read(alloc, &item)?;
+    let rest = read_each::<Location<'a>>(alloc, items)?;
+    let locations = Locations { first, rest };
+    if are_locations(&locations) {
+        Some(locations)
+    } else {
+        None
+    }
+}
+
+impl<'a> Part<'a> for Location<'a> {
+    ghost use Rattle.lost_spec.specs.Request as spec;
+
+    ghost Seen = { spec.Location };
+
+    ghost seen = { location_of };
+
+    ghost meant = { location_in };
+
+    fn read(alloc: Global, tree: &Tree<'_, 'a>) -> Option<Location<'a>> {
+        if tree.is_object() {
+            read_location(alloc, tree)
+        } else {
+            None
+        }
+    }
+}
+
+/// The location of an object.
+fn read_location<'a>(alloc: Global, object: &Tree<'_, 'a>) -> Option<Location<'a>>
+    ensures { IfSome result (λ location. location_of_members (members_of object.now) ≡ Some (location_of location)) }
+{
+    let mut members = LocationMembers::none();
+    members.read(object)?;
+    let id = text_of(&members.id)?;
+    let profile = text_of(&members.profile)?;
+    let srs_known = is_srs_known(profile, &members.srs_name)?;
+    let body = read_body(alloc, profile, &members.pos, &members.address)?;
+    Some(Location {
+        id: CowStr::Borrowed(id),
+        profile: CowStr::Borrowed(profile),
+        srs_known,
+        body,
+    })
+}
+
+/// Whether the reference system is known: it is looked at for `geodetic-2d` alone.
+fn is_srs_known(profile: &str, srs_name: &Option<Tree<'_, '_>>) -> Option<bool>
+    ensures { IfSome result (λ known. not (is_geodetic profile.now) || is_known_system (option_map data_of srs_name.now) ≡ known) }
+{
+    if profile == GEODETIC {
+        has_known_system(srs_name)
+    } else {
+        Some(true)
+    }
+}
+
+/// Whether the reference system is absent or the one that is known.
+fn has_known_system(srs_name: &Option<Tree<'_, '_>>) -> Option<bool>
+    ensures { IfSome result (λ known. is_known_system (option_map data_of srs_name.now) ≡ known) }
+{
+    match srs_name {
+        Some(tree) => names_known_system(tree),
+        None => Some(true),
+    }
+}
+
+fn names_known_system(tree: &Tree<'_, '_>) -> Option<bool>
+    ensures { IfSome result (λ known. is_known_system (Some (data_of tree.now)) ≡ known) }
+{
+    let text = tree.text()?;
+    Some(KNOWN_SYSTEM == text)
+}
+
+/// The content of a location. That of another profile is not looked at.
+fn read_body(
+    alloc: Global,
+    profile: &str,
+    pos: &Option<Tree<'_, '_>>,
+    address: &Option<Tree<'_, '_>>,
+) -> Option<Body>
+    ensures { IfSome result (λ body. (if is_geodetic profile.now then point_body (option_map data_of pos.now)
+        else (if is_civic profile.now then address_body (option_map data_of address.now) else UnreadableBody)) ≡ body_of body) }
+{
+    if profile == GEODETIC {
+        read_point(pos)
+    } else if profile == CIVIC {
+        read_address(alloc, address)
+    } else {
+        Some(Body::Unreadable)
+    }
+}
+
+/// The content of a location of `geodetic-2d`.
+fn read_point(pos: &Option<Tree<'_, '_>>) -> Option<Body>
+    ensures { IfSome result (λ body. point_body (option_map data_of pos.now) ≡ body_of body) }
+{
+    match pos {
+        Some(tree) => read_point_at(tree),
+        None => Some(Body::Unreadable),
+    }
+}
+
+fn read_point_at(tree: &Tree<'_, '_>) -> Option<Body>
+    ensures { IfSome result (λ body. point_body (Some (data_of tree.now)) ≡ body_of body) }
+{
+    let (lat, lon) = read_position(tree)?;
+    Some(Body::Point(lat, lon))
+}

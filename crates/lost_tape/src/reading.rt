@@ -1,0 +1,42 @@
+//! Lines that are read by tokens where they are of a common shape, and else by their tree.
+ghost use Rattle.lost_message.specs.Request.{request_of};
+ghost use Rattle.lost_reading.specs.Desk.{desk_line};
+ghost use Rattle.lost_reading.specs.Gives.{Gives};
+ghost use Rattle.lost_reading.specs.Lines.{GivesWhole};
+ghost use Rattle.lost_reading.specs.Requests.{line_request};
+
+use crate::line::{read_common, read_common_line};
+use json::Scratch;
+use lost_message::Request;
+use lost_reading::{DeskFault, Line, ReadError};
+use std::alloc::Global;
+
+/// Reads a line (own format) as [`lost_reading::read_line_by_tree`] does, with its errors, and sooner where it is of a common
+/// shape. A request borrows its texts as that of [`read_common`] does. What `scratch` holds is kept from line to line.
+pub fn read_line<'a>(
+    alloc: Global,
+    line: &'a [u8],
+    scratch: &'a mut Scratch,
+) -> Result<Line<'a>, DeskFault>
+    ensures { GivesWhole result (desk_line line.now) (line_request line.now) }
+{
+    match read_common_line(alloc, line, scratch) {
+        Some(found) => Ok(found),
+        None => lost_reading::read_line_by_tree(alloc, line),
+    }
+}
+
+/// Reads a request line as [`lost_reading::read_request`] does, with its errors, and sooner where its shape is common.
+/// It borrows its texts as that of [`read_common`] does. What `scratch` holds is kept from line to line.
+pub fn read_request<'a>(
+    alloc: Global,
+    line: &'a [u8],
+    scratch: &'a mut Scratch,
+) -> Result<Request<'a>, ReadError>
+    ensures { Gives request_of result (line_request line.now) }
+{
+    match read_common(alloc, line, scratch) {
+        Some(request) => Ok(request),
+        None => lost_reading::read_request(alloc, line),
+    }
+}

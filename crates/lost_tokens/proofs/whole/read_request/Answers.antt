@@ -1,4 +1,0 @@
-use Rattle.lost_tokens.proofs.whole.read_request.Goals as goal
-
-pub returns-in-Some : goal.returns-in-Some
-returns-in-Some c = c.in-Some.ensures.request
