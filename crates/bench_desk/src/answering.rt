@@ -10,7 +10,7 @@ use std::alloc::{AllocError, Global};
 use std::io;
 use std::rt::Clock;
 use std::time::Instant;
-use test_bench::{Setting, nanoseconds};
+use test_districts::{Setting, nanoseconds};
 
 /// How a reply that has found a mapping begins.
 const FOUND: &[u8] = b"{\"findServiceResponse\":";

@@ -12,7 +12,7 @@ use std::io;
 use std::rt::Clock;
 use std::sync::Wait;
 use std::thread::Threads;
-use test_bench::{Spans, share};
+use test_districts::{Spans, share};
 
 /// How many places a cache keeps.
 const PLACES: u32 = 1_024;

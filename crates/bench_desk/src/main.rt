@@ -27,7 +27,7 @@ use std::process::ExitCode;
 use std::rt::{Clock, Env};
 use std::sync::Wait;
 use std::thread::Threads;
-use test_bench::{mistaken, words};
+use test_districts::{mistaken, words};
 
 /// What the words may be.
 const USAGE: &str =

@@ -10,7 +10,7 @@ use std::rt::Clock;
 use std::sync::Wait;
 use std::thread::Threads;
 use std::time::Instant;
-use test_bench::nanoseconds;
+use test_districts::nanoseconds;
 
 /// How many readers a map has: one alone, and a crowd of four.
 const READERS: u32 = 5;

@@ -28,7 +28,7 @@ mod tasks;
 use std::io;
 use std::process::ExitCode;
 use std::rt::{Clock, Env};
-use test_bench::{mistaken, words};
+use test_districts::{mistaken, words};
 
 /// What the words may be.
 const USAGE: &str =

@@ -9,7 +9,7 @@ use lost_replay::replay;
 use std::cell::Cell;
 use std::io;
 use std::rt::Clock;
-use test_bench::{Flood, Setting};
+use test_districts::{Flood, Setting};
 
 /// Replays parts over a map, and gives them back with their times and replies. Where a reply is not as it should be, the
 /// kinds of its part's replies are printed, and the error is `InvalidData`.

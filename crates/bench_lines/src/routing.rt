@@ -7,7 +7,7 @@ use crate::replaying::{print_replies, replayed};
 use crate::tasks::Task;
 use std::io;
 use std::rt::Clock;
-use test_bench::{nanoseconds, share};
+use test_districts::{nanoseconds, share};
 
 /// The map of which only the kinds of the replies are looked at.
 const TINY: Map = Map {

@@ -9,7 +9,7 @@ use std::io;
 use std::io::{Read, Write};
 use std::rt::Clock;
 use std::time::Instant;
-use test_bench::Flood;
+use test_districts::Flood;
 
 /// How many bytes are made at once, but for the end of a line; where each line is answered alone, one line.
 const CHUNK: usize = 262_144;

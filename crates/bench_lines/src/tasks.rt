@@ -4,7 +4,7 @@ use crate::lines;
 use crate::maps::Map;
 use crate::replies::Reply;
 use std::alloc::{AllocError, Global};
-use test_bench::{COMMIT, SERVICE};
+use test_districts::{COMMIT, SERVICE};
 
 /// What the lines of a part do.
 #[derive(Clone, Copy, PartialEq, Eq)]

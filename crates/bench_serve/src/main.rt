@@ -15,7 +15,7 @@ mod scenes;
 
 use std::io;
 use std::process::ExitCode;
-use test_bench::{mistaken, words};
+use test_districts::{mistaken, words};
 
 fn main(rt: HostRuntime) -> io::Result<ExitCode> {
     match words(&rt)?.as_str() {

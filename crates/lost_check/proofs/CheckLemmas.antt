@@ -16,11 +16,11 @@ use Rattle.lost_json.proofs.OutcomeLemmas.{streamed}
 use Rattle.lost_replay.specs.Replay.{replay_terms, no_edits, IsReplayed}
 use Rattle.lost_replay.specs.Replayer.{Begins, books_of}
 use Rattle.lost_replay.proofs.ReplayLemmas.{from_none}
-use Rattle.lost_check.specs.declared.kind.Kind.{Kind}
+use Rattle.lost_replay.specs.declared.outcome.Outcome.{Outcome}
 use Rattle.lost_check.specs.declared.tally.Tally.{Tally}
 use Rattle.lost_check.specs.declared.checker.Checker.{Checker}
 use Rattle.lost_check.specs.declared.findings.Findings.{Findings}
-use Rattle.lost_check.specs.Kinds.{kind_of, is_refused, is_bad_request, is_unjudged}
+use Rattle.lost_check.specs.Outcomes.{is_refused, is_bad_request, is_unjudged}
 use Rattle.lost_check.specs.Tally.{count_of}
 use Rattle.lost_check.specs.Checker.{Checks}
 use Rattle.lost_check.specs.Check.{IsJudged, IsChecked, IsCheckedInPart, IsCheckedSoFar, IsCheckOutcome}
@@ -41,11 +41,11 @@ pub record Finds (findings : Findings) (new : Checker) : Type 0 where
   pub unjudged : findings.unjudged ≡ new.tally.unjudged
   pub edition : findings.edition ≡ (books_of new.replayer).published.edits
 
--- no cap is reached by a count of replies, of which there are no more than that
-uncapped : (is : Kind → Bool) (replies : List Reply) (found counted : ℕ) → length replies ≤ 2 ^ 64 - 1 → found ≡ counted → counted ≡ min (0 + count_of is replies) (2 ^ 64 - 1) → found ≡ count_of is replies
-uncapped is replies found counted few same capped =
-    let less : count_of is replies ≤ length replies = count_by-le-length (λ (r : Reply). is (kind_of r.text)) replies in
-    same ∙ capped ∙ capless (count_of is replies) (length replies) less few
+-- no cap is reached by a count of outcomes, of which there are no more than that
+uncapped : (is : Outcome → Bool) (outcomes : List Outcome) (found counted : ℕ) → length outcomes ≤ 2 ^ 64 - 1 → found ≡ counted → counted ≡ min (0 + count_of is outcomes) (2 ^ 64 - 1) → found ≡ count_of is outcomes
+uncapped is outcomes found counted few same capped =
+    let less : count_of is outcomes ≤ length outcomes = count_by-le-length is outcomes in
+    same ∙ capped ∙ capless (count_of is outcomes) (length outcomes) less few
   where
     capless : (n m : ℕ) → n ≤ m → m ≤ 2 ^ 64 - 1 → min (0 + n) (2 ^ 64 - 1) ≡ n
     capless n m less few = omega arith
@@ -58,7 +58,7 @@ module _ (name : Text) (t : Instant) (says : ℕ → Bool → Type 0) (old new :
   judged lines said run =
       let c = checked_lines lines said run in
       let r = from_none name t says old.replayer new.replayer begins.name_is begins.moment_is begins.books_are lines c.replies c.run in
-      record { replies = c.replies; end = r.end; run = r.run; says = c.says }
+      record { replies = c.replies; end = r.end; run = r.run; outcomes = c.outcomes; are = c.are; says = c.says }
 
   -- the counts of a replay of the same lines
   abbrev counts_of_replay : List Text → List Reply → Counts
@@ -77,21 +77,21 @@ module _ (name : Text) (t : Instant) (says : ℕ → Bool → Type 0) (old new :
   checked unread before after counts findings few finds s =
       let c = checked_lines s.lines s.replies s.run in
       let r = from_none name t says old.replayer new.replayer begins.name_is begins.moment_is begins.books_are s.lines c.replies c.run in
-      let as_many : length c.replies ≡ counts.lines = c.lengths ∙ sym s.counted.lines_answered in
-      let within : length c.replies ≤ 2 ^ 64 - 1 = rw as_many few in
+      let as_many : length c.outcomes ≡ counts.lines = c.lengths ∙ sym s.counted.lines_answered in
+      let within : length c.outcomes ≤ 2 ^ 64 - 1 = rw as_many few in
       record {
         lines = s.lines;
         said = text_of s.replies;
-        judged = record { replies = c.replies; end = r.end; run = r.run; says = c.says };
+        judged = record { replies = c.replies; end = r.end; run = r.run; outcomes = c.outcomes; are = c.are; says = c.says };
         replay_counts = counts_of_replay s.lines c.replies;
         replayed = would_replay s.lines c.replies r.end unread r.run s.read;
         read = s.read;
         written = s.written;
         counted = s.counted.lines_answered;
         found = record {
-          refused = uncapped is_refused c.replies findings.refused new.tally.refused within finds.refused c.capped.refused;
-          bad_requests = uncapped is_bad_request c.replies findings.bad_requests new.tally.bad_requests within finds.bad_requests c.capped.bad_requests;
-          unjudged = uncapped is_unjudged c.replies findings.unjudged new.tally.unjudged within finds.unjudged c.capped.unjudged;
+          refused = uncapped is_refused c.outcomes findings.refused new.tally.refused within finds.refused c.capped.refused;
+          bad_requests = uncapped is_bad_request c.outcomes findings.bad_requests new.tally.bad_requests within finds.bad_requests c.capped.bad_requests;
+          unjudged = uncapped is_unjudged c.outcomes findings.unjudged new.tally.unjudged within finds.unjudged c.capped.unjudged;
           edition = finds.edition ∙ r.are.published_edits;
         };
       }

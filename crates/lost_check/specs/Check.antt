@@ -15,17 +15,21 @@ use Rattle.lost_json.specs.Stream.{Lists}
 use Rattle.lost_json.specs.Step.{Step}
 use Rattle.lost_replay.specs.Replay.{replay_terms, no_edits, IsReplayed}
 use Rattle.lost_check.specs.declared.findings.Findings.{Findings}
+use Rattle.lost_replay.specs.declared.outcome.Outcome.{Outcome}
+use Rattle.lost_check.specs.Outcomes.{AreOutcomes}
 use Rattle.lost_check.specs.Said.{AreSaid}
 use Rattle.lost_check.specs.Tally.{AreFindings}
 
--- a replay of lines by the server of this name at an instant, its replies to them, and what is said of the lines by these
+-- a replay of lines by the server of this name at an instant, its replies to them, the outcomes that these are, and what is said of the lines by those
 pub record IsJudged (name : Text) (t : Instant) (lines : List Text) (said : Text) : Type 0 where
   pub replies : List Reply
   pub end : Lists
   pub run : Run (Step (replay_terms name t)) no_edits lines replies end
-  pub says : AreSaid 0 replies said
+  pub outcomes : List Outcome
+  pub are : AreOutcomes lines replies outcomes
+  pub says : AreSaid 0 outcomes said
 
--- the whole stream was checked: its replies are the text that a replay of it writes, and what is said of its lines by them was written, and nothing else
+-- the whole stream was checked: its replies are the text that a replay of it writes, and what is said of its lines by their outcomes was written, and nothing else
 pub record IsChecked (name : Text) (t : Instant) (unread before after : Option Text) (counts : Counts) (findings : Findings) : Type 0 where
   pub lines : List Text
   pub said : Text
@@ -35,7 +39,7 @@ pub record IsChecked (name : Text) (t : Instant) (unread before after : Option T
   pub read : IfSome unread (λ bytes. lines ≡ lines_of bytes)
   pub written : Appends before after said
   pub counted : counts.lines ≡ length lines
-  pub found : AreFindings findings judged.replies judged.end
+  pub found : AreFindings findings judged.outcomes judged.end
 
 -- a fault came: what was written is a front of what is said of a front of the lines
 pub record IsCheckedInPart (name : Text) (t : Instant) (unread before after : Option Text) : Type 0 where

@@ -1,4 +1,4 @@
-pub mod Kinds
+pub mod Outcomes
 pub mod Said
 pub mod Tally
 pub mod Checker

@@ -1,19 +1,19 @@
 //! What checks the lines of a stream.
 ghost use Rattle.std.specs.Prelude.{◌≡◌};
 ghost use Rattle.lost_lines.specs.Answer.{reply_of};
-ghost use Rattle.lost_replay.specs.Replayer.{books_of};
+ghost use Rattle.lost_replay.specs.Outcome.{IsListed};
+ghost use Rattle.lost_replay.specs.Replayer.{books_of, outcome_of};
 ghost use Rattle.lost_check.specs.Checker.{Judges};
 
 use crate::findings::Findings;
-use crate::kind::{Kind, code_of, kind_of};
 use crate::saying::say;
 use crate::tally::Tally;
 use lost_causes::{bad_request_cause, refusal_cause};
 use lost_lines::{Answer, Answerer, MAX_LINE};
-use lost_replay::Replayer;
+use lost_replay::{Outcome, Replayer};
 use std::alloc::{AllocError, Global};
 
-/// What checks the lines of a stream: a replay answers each line, and what is said of the line is by that answer.
+/// What checks the lines of a stream: a replay answers each line, and what is said of the line is by what that answer is.
 #[derive(Drop)]
 pub(crate) struct Checker<'a> {
     pub(crate) alloc: Global,
@@ -22,29 +22,30 @@ pub(crate) struct Checker<'a> {
 }
 
 impl Checker<'_> {
-    /// Counts a line, and gives what is said of it, by the replay's answer to it. The line is there where it was kept
-    /// whole.
-    fn judge(&mut self, answer: &Answer, line: Option<&[u8]>) -> Answer
-        ensures { Judges self.old self.new (reply_of answer.now) (reply_of result) }
+    /// Counts a line that the replay has answered, and gives what is said of it. The line is there where it was kept whole.
+    fn judge(&mut self, is_internal_error: bool, line: Option<&[u8]>) -> Answer
+        requires { IsListed (outcome_of self.old.replayer) }
+        ensures { Judges self.old self.new is_internal_error (reply_of result) }
     {
-        let reply = answer.bytes();
-        let kind = kind_of(reply);
-        self.tally.count(kind);
-        let cause = self.cause(kind, reply, line);
+        let outcome = self.replayer.outcome();
+        self.tally.count(outcome);
+        let cause = self.cause(outcome, line);
         Answer {
-            text: say(self.alloc, self.tally.lines, reply, cause.as_bytes()),
-            is_internal_error: answer.is_internal_error,
+            text: say(self.alloc, self.tally.lines, outcome, cause.as_bytes()),
+            is_internal_error,
         }
     }
 
-    /// The cause of a reply of this kind to a line that was kept whole, or to none, behind a colon and a space. It is
-    /// empty where none is found, or where memory is short.
-    fn cause(&self, kind: Kind, reply: &[u8], line: Option<&[u8]>) -> String {
-        let found = match kind {
-            Kind::Taken => return String::new(self.alloc),
-            Kind::Refused => self.refusal_cause(reply, line),
-            Kind::BadRequest => self.bad_request_cause(line),
-            Kind::Unjudged => String::from_str(self.alloc, "memory ran out"),
+    /// The cause of an outcome of a line that was kept whole, or of none, behind a colon and a space. It is empty where none
+    /// is found, or where memory is short.
+    fn cause(&self, outcome: Outcome, line: Option<&[u8]>) -> String {
+        let found = match outcome {
+            Outcome::Answered | Outcome::Staged(_) | Outcome::Committed(_) => {
+                return String::new(self.alloc);
+            }
+            Outcome::Refused(code) => self.refusal_cause(code, line),
+            Outcome::BadRequest => self.bad_request_cause(line),
+            Outcome::Unjudged => String::from_str(self.alloc, "memory ran out"),
         };
         match behind_colon(self.alloc, found) {
             Ok(cause) => cause,
@@ -52,12 +53,10 @@ impl Checker<'_> {
         }
     }
 
-    fn refusal_cause(&self, reply: &[u8], line: Option<&[u8]>) -> Result<String, AllocError> {
-        match (code_of(reply), line) {
-            (Some(code), Some(line)) => {
-                refusal_cause(self.alloc, line, code, self.replayer.staged())
-            }
-            _ => Ok(String::new(self.alloc)),
+    fn refusal_cause(&self, code: u8, line: Option<&[u8]>) -> Result<String, AllocError> {
+        match line {
+            Some(line) => refusal_cause(self.alloc, line, code, self.replayer.staged()),
+            None => Ok(String::new(self.alloc)),
         }
     }
 
@@ -102,16 +101,16 @@ impl Answerer for Checker<'_> {
 
     fn answer(&mut self, alloc: Global, line: &[u8]) -> Answer {
         let answer = self.replayer.answer(alloc, line);
-        self.judge(&answer, Some(line))
+        self.judge(answer.is_internal_error, Some(line))
     }
 
     fn answer_long(&mut self) -> Answer {
         let answer = self.replayer.answer_long();
-        self.judge(&answer, None)
+        self.judge(answer.is_internal_error, None)
     }
 
     fn answer_unread(&mut self) -> Answer {
         let answer = self.replayer.answer_unread();
-        self.judge(&answer, None)
+        self.judge(answer.is_internal_error, None)
     }
 }

@@ -1,5 +1,5 @@
 //! The head of what is said of a line: its number, and the refusal's code and name. It takes no memory.
-ghost use Rattle.std.specs.Prelude.{◌≡◌, ◌≤◌, ◌+◌, ◌++◌, IfSome, length};
+ghost use Rattle.std.specs.Prelude.{◌≡◌, ◌≤◌, ◌+◌, ◌++◌, length};
 ghost use Rattle.lost_writing.specs.DeskReplies.{IsCode};
 ghost use Rattle.lost_check.specs.Said.{line_front, code_label};
 
@@ -20,20 +20,15 @@ pub(crate) fn head(number: u64, label: &[u8]) -> DeskText
     text
 }
 
-/// The label of a code: `9 BadRegion`, where there is one. The caller has: the code is from 1 to 20.
-pub(crate) fn label(code: Option<u8>) -> DeskText
-    requires { IfSome code (λ code. IsCode code) }
+/// The label of a code: `9 BadRegion`. The caller has: the code is one of the desk's table.
+pub(crate) fn label(code: u8) -> DeskText
+    requires { IsCode code }
     ensures text { result ≡ code_label code }
     ensures short { length result ≤ 18 }
 {
     let mut text = DeskText::new();
-    match code {
-        Some(code) => {
-            text.push_number(u64::from(code));
-            text.push(b" ");
-            text.push(refusal_name(code).as_bytes());
-        }
-        None => text.push(b"refused"),
-    }
+    text.push_number(u64::from(code));
+    text.push(b" ");
+    text.push(refusal_name(code).as_bytes());
     text
 }

@@ -5,7 +5,6 @@ mod checker;
 mod checking;
 mod findings;
 mod head;
-mod kind;
 mod saying;
 mod tally;
 

@@ -2,29 +2,31 @@
 ghost use Rattle.std.specs.Prelude.{◌≡◌, ◌≢◌, ◌≤◌, ◌++◌, All, IfOk, length};
 ghost use Rattle.lost_lines.specs.Answer.{bytes_of};
 ghost use Rattle.lost_lines.specs.Cutting.{newline};
+ghost use Rattle.lost_replay.specs.Outcome.{IsListed};
 ghost use Rattle.lost_check.specs.Said.{IsHeaded, IsSaid};
 
 use crate::head::{head, label};
-use crate::kind::{Kind, code_of, kind_of};
 use lost_lines::Text;
+use lost_replay::Outcome;
 use lost_writing::DeskText;
 use memchr::memchr;
 use std::alloc::{AllocError, Global};
 
-/// What is said of the line with this number, by the reply of a replay to it: nothing where that says nothing against
-/// the line; else the line's number and the refusal, and then the cause, up to its first byte 10. Where memory is short the
-/// cause is left out.
-pub(crate) fn say(alloc: Global, number: u64, reply: &[u8], cause: &[u8]) -> Text
-    ensures { IsSaid number reply.now (bytes_of result) }
+/// What is said of the line with this number, by the outcome of a replay's answer to it: nothing where the line is taken;
+/// else the line's number and why, and then the cause, up to its first byte 10. Where memory is short the cause is left
+/// out. The caller has: a code of the desk's table.
+pub(crate) fn say(alloc: Global, number: u64, outcome: Outcome, cause: &[u8]) -> Text
+    requires { IsListed outcome }
+    ensures { IsSaid number outcome (bytes_of result) }
 {
-    match kind_of(reply) {
-        Kind::Taken => Text::Constant(b""),
-        Kind::Refused => {
-            let label = label(code_of(reply));
+    match outcome {
+        Outcome::Answered | Outcome::Staged(_) | Outcome::Committed(_) => Text::Constant(b""),
+        Outcome::Refused(code) => {
+            let label = label(code);
             headed(alloc, head(number, label.bytes()), cause)
         }
-        Kind::BadRequest => headed(alloc, head(number, b"badRequest"), cause),
-        Kind::Unjudged => headed(alloc, head(number, b"internalError"), cause),
+        Outcome::BadRequest => headed(alloc, head(number, b"badRequest"), cause),
+        Outcome::Unjudged => headed(alloc, head(number, b"internalError"), cause),
     }
 }
 

@@ -2,7 +2,7 @@
 ghost use Rattle.std.specs.Prelude.{◌≡◌};
 ghost use Rattle.lost_check.specs.Tally.{Counted};
 
-use crate::kind::Kind;
+use lost_replay::Outcome;
 
 /// What was counted so far. A count stays at its greatest value.
 #[derive(Clone, Copy, PartialEq, Eq, Debug)]
@@ -26,16 +26,16 @@ impl Tally {
         }
     }
 
-    /// Counts a line whose reply is of this kind.
-    pub(crate) fn count(&mut self, kind: Kind)
-        ensures { Counted self.old self.new kind }
+    /// Counts a line by the outcome of its answer.
+    pub(crate) fn count(&mut self, outcome: Outcome)
+        ensures { Counted self.old self.new outcome }
     {
         self.lines = self.lines.saturating_add(1);
-        match kind {
-            Kind::Taken => {}
-            Kind::Refused => self.refused = self.refused.saturating_add(1),
-            Kind::BadRequest => self.bad_requests = self.bad_requests.saturating_add(1),
-            Kind::Unjudged => self.unjudged = self.unjudged.saturating_add(1),
+        match outcome {
+            Outcome::Answered | Outcome::Staged(_) | Outcome::Committed(_) => {}
+            Outcome::Refused(_) => self.refused = self.refused.saturating_add(1),
+            Outcome::BadRequest => self.bad_requests = self.bad_requests.saturating_add(1),
+            Outcome::Unjudged => self.unjudged = self.unjudged.saturating_add(1),
         }
     }
 }

@@ -1,4 +1,5 @@
-pub mod ListLemmas
-pub mod StepLemmas
 pub mod DeskLemmas
+pub mod ListLemmas
+pub mod SeatLemmas
 pub mod SetLemmas
+pub mod StepLemmas

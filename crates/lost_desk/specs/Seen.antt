@@ -10,11 +10,13 @@ pub record DeskSeen : Type 0 where
   pub published : List Edit
   pub pending : List Edit
 
--- a reader: which opening it is of, its limits, the edits that it has seen or was told of, and how often it entered the copies
+-- a reader: which opening it is of, its limits, the edits that it has seen or was told of, the list of the copy that it entered last, and how often it
+-- entered the copies
 pub record ReaderSeen : Type 0 where
   pub opening : Opening
   pub limits : Limits
   pub seen : List Edit
+  pub entered : List Edit
   pub entries : ℕ
 
 -- readers: how many are left, and what each of them is
@@ -28,7 +30,7 @@ new_desk opening limits = record { opening = opening; limits = limits; published
 
 -- a reader that has seen nothing
 abbrev pub new_reader : Opening → Limits → ReaderSeen
-new_reader opening limits = record { opening = opening; limits = limits; seen = []; entries = 0 }
+new_reader opening limits = record { opening = opening; limits = limits; seen = []; entered = []; entries = 0 }
 
 -- the book of the published and the pending edits together
 abbrev pub staged_book : DeskSeen → Book
@@ -48,7 +50,7 @@ with_committed d = record { opening = d.opening; limits = d.limits; published = 
 
 -- the reader with this list seen
 abbrev pub with_seen : ReaderSeen → List Edit → ReaderSeen
-with_seen r es = record { opening = r.opening; limits = r.limits; seen = es; entries = r.entries }
+with_seen r es = record { opening = r.opening; limits = r.limits; seen = es; entered = r.entered; entries = r.entries }
 
 -- one reader less
 abbrev pub one_less : ReadersSeen → ℕ → ReadersSeen

@@ -81,13 +81,14 @@ published_version c f = record { book = book_of c.shown.book.limits f.list; fron
 
 -- by a seat, which is there, and the longest list that it has seen or was told of
 abbrev pub reader_seen : {Seat : Type 0} → (Seat → View) → Option Seat → Beginning → ReaderSeen
-reader_seen at None latest = record { opening = latest.opening; limits = record { mappings = 0; edits = 0 }; seen = latest.list; entries = 0 }
-reader_seen at (Some seat) latest = record { opening = latest.opening; limits = (at seat).limits; seen = latest.list; entries = (at seat).entries }
+reader_seen at None latest = record { opening = latest.opening; limits = record { mappings = 0; edits = 0 }; seen = latest.list; entered = []; entries = 0 }
+reader_seen at (Some seat) latest = record { opening = latest.opening; limits = (at seat).limits; seen = latest.list; entered = (at seat).front.list; entries = (at seat).entries }
 
--- the seat knows the copies, and its opening is that of the list
+-- the seat knows the copies, its opening is that of the list, and the list begins with that of the copy that it entered last
 pub record IsSeated (w : View) (latest : Beginning) : Type 0 where
   pub known : w.is_known ≡ true
   pub opening : w.front.opening ≡ latest.opening
+  pub begins : BeginsWith latest.list w.front.list
 
 abbrev pub IsReader : {Seat : Type 0} → (Seat → View) → Option Seat → Beginning → Type 0
 IsReader at None latest = ⊥

@@ -11,6 +11,7 @@ use crate::announce::announce;
 use crate::copies::Copies;
 use crate::faults::CommitError;
 use crate::queue::publish_all;
+use crate::reader::Reader;
 use crate::told::Told;
 use lost_book::{Edit, EditError};
 use lost_history::{Front, Head};
@@ -120,6 +121,17 @@ impl Desk {
             ((length self.now.published < length told.now.list) × BeginsWith told.now.list self.now.published) }
     {
         self.copies.shown().front.has(&told.front)
+    }
+
+    /// Whether all that a reader has seen is published, as all that a reader of this desk has seen is. What it has seen
+    /// begins then what is published. Both are of one opening.
+    pub fn has_seen(&self, reader: &Reader) -> bool
+        requires { reader.now.opening ≡ self.now.opening }
+        ensures begins { MatchBool result
+            (BeginsWith self.now.published reader.now.seen)
+            ((length self.now.published < length reader.now.seen) × BeginsWith reader.now.seen self.now.published) }
+    {
+        self.copies.shown().front.has(&reader.latest)
     }
 
     /// Ends the desk, and drops what is pending. Readers answer want of memory from then on. It waits for readers that

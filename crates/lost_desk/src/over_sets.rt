@@ -40,6 +40,7 @@ impl Reader {
             reply.items ≡ line_reply (seen_book self.new) name.now moment.now line.now) }
         ensures begins { BeginsWith self.new.seen self.old.seen }
         ensures entered { OnOk result (self.new.entries ≡ self.old.entries + 1) }
+        ensures entered_list { OnOk result (self.new.seen ≡ self.new.entered) }
         ensures one_list { OnOk result (IsTrue (is_accepted self.new.limits self.new.seen)) }
         ensures same { (self.new.opening ≡ self.old.opening) × (self.new.limits ≡ self.old.limits) }
         ensures right { AreRightFor (S.keeps sets.new) self.new.limits self.new.seen }
@@ -89,6 +90,7 @@ fn reply_from_over<S: PlaceSets>(
     ensures reply { IfOk result (λ reply. reply.items ≡ line_reply version.now.book name.now moment.now line.now) }
     ensures list { OnOk result (latest.new.list ≡ version.now.front.list) }
     ensures begins { BeginsWith latest.new.list latest.old.list }
+    ensures copy { BeginsWith latest.new.list version.now.front.list }
     ensures opening { latest.new.opening ≡ latest.old.opening }
     ensures right { AreRightFor (S.keeps sets.new) version.now.book.limits latest.new.list }
 {

@@ -22,8 +22,8 @@ use std::marker::Model;
 /// A seat at the copies.
 pub(crate) type Seat = left_right::reader::Reader<Version, View, OneList>;
 
-/// A reader. Contracts see its opening and limits, the list of edits that it has seen or was told of, and how often it
-/// entered the copies.
+/// A reader. Contracts see its opening and limits, the list of edits that it has seen or was told of, that of the copy
+/// that it entered last, and how often it entered the copies.
 #[derive(Drop)]
 pub struct Reader {
     pub(crate) seat: Option<Seat>,
@@ -75,6 +75,7 @@ impl Reader {
             reply.items ≡ line_reply (seen_book self.new) name.now moment.now line.now) }
         ensures begins { BeginsWith self.new.seen self.old.seen }
         ensures entered { OnOk result (self.new.entries ≡ self.old.entries + 1) }
+        ensures entered_list { OnOk result (self.new.seen ≡ self.new.entered) }
         ensures one_list { OnOk result (IsTrue (is_accepted self.new.limits self.new.seen)) }
         ensures same { (self.new.opening ≡ self.old.opening) × (self.new.limits ≡ self.old.limits) }
     {
@@ -102,6 +103,7 @@ impl Reader {
         }
     }
 
+    #[tactic(auto, using(crate::proofs::SeatLemmas::still_reader))]
     /// Learns what the desk told: from now on the reader answers from no shorter list. Both are of one opening.
     pub fn learn(&mut self, told: Told)
         requires { told.opening ≡ self.old.opening }
@@ -135,6 +137,7 @@ fn reply_from(
     ensures reply { IfOk result (λ reply. reply.items ≡ line_reply version.now.book name.now moment.now line.now) }
     ensures list { OnOk result (latest.new.list ≡ version.now.front.list) }
     ensures begins { BeginsWith latest.new.list latest.old.list }
+    ensures copy { BeginsWith latest.new.list version.now.front.list }
     ensures opening { latest.new.opening ≡ latest.old.opening }
 {
     latest.learn(&version.front);

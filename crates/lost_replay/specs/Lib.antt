@@ -1,4 +1,5 @@
 pub mod Books
+pub mod Outcome
 pub mod Pair
 pub mod Replay
 pub mod Replayer

@@ -11,10 +11,14 @@ ghost use Rattle.lost_reading.specs.Desk.{Stage, Commit, desk_line};
 ghost use Rattle.lost_reading.specs.Requests.{line_request};
 ghost use Rattle.lost_lines.specs.Answer.{reply_of};
 ghost use Rattle.lost_lines.specs.Run.{Whole};
+ghost use Rattle.lost_json.specs.Stream as stream;
 ghost use Rattle.lost_json.specs.Stream.{edit_text, refused_text};
+ghost use Rattle.lost_writing.specs.DeskReplies.{IsCode};
 ghost use Rattle.lost_replay.specs.Books.{BooksStep};
+ghost use Rattle.lost_replay.specs.Outcome.{IsListed, IsOutcomeOf};
 ghost use Rattle.lost_replay.specs.Replay.{replay_terms};
 
+use crate::outcome::Outcome;
 use crate::pair::Pair;
 use lost_book::{Edit, EditError, Limits};
 use lost_json::{DeskReply, bad_request, desk_answer, internal_error, reply_request};
@@ -25,6 +29,49 @@ use lost_routing::Routing;
 use lost_spec::Coded;
 use std::alloc::{AllocError, Global};
 use std::marker::Model;
+
+/// An answer, and what it is.
+#[derive(Drop)]
+pub(crate) struct Judged {
+    pub(crate) answer: Answer,
+    pub(crate) outcome: Outcome,
+}
+
+impl Judged {
+    /// The answer `badRequest`.
+    pub(crate) fn bad_request() -> Judged
+        ensures answer { reply_of result.answer ≡ record { text = stream.bad_request; is_internal_error = false } }
+        ensures outcome { result.outcome ≡ Outcome.BadRequest }
+    {
+        Judged {
+            answer: bad_request(),
+            outcome: Outcome::BadRequest,
+        }
+    }
+
+    /// The answer `internalError`, for want of memory.
+    pub(crate) fn unjudged() -> Judged
+        ensures answer { reply_of result.answer ≡ record { text = stream.internal_error; is_internal_error = true } }
+        ensures outcome { result.outcome ≡ Outcome.Unjudged }
+    {
+        Judged {
+            answer: internal_error(),
+            outcome: Outcome::Unjudged,
+        }
+    }
+
+    /// The refusal of a desk line. The caller has: a code of the table.
+    pub(crate) fn refused(code: u8) -> Judged
+        requires { IsCode code }
+        ensures answer { reply_of result.answer ≡ record { text = refused_text code; is_internal_error = false } }
+        ensures outcome { result.outcome ≡ Outcome.Refused code }
+    {
+        Judged {
+            answer: desk_answer(DeskReply::Refused(code)),
+            outcome: Outcome::Refused(code),
+        }
+    }
+}
 
 /// The two books of a replay. Contracts see them as the record `Books`.
 #[derive(Drop)]
@@ -66,10 +113,12 @@ impl Books {
     }
 
     /// Stages an edit: its refusal, or how many edits are staged and not published. Want of memory is code 20.
-    pub(crate) fn stage(&mut self, edit: Edit) -> Answer
+    pub(crate) fn stage(&mut self, edit: Edit) -> Judged
         ensures answered { (name : Text) (t : Instant) (line : Text) → desk_line line ≡ Some (Ok (Stage (edit_of edit)))
-            → BooksStep (replay_terms name t) self.old (Whole line) (reply_of result) self.new }
-        ensures desk_reply { (reply_of result).is_internal_error ≡ false }
+            → BooksStep (replay_terms name t) self.old (Whole line) (reply_of result.answer) self.new }
+        ensures desk_reply { (reply_of result.answer).is_internal_error ≡ false }
+        ensures outcome { (line : Text) → IsOutcomeOf result.outcome line (reply_of result.answer).text }
+        ensures listed { IsListed result.outcome }
     {
         let staged = self.pair.stage(edit);
         self.edit_answer(staged)
@@ -77,27 +126,41 @@ impl Books {
 
     /// Answers for an edit that was staged or refused: its refusal, or how many edits are staged and not published. Want
     /// of memory is code 20.
-    pub(crate) fn edit_answer(&self, staged: Result<(), EditError>) -> Answer
-        ensures told { reply_of result ≡ record {
+    pub(crate) fn edit_answer(&self, staged: Result<(), EditError>) -> Judged
+        ensures told { reply_of result.answer ≡ record {
           text = edit_text (result_err staged) (self.now.staged.edits - self.now.published.edits);
           is_internal_error = false;
         } }
-        ensures memory { staged ≡ Err EditError.Memory → reply_of result ≡ record { text = refused_text 20; is_internal_error = false } }
+        ensures memory { staged ≡ Err EditError.Memory → reply_of result.answer ≡ record { text = refused_text 20; is_internal_error = false } }
+        ensures outcome { (line : Text) → IsOutcomeOf result.outcome line (reply_of result.answer).text }
+        ensures listed { IsListed result.outcome }
     {
         match staged {
-            Ok(()) => desk_answer(DeskReply::Staged(self.pair.pending())),
-            Err(error) => desk_answer(DeskReply::Refused(error.code())),
+            Ok(()) => {
+                let pending = self.pair.pending();
+                Judged {
+                    answer: desk_answer(DeskReply::Staged(pending)),
+                    outcome: Outcome::Staged(pending),
+                }
+            }
+            Err(error) => Judged::refused(error.code()),
         }
     }
 
     /// Publishes all that is staged. It takes no memory.
-    pub(crate) fn commit(&mut self) -> Answer
+    pub(crate) fn commit(&mut self) -> Judged
         ensures answered { (name : Text) (t : Instant) (line : Text) → desk_line line ≡ Some (Ok Commit)
-            → BooksStep (replay_terms name t) self.old (Whole line) (reply_of result) self.new }
-        ensures desk_reply { (reply_of result).is_internal_error ≡ false }
+            → BooksStep (replay_terms name t) self.old (Whole line) (reply_of result.answer) self.new }
+        ensures desk_reply { (reply_of result.answer).is_internal_error ≡ false }
+        ensures outcome { (line : Text) → IsOutcomeOf result.outcome line (reply_of result.answer).text }
+        ensures listed { IsListed result.outcome }
     {
         self.pair.commit();
-        desk_answer(DeskReply::Committed(self.pair.published().edition()))
+        let edition = self.pair.published().edition();
+        Judged {
+            answer: desk_answer(DeskReply::Committed(edition)),
+            outcome: Outcome::Committed(edition),
+        }
     }
 
     /// Answers a request, over the published book.
@@ -107,25 +170,33 @@ impl Books {
         name: &Source,
         moment: &Moment,
         request: &Request,
-    ) -> Answer
-        ensures { (line : Text) → desk_line line ≡ None → line_request line ≡ Some (request_of request.now)
-            → BooksStep (replay_terms name.now moment.now) self.now (Whole line) (reply_of result) self.now }
+    ) -> Judged
+        ensures answered { (line : Text) → desk_line line ≡ None → line_request line ≡ Some (request_of request.now)
+            → BooksStep (replay_terms name.now moment.now) self.now (Whole line) (reply_of result.answer) self.now }
+        ensures outcome { (line : Text) → desk_line line ≡ None → line_request line ≡ Some (request_of request.now)
+            → IsOutcomeOf result.outcome line (reply_of result.answer).text }
+        ensures listed { IsListed result.outcome }
     {
         match reply_request(alloc, self.pair.published(), name, moment, request) {
-            Ok(text) => Answer {
-                text: ReplyText::Kept(text),
-                is_internal_error: false,
+            Ok(text) => Judged {
+                answer: Answer {
+                    text: ReplyText::Kept(text),
+                    is_internal_error: false,
+                },
+                outcome: Outcome::Answered,
             },
-            Err(_) => internal_error(),
+            Err(_) => Judged::unjudged(),
         }
     }
 
     /// Answers a line that is neither a desk line nor a request.
     #[tactic(auto, unfolding(lost_json::specs::Line::line_reply))]
-    pub(crate) fn neither(&self) -> Answer
-        ensures { (name : Text) (t : Instant) (line : Text) → desk_line line ≡ None → line_request line ≡ None
-            → BooksStep (replay_terms name t) self.now (Whole line) (reply_of result) self.now }
+    pub(crate) fn neither(&self) -> Judged
+        ensures answered { (name : Text) (t : Instant) (line : Text) → desk_line line ≡ None → line_request line ≡ None
+            → BooksStep (replay_terms name t) self.now (Whole line) (reply_of result.answer) self.now }
+        ensures outcome { (line : Text) → IsOutcomeOf result.outcome line (reply_of result.answer).text }
+        ensures listed { IsListed result.outcome }
     {
-        bad_request()
+        Judged::bad_request()
     }
 }

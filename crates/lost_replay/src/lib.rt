@@ -3,10 +3,12 @@
 #![tactic(auto)]
 
 mod books;
+mod outcome;
 mod pair;
 mod replayer;
 mod replaying;
 
 pub use lost_lines::{Counts, NoGate, ServeError, Turns, Watched};
+pub use outcome::Outcome;
 pub use replayer::Replayer;
-pub use replaying::replay;
+pub use replaying::{Summary, replay, replay_summed};

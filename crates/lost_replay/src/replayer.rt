@@ -1,9 +1,15 @@
 //! What answers the lines of a replay. Rules without a section are this profile's own.
 ghost use Rattle.std.specs.Prelude.{◌≡◌, IfOk};
-ghost use Rattle.lost_replay.specs.Replayer.{Begins, books_of};
+ghost use Rattle.lost_lines.specs.Answer.{reply_of};
+ghost use Rattle.lost_lines.specs.Run.{Whole};
+ghost use Rattle.lost_replay.specs.Books.{BooksStep};
+ghost use Rattle.lost_replay.specs.Outcome.{IsListed, IsOutcomeOf};
+ghost use Rattle.lost_replay.specs.Replay.{replay_terms};
+ghost use Rattle.lost_replay.specs.Replayer.{Begins, books_of, outcome_of};
 
-use crate::books::Books;
-use lost_json::{DeskFault, DeskLine, DeskReply, bad_request, desk_answer, internal_error};
+use crate::books::{Books, Judged};
+use crate::outcome::Outcome;
+use lost_json::{DeskFault, DeskLine};
 use lost_lines::{Answer, Answerer};
 use lost_mapping::{MappingError, Moment, Source};
 use lost_reading::Line;
@@ -20,6 +26,10 @@ pub struct Replayer<'a> {
     moment: Moment,
     books: Books,
     scratch: Scratch,
+    /// What the last answer is.
+    outcome: Outcome,
+    /// How many lines were refused; it stays at its greatest value.
+    refused: u64,
 }
 
 impl<'a> Replayer<'a> {
@@ -33,7 +43,21 @@ impl<'a> Replayer<'a> {
             moment: *moment,
             books: Books::new(alloc)?,
             scratch: Scratch::new(alloc),
+            outcome: Outcome::Unjudged,
+            refused: 0,
         })
+    }
+
+    /// What the answer to the last line is. It means nothing before the first.
+    pub fn outcome(&self) -> Outcome
+        ensures { result ≡ outcome_of self.now }
+    {
+        self.outcome
+    }
+
+    /// How many lines were refused so far; it stays at its greatest value.
+    pub fn refused(&self) -> u64 {
+        self.refused
     }
 
     /// How many edits are published.
@@ -51,12 +75,15 @@ impl<'a> Replayer<'a> {
     }
 }
 
-impl Answerer for Replayer<'_> {
-    ghost use Rattle.lost_replay.specs.Replayer.{Replays};
-
-    ghost step = { Replays };
-
-    fn answer(&mut self, alloc: Global, line: &[u8]) -> Answer {
+impl Replayer<'_> {
+    /// Answers a line that was kept whole, and says what the answer is.
+    fn judge(&mut self, alloc: Global, line: &[u8]) -> Judged
+        ensures name { self.new.name.now ≡ self.old.name.now }
+        ensures moment { self.new.moment ≡ self.old.moment }
+        ensures step { BooksStep (replay_terms self.old.name.now self.old.moment) self.old.books (Whole line.now) (reply_of result.answer) self.new.books }
+        ensures outcome { IsOutcomeOf result.outcome line.now (reply_of result.answer).text }
+        ensures listed { IsListed result.outcome }
+    {
         match read_line(alloc, line, &mut self.scratch) {
             Ok(Line::Request(request)) => {
                 self.books.request(alloc, self.name, &self.moment, &request)
@@ -64,16 +91,45 @@ impl Answerer for Replayer<'_> {
             Ok(Line::Desk(DeskLine::Edit(edit))) => self.books.stage(edit),
             Ok(Line::Desk(DeskLine::Commit)) => self.books.commit(),
             Ok(Line::Neither) => self.books.neither(),
-            Err(fault) if fault == DeskFault::Mapping(MappingError::Memory) => internal_error(),
-            Err(fault) => desk_answer(DeskReply::Refused(fault.code())),
+            Err(fault) if fault == DeskFault::Mapping(MappingError::Memory) => Judged::unjudged(),
+            Err(fault) => Judged::refused(fault.code()),
         }
     }
 
+    /// Keeps what the answer to a line is.
+    fn keep(&mut self, outcome: Outcome)
+        ensures outcome { outcome_of self.new ≡ outcome }
+        ensures name { self.new.name.now ≡ self.old.name.now }
+        ensures moment { self.new.moment ≡ self.old.moment }
+        ensures books { self.new.books ≡ self.old.books }
+    {
+        self.outcome = outcome;
+        if let Outcome::Refused(_) = outcome {
+            self.refused = self.refused.saturating_add(1);
+        }
+    }
+}
+
+impl Answerer for Replayer<'_> {
+    ghost use Rattle.lost_replay.specs.Replayer.{Replays};
+
+    ghost step = { Replays };
+
+    fn answer(&mut self, alloc: Global, line: &[u8]) -> Answer {
+        let judged = self.judge(alloc, line);
+        self.keep(judged.outcome);
+        judged.answer
+    }
+
     fn answer_long(&mut self) -> Answer {
-        bad_request()
+        let judged = Judged::bad_request();
+        self.keep(judged.outcome);
+        judged.answer
     }
 
     fn answer_unread(&mut self) -> Answer {
-        internal_error()
+        let judged = Judged::unjudged();
+        self.keep(judged.outcome);
+        judged.answer
     }
 }

@@ -39,8 +39,45 @@ pub fn replay<R: Read, W: Write>(
     ensures unread { result ≡ Err ServeError.Memory → input.new ≡ input.old }
     ensures unwritten { result ≡ Err ServeError.Memory → output.new ≡ output.old }
 {
+    let mut summary = Summary::default();
+    replay_summed(alloc, input, output, name, moment, turns, &mut summary)
+}
+
+/// What a replay has done by its end.
+#[derive(Clone, Copy, PartialEq, Eq, Debug, Default)]
+pub struct Summary {
+    /// How many lines were refused.
+    pub refused: u64,
+    /// How many edits are published.
+    pub edition: u64,
+}
+
+/// Does what [`replay`] does, with its errors, and puts what was done into `summary`, also where a fault came.
+pub fn replay_summed<R: Read, W: Write>(
+    alloc: Global,
+    input: &mut Watched<R>,
+    output: &mut Watched<W>,
+    name: &Source,
+    moment: &Moment,
+    turns: Turns,
+    summary: &mut Summary,
+) -> Result<Counts, ServeError>
+    requires fresh { AreFresh input.old output.old }
+
+    // Each line of the input is answered from scratch over the edits that were committed before it.
+    ensures outcome { IsReplayOutcome name.now moment.now turns
+        (passage_of R.remaining W.contents input.old input.new output.old output.new) result }
+    ensures faults { StreamFaults R.remaining turns input.new output.old output.new result }
+    ensures unread { result ≡ Err ServeError.Memory → input.new ≡ input.old }
+    ensures unwritten { result ≡ Err ServeError.Memory → output.new ≡ output.old }
+{
     let Ok(mut replayer) = Replayer::new(alloc, name, moment) else {
         return Err(ServeError::Memory);
     };
-    run_lines(alloc, input, output, &mut replayer, &NoGate, turns)
+    let replayed = run_lines(alloc, input, output, &mut replayer, &NoGate, turns);
+    *summary = Summary {
+        refused: replayer.refused(),
+        edition: replayer.edition(),
+    };
+    replayed
 }

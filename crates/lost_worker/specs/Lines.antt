@@ -17,11 +17,12 @@ pub record Worker : Type 0 where
   pub reader : ReaderSeen
   pub moments : List Instant
 
--- the reply is the answer from the list seen then, at this moment, and the replier entered once more
+-- the reply is the answer from the list seen then, at this moment, and the replier entered once more, a copy of that list
 pub record IsReply (name : Text) (t : Instant) (old : ReaderSeen) (line : Text) (reply : Reply) (new : ReaderSeen) : Type 0 where
   pub text : reply.text ≡ line_reply (seen_book new) name t line
   pub is_no_refusal : reply.is_internal_error ≡ false
   pub entered : new.entries ≡ old.entries + 1
+  pub entered_list : new.seen ≡ new.entered
   pub one_list : IsTrue (is_accepted new.limits new.seen)
 
 -- a text is said in place of an answer

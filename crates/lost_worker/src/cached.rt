@@ -125,6 +125,7 @@ impl<S: BuildHasher + Drop> CachedReader<S> {
             reply.items ≡ line_reply (seen_book self.new) name.now moment.now line.now) }
         ensures begins { BeginsWith self.new.seen self.old.seen }
         ensures entered { OnOk result (self.new.entries ≡ self.old.entries + 1) }
+        ensures entered_list { OnOk result (self.new.seen ≡ self.new.entered) }
         ensures one_list { OnOk result (IsTrue (is_accepted self.new.limits self.new.seen)) }
         ensures same { (self.new.opening ≡ self.old.opening) × (self.new.limits ≡ self.old.limits) }
     {

@@ -31,6 +31,7 @@ pub trait Replier {
             reply.items ≡ line_reply (seen_book (reader self.new)) name.now moment.now line.now) }
         ensures begins { BeginsWith (reader self.new).seen (reader self.old).seen }
         ensures entered { OnOk result ((reader self.new).entries ≡ (reader self.old).entries + 1) }
+        ensures entered_list { OnOk result ((reader self.new).seen ≡ (reader self.new).entered) }
         ensures one_list { OnOk result (IsTrue (is_accepted (reader self.new).limits (reader self.new).seen)) }
         ensures same { ((reader self.new).opening ≡ (reader self.old).opening)
             × ((reader self.new).limits ≡ (reader self.old).limits) };

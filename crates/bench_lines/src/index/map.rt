@@ -8,7 +8,7 @@ use lost_grid::Geodetic2d;
 use lost_index::Index;
 use std::alloc::{AllocError, Global};
 use std::io;
-use test_bench::SIDE;
+use test_districts::SIDE;
 
 /// What finds the boundaries at a point.
 pub(crate) trait Finding {

@@ -3,7 +3,7 @@
 use lost_geo::{GeoPoint, Polygon};
 use std::alloc::Global;
 use std::io;
-use test_bench::ring;
+use test_districts::ring;
 
 /// How many steps a sliver takes on its way over the earth: with the way back and the end, 4,096 positions.
 const STEPS: u32 = 2_047;
