@@ -1,4 +1,4 @@
-"""Random sessions through readers that keep places: the program `sessions`, in a folder of sessions with the oracle's replies.
+"""Random sessions through readers that keep places: the program `rows_lines`, over a folder of sessions with the oracle's replies.
 
 With a file of limits beside a session its desk has these, and not the widest: so refusals 18 and 19 come after a few edits.
 """
@@ -12,7 +12,7 @@ from comparing import TOP, kinds_of, oracle_replies
 from noticing import standing_in
 from sessions import Session
 
-PROGRAM = f"{TOP}/crates/sessions/out/sessions"
+PROGRAM = f"{TOP}/crates/rows_lines/out/rows_lines"
 NAME, NOW = "lost.example", "2026-01-01T00:00:00Z"
 
 
@@ -39,19 +39,20 @@ def write_limited(folder, seed):
 def write_files(folder, seed, **contents):
     """Writes files of a session, by their endings."""
     for ending, content in contents.items():
-        with open(f"{folder}/{seed:07}.{ending}", "wb") as file:
+        with open(f"{folder}/sessions/{seed:07}.{ending}", "wb") as file:
             file.write(content)
 
 
 def compare_written(write_one, seeds):
     """Compares the replies of the program with those that are written; how many sessions are the same, how many not, and kinds."""
     if not os.path.exists(PROGRAM):
-        sys.exit(f"{PROGRAM} is not built yet: rt run in crates/sessions builds it")
+        sys.exit(f"{PROGRAM} is not built yet: rt run in crates/rows_lines builds it")
     with tempfile.TemporaryDirectory() as folder:
+        os.mkdir(f"{folder}/sessions")
         written = [replies for replies in (write_one(folder, seed) for seed in seeds) if replies is not None]
-        ran = subprocess.run([PROGRAM], cwd=folder, capture_output=True, text=True)
+        ran = subprocess.run([PROGRAM, "sessions"], cwd=folder, capture_output=True, text=True)
     same = [line for line in ran.stdout.splitlines() if line.endswith(": as expected")]
-    for line in ran.stdout.splitlines():
+    for line in ran.stdout.splitlines()[1:]:
         if line not in same:
             print(f"seed {line}")
     print(f"{len(written)} sessions were compared, {len(seeds) - len(written)} left out: a member is named twice")

@@ -1,0 +1,61 @@
+//! Rows and runs of edits over the plain book and the indexed one. Each word of the command line is a command, and the
+//! commands run in turn; what a command prints stands under its word. The exit status is 1 where the two books differ, and
+//! 2 where there is no word or one that is unknown.
+//!
+//! - `edits`: the desk lines of standard input, which are edits, are applied to both, and what each answers then is printed;
+//!   the line `next` begins both anew. Where memory is refused for an edit, what the book answers then is printed, and the
+//!   edit is applied again; a question that memory was refused for is asked again.
+//! - `full`: the indexed book takes as many mappings as the limits allow, the next publish is refused, and goes once a
+//!   mapping is withdrawn.
+//! - `runs`: the runs of the table `runs.rows` are drawn at random. After each edit both are asked alike, and each answer is
+//!   compared.
+#![tactic(auto)]
+
+mod asking;
+mod edits;
+mod full;
+mod kinds;
+mod pair;
+mod runs;
+
+use lost_book::Book;
+use lost_routing::Routing;
+use std::process::ExitCode;
+use std::rt::{Env, Files};
+use std::{env, io};
+
+/// The commands.
+const COMMANDS: [&str; 3] = ["edits", "full", "runs"];
+
+/// The status where no command is given, or one that is unknown.
+const COMMAND_LINE: u8 = 2;
+
+fn main(rt: HostRuntime) -> io::Result<ExitCode> {
+    let mut is_known = false;
+    let mut status = ExitCode::SUCCESS;
+    for word in env::args(&rt)?.skip(1) {
+        is_known = COMMANDS.contains(&word.as_str());
+        if !is_known {
+            break;
+        }
+        if !run(&rt, word.as_str())? {
+            status = ExitCode::FAILURE;
+        }
+    }
+    if is_known {
+        return Ok(status);
+    }
+    eprintln!(rt; "rows_books: give one or more of the words edits, full, runs")?;
+    Ok(ExitCode::from(COMMAND_LINE))
+}
+
+/// Runs a command. Says whether the two books are alike.
+fn run<R: Files + Input + Print + AllocGlobal>(rt: &R, command: &str) -> io::Result<bool> {
+    println!(rt; "== {command}")?;
+    match command {
+        "edits" => edits::edit_books::<R, Book, Routing>(rt)?,
+        "full" => full::print_full::<R, Routing>(rt)?,
+        _ => return runs::print_runs::<R, Book, Routing>(rt),
+    }
+    Ok(true)
+}

@@ -1,0 +1,84 @@
+//! Questions on civic keys, one a line, and their answers. A pattern and an address are written as `NAME=VALUE` with `;`
+//! between them, and elements by their names with spaces between them.
+//!
+//! - `cover PATTERN` and `probes ADDRESS`: the keys of the profile of civic addresses.
+//! - `contains PATTERN / ADDRESS`: whether the pattern contains the address.
+//! - `reference-cover PATTERN` and `reference-probes ADDRESS / ELEMENTS`: the keys of the profile of references, where
+//!   these elements of the address are required.
+//! - `refers PATTERN / ADDRESS / ELEMENTS`: whether the pattern contains them there.
+
+use crate::reading::{address, pattern, required};
+use lost_civicdex::{Civic, ElementKey, References};
+use lost_profile::Profile;
+use std::alloc::Global;
+use std::io;
+
+/// Prints each question of standard input with its answer.
+pub(crate) fn print_answers<R: Input + Print + AllocGlobal>(rt: &R) -> io::Result<()> {
+    for line in rt.lines(rt.alloc()) {
+        let line = line?;
+        match answer(rt.alloc(), line.as_str()) {
+            Some(answer) => println!(rt; "{line}: {answer}")?,
+            None => println!(rt; "{line}: unreadable")?,
+        }
+    }
+    Ok(())
+}
+
+/// The answer to a question, or `None` where it cannot be read.
+fn answer(alloc: Global, line: &str) -> Option<String> {
+    let (question, rest) = line.split_once(' ')?;
+    match question {
+        "cover" => {
+            let region = pattern(alloc, rest)?;
+            written(alloc, Civic::cover(alloc, &region).ok()?.as_slice())
+        }
+        "probes" => {
+            let location = address(alloc, rest)?;
+            written(alloc, Civic::probes(alloc, &location).ok()?.as_slice())
+        }
+        "contains" => contains(alloc, rest),
+        "reference-cover" => {
+            let region = pattern(alloc, rest)?;
+            written(alloc, References::cover(alloc, &region).ok()?.as_slice())
+        }
+        "reference-probes" => {
+            let location = required(alloc, rest)?;
+            written(alloc, References::probes(alloc, &location).ok()?.as_slice())
+        }
+        "refers" => refers(alloc, rest),
+        _ => None,
+    }
+}
+
+fn contains(alloc: Global, text: &str) -> Option<String> {
+    let (region, location) = text.split_once(" / ")?;
+    let region = pattern(alloc, region)?;
+    let location = address(alloc, location)?;
+    said(alloc, Civic::contains(&region, &location))
+}
+
+fn refers(alloc: Global, text: &str) -> Option<String> {
+    let (region, location) = text.split_once(" / ")?;
+    let region = pattern(alloc, region)?;
+    let location = required(alloc, location)?;
+    said(alloc, References::contains(&region, &location))
+}
+
+fn said(alloc: Global, holds: bool) -> Option<String> {
+    String::from_str(alloc, if holds { "yes" } else { "no" }).ok()
+}
+
+/// Keys such as `A1=nj;A3=leonia`.
+fn written(alloc: Global, keys: &[ElementKey]) -> Option<String> {
+    let mut text = String::new(alloc);
+    for key in keys {
+        if !text.is_empty() {
+            text.push(';').ok()?;
+        }
+        text.push_str(key.element().name()).ok()?;
+        text.push('=').ok()?;
+        text.push_str(key.text()).ok()?;
+    }
+    Some(text)
+}

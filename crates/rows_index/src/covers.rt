@@ -1,0 +1,38 @@
+//! Covers and probes.
+
+use crate::rings::{Corners, EARTH, EIGHT, FAR, NEAR, UNDER_EIGHT, point, square};
+use lost_grid::{Cell, Geodetic2d};
+use lost_profile::Profile;
+use std::io;
+
+/// Prints the covers and the probes of the rows.
+pub(crate) fn print_all<R: Print + AllocGlobal>(rt: &R) -> io::Result<()> {
+    print_cover(rt, "a square of a degree", NEAR)?;
+    print_cover(rt, "one far from it", FAR)?;
+    print_cover(rt, "a little under eight cells of level 2", UNDER_EIGHT)?;
+    print_cover(rt, "eight cells of level 2", EIGHT)?;
+    print_cover(rt, "the earth", EARTH)?;
+    print_probes(rt)
+}
+
+/// Prints the cover of one ring.
+fn print_cover<R: Print + AllocGlobal>(rt: &R, name: &str, corners: Corners) -> io::Result<()> {
+    let alloc = rt.alloc();
+    let cells = Geodetic2d::cover(alloc, &square(alloc, corners)?)?;
+    print_cells(rt, name, &cells)
+}
+
+/// Prints the probes of the row's point.
+fn print_probes<R: Print + AllocGlobal>(rt: &R) -> io::Result<()> {
+    let cells = Geodetic2d::probes(rt.alloc(), &point(5_000_000, 5_000_000)?)?;
+    print_cells(rt, "probes of a point", &cells)
+}
+
+/// Prints cells behind their name.
+fn print_cells<R: Print + AllocGlobal>(rt: &R, name: &str, cells: &[Cell]) -> io::Result<()> {
+    print!(rt; "{name}:")?;
+    for cell in cells {
+        print!(rt; " ({},{},{})", cell.level, cell.row, cell.column)?;
+    }
+    println!(rt; "")
+}

@@ -1,0 +1,163 @@
+//! A row of edits of an index, over any kind of location.
+ghost use Rattle.std.specs.Prelude.{◌≡◌, IfOk, length};
+
+use crate::rings::{FAR, NEAR, point, square};
+use crate::tens::profile::Tens;
+use crate::tens::stretch::Stretch;
+use lost_geo::Polygon;
+use lost_grid::Geodetic2d;
+use lost_index::Index;
+use lost_profile::Profile;
+use std::alloc::Global;
+use std::io;
+
+/// A kind of location, with the regions and the question of the row.
+pub(crate) trait Row: Profile {
+    /// A region that holds the location of the question.
+    fn near(alloc: Global) -> io::Result<Self::Region>;
+
+    /// A region that is far from it.
+    fn far(alloc: Global) -> io::Result<Self::Region>;
+
+    /// The numbers that hold the location, or want of memory.
+    fn asked(index: &Index<Self>) -> io::Result<Vec<u64>>;
+}
+
+impl Row for Geodetic2d {
+    fn near(alloc: Global) -> io::Result<Polygon> {
+        square(alloc, NEAR)
+    }
+
+    fn far(alloc: Global) -> io::Result<Polygon> {
+        square(alloc, FAR)
+    }
+
+    fn asked(index: &Index<Geodetic2d>) -> io::Result<Vec<u64>> {
+        Ok(index.holding(&point(5_000_000, 5_000_000)?)?)
+    }
+}
+
+impl Row for Tens {
+    fn near(_alloc: Global) -> io::Result<Stretch> {
+        Ok(Stretch::of(15, 9))
+    }
+
+    fn far(_alloc: Global) -> io::Result<Stretch> {
+        Ok(Stretch::of(1_000, 9))
+    }
+
+    fn asked(index: &Index<Tens>) -> io::Result<Vec<u64>> {
+        Ok(index.holding(&21)?)
+    }
+}
+
+/// Prints what the index answers at each step of the row, and then tries each step that takes memory alone.
+pub(crate) fn print_all<R: Print + AllocGlobal, P: Row>(rt: &R) -> io::Result<()> {
+    print_row::<R, P>(rt)?;
+    try_first_put::<R, P>(rt)?;
+    try_second_put::<R, P>(rt)?;
+    try_add::<R, P>(rt)
+}
+
+/// Prints what the index answers at each step of the row.
+fn print_row<R: Print + AllocGlobal, P: Row>(rt: &R) -> io::Result<()> {
+    let alloc = rt.alloc();
+    let mut index: Index<P> = Index::new(alloc);
+    index.put(1, near::<P>(alloc)?)?;
+    index.put(2, near_twice::<P>(alloc)?)?;
+    print_asked(rt, "put", &index)?;
+    index.add(1, far::<P>(alloc)?)?;
+    print_asked(rt, "add", &index)?;
+    index.cut(1, 1, 2);
+    print_asked(rt, "cut", &index)?;
+    index.take(2);
+    print_asked(rt, "take", &index)
+}
+
+/// Does the row's first put alone. Only where it is refused for want of memory, prints what the index then answers, puts
+/// again, and prints that answer.
+fn try_first_put<R: Print + AllocGlobal, P: Row>(rt: &R) -> io::Result<()> {
+    let alloc = rt.alloc();
+    let mut index: Index<P> = Index::new(alloc);
+    if index.put(1, near::<P>(alloc)?).is_err() {
+        print_asked(rt, "first put refused", &index)?;
+        index.put(1, near::<P>(alloc)?)?;
+        return print_asked(rt, "first put again", &index);
+    }
+    Ok(())
+}
+
+/// The same with the second put.
+fn try_second_put<R: Print + AllocGlobal, P: Row>(rt: &R) -> io::Result<()> {
+    let alloc = rt.alloc();
+    let mut index: Index<P> = Index::new(alloc);
+    index.put(1, near::<P>(alloc)?)?;
+    if index.put(2, near_twice::<P>(alloc)?).is_err() {
+        print_asked(rt, "second put refused", &index)?;
+        index.put(2, near_twice::<P>(alloc)?)?;
+        return print_asked(rt, "second put again", &index);
+    }
+    Ok(())
+}
+
+/// The same with the add.
+fn try_add<R: Print + AllocGlobal, P: Row>(rt: &R) -> io::Result<()> {
+    let alloc = rt.alloc();
+    let mut index: Index<P> = Index::new(alloc);
+    index.put(1, near::<P>(alloc)?)?;
+    index.put(2, near_twice::<P>(alloc)?)?;
+    if index.add(1, far::<P>(alloc)?).is_err() {
+        print_asked(rt, "add refused", &index)?;
+        index.add(1, far::<P>(alloc)?)?;
+        return print_asked(rt, "add again", &index);
+    }
+    Ok(())
+}
+
+/// The near region, alone.
+fn near<P: Row>(alloc: Global) -> io::Result<Vec<P::Region>>
+    ensures { IfOk result (λ regions. length regions.items ≡ 1) }
+{
+    let mut regions = Vec::new(alloc);
+    regions.push(P::near(alloc)?)?;
+    Ok(regions)
+}
+
+/// The near region twice.
+fn near_twice<P: Row>(alloc: Global) -> io::Result<Vec<P::Region>> {
+    let mut regions = near::<P>(alloc)?;
+    regions.push(P::near(alloc)?)?;
+    Ok(regions)
+}
+
+/// The far region, alone.
+fn far<P: Row>(alloc: Global) -> io::Result<Vec<P::Region>>
+    ensures { IfOk result (λ regions. length regions.items ≡ 1) }
+{
+    let mut regions = Vec::new(alloc);
+    regions.push(P::far(alloc)?)?;
+    Ok(regions)
+}
+
+/// Prints the numbers that hold the location after a step. Where they are refused for want of memory, says so and asks
+/// again.
+fn print_asked<R: Print + AllocGlobal, P: Row>(
+    rt: &R,
+    step: &str,
+    index: &Index<P>,
+) -> io::Result<()> {
+    if let Ok(found) = P::asked(index) {
+        return print_numbers(rt, step, &found);
+    }
+    println!(rt; "holding refused")?;
+    print_numbers(rt, step, &P::asked(index)?)
+}
+
+/// Prints numbers behind the name of their step.
+fn print_numbers<R: Print + AllocGlobal>(rt: &R, step: &str, numbers: &[u64]) -> io::Result<()> {
+    print!(rt; "{step}:")?;
+    for number in numbers {
+        print!(rt; " {number}")?;
+    }
+    println!(rt; "")
+}

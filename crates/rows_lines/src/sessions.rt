@@ -1,0 +1,76 @@
+//! Sessions, each answered in several ways, and the replies that are expected.
+
+mod cached;
+mod limits;
+mod replayed;
+
+use crate::rows::{Row, names};
+use crate::setting::Setting;
+use lost_book::Limits;
+use std::io;
+use std::rt::Files;
+use std::sync::Wait;
+
+/// The folder of the sessions.
+const FOLDER: &str = "sessions";
+
+/// How many places the readers keep.
+const PLACES: [u32; 3] = [1, 2, 1_024];
+
+/// Has each session answered in each way, and prints whether all replies are as expected. Says so too.
+pub(crate) fn print_sessions<R: Files + Wait + Print + AllocGlobal + Clone + Drop>(
+    rt: &R,
+) -> io::Result<bool> {
+    let setting = Setting::new(rt.alloc())?;
+    let mut all = true;
+    for name in &names(rt, FOLDER)? {
+        if !is_as_expected(rt, name.as_str(), &setting)? {
+            all = false;
+        }
+    }
+    Ok(all)
+}
+
+/// Has one session answered in each way, and says how it went.
+fn is_as_expected<R: Files + Wait + Print + AllocGlobal>(
+    rt: &R,
+    name: &str,
+    setting: &Setting,
+) -> io::Result<bool> {
+    let row = Row::read(rt, FOLDER, name)?;
+    let limits = limits::limits(rt, FOLDER, name)?;
+    if limits.is_none() {
+        let replies = replayed::replies(rt.alloc(), &row.lines, &setting.name, &setting.moment);
+        if !is_same(rt, name, "replayed", replies, &row.expected)? {
+            return Ok(false);
+        }
+    }
+    let limits = limits.unwrap_or(Limits::widest());
+    for places in PLACES {
+        let replies = cached::replies(rt, &row.lines, setting, limits, places);
+        if !is_same(rt, name, "with places kept", replies, &row.expected)? {
+            return Ok(false);
+        }
+    }
+    println!(rt; "{name}: as expected")?;
+    Ok(true)
+}
+
+/// Whether the replies are those that are expected; says so where they are not.
+fn is_same<R: Print>(
+    rt: &R,
+    name: &str,
+    how: &str,
+    replies: Option<Vec<u8>>,
+    expected: &[u8],
+) -> io::Result<bool> {
+    let Some(replies) = replies else {
+        println!(rt; "{name}, {how}: the run ended in a fault")?;
+        return Ok(false);
+    };
+    let same = replies.as_slice() == expected;
+    if !same {
+        println!(rt; "{name}, {how}: differs")?;
+    }
+    Ok(same)
+}

@@ -1,0 +1,50 @@
+//! Worlds of steps, and the events of the steps.
+
+mod script;
+mod shown;
+
+use crate::setting::Setting;
+use lost_book::Limits;
+use lost_core::{Step, World};
+use script::Line;
+use std::io;
+
+/// The limits of the books of every world: so few that a list of steps meets them.
+const MAPPINGS: u32 = 1;
+
+const EDITS: u32 = 2;
+
+/// Runs the worlds of standard input, and prints their events.
+pub(crate) fn print_worlds<R: Input + Print + AllocGlobal>(rt: &R) -> io::Result<()> {
+    let setting = Setting::new(rt.alloc())?;
+    let mut workers = 0;
+    let mut steps = Vec::new(rt.alloc());
+    for line in rt.lines(rt.alloc()) {
+        match script::read_line(rt.alloc(), setting.moment, line?.as_str())? {
+            Line::World(next) => {
+                run(rt, workers, &setting, steps)?;
+                workers = next;
+                steps = Vec::new(rt.alloc());
+            }
+            Line::Step(step) => steps.push(step)?,
+            Line::Other => println!(rt; "this is no step")?,
+        }
+    }
+    run(rt, workers, &setting, steps)
+}
+
+/// Runs a world, and prints its events.
+fn run<R: Print + AllocGlobal>(
+    rt: &R,
+    workers: u8,
+    setting: &Setting,
+    steps: Vec<Step>,
+) -> io::Result<()> {
+    let Some(limits) = Limits::new(MAPPINGS, EDITS) else {
+        return Ok(());
+    };
+    for event in &World::run(rt.alloc(), limits, workers, &setting.name, steps)? {
+        shown::print(rt, event)?;
+    }
+    Ok(())
+}
