@@ -1,8 +1,8 @@
 //! `lostd check`: what a replay of standard input would refuse is said on standard output.
+use crate::exit_reason::ExitReason;
 use crate::outcome::check_outcome;
 use crate::progress::Progress;
 use crate::replaying::{begun, turns_of};
-use crate::trouble::Trouble;
 use clap::ArgMatches;
 use lost_check::{Findings, check_lines};
 use lost_mapping::{Moment, Source};
@@ -16,7 +16,7 @@ pub(crate) fn check_standard_input<R: Print + Eprint + Input + AllocGlobal>(
     rt: &R,
     given: &ArgMatches<'_>,
     is_terminal: bool,
-) -> Result<(), Trouble> {
+) -> Result<(), ExitReason> {
     let (name, moment) = begun(rt, given)?;
     let progress = Progress {
         rt,
@@ -68,10 +68,10 @@ fn check_to<R: Eprint + Input + AllocGlobal, W: Write + Drop>(
 }
 
 /// Prints what was counted and found.
-fn say_counts<R: Print>(rt: &R, lines: u64, found: &Findings) -> Result<(), Trouble> {
+fn say_counts<R: Print>(rt: &R, lines: u64, found: &Findings) -> Result<(), ExitReason> {
     println!(rt;
         "done lines={lines} refused={} badRequest={} internalError={} edition={}",
         found.refused, found.bad_requests, found.unjudged, found.edition
     )
-    .map_err(|_| Trouble::Run(ServeError::Write))
+    .map_err(|_| ExitReason::Run(ServeError::Write))
 }

@@ -3,9 +3,9 @@ ghost use Rattle.std.specs.Prelude.{◌≡◌, ◌≢◌, ◌↔◌, false, None
 ghost use Rattle.lost_spec.specs.Text.{lowered};
 ghost use Rattle.lost_spec.specs.Mapping.{is_source};
 ghost use Rattle.lost_spec.specs.Moment.{is_stamp, read_stamp};
-ghost use Rattle.lost_command.specs.Trouble.{begin_fault};
+ghost use Rattle.lost_command.specs.ExitReasons.{begin_fault};
 
-use crate::trouble::Trouble;
+use crate::exit_reason::ExitReason;
 use lost_lines::ServeError;
 use lost_mapping::{Moment, Source, SourceError, Stamp, StampError};
 use std::alloc::Global;
@@ -13,15 +13,15 @@ use std::alloc::Global;
 /// The server's name and the moment of every answer (own rule).
 ///
 /// # Errors
-/// [`Trouble::Name`] where the name is none, also though memory is short; else [`Trouble::Now`] where the moment is none;
-/// [`Trouble::MEMORY`] where memory runs out.
-pub fn begin(alloc: Global, name: &str, now: &str) -> Result<(Source, Moment), Trouble>
+/// [`ExitReason::Name`] where the name is none, also though memory is short; else [`ExitReason::Now`] where the moment is none;
+/// [`ExitReason::MEMORY`] where memory runs out.
+pub fn begin(alloc: Global, name: &str, now: &str) -> Result<(Source, Moment), ExitReason>
     ensures accepted { OnOk result (begin_fault name.now now.now ≡ None) }
     ensures name { IfOk result (λ begun. begun.0 ≡ lowered name.now) }
     ensures moment { IfOk result (λ begun. option_map (λ stamp. stamp.moment) (read_stamp now.now) ≡ Some begun.1) }
-    ensures refused { IfErr result (λ trouble. trouble ≢ Trouble.Run ServeError.Memory
-        → begin_fault name.now now.now ≡ Some trouble) }
-    ensures bad_name { is_source name.now ≡ false → result ≡ Err Trouble.Name }
+    ensures refused { IfErr result (λ reason. reason ≢ ExitReason.Run ServeError.Memory
+        → begin_fault name.now now.now ≡ Some reason) }
+    ensures bad_name { is_source name.now ≡ false → result ≡ Err ExitReason.Name }
 {
     let name = server_name(alloc, name)?;
     let moment = moment_of(alloc, now)?;
@@ -31,28 +31,28 @@ pub fn begin(alloc: Global, name: &str, now: &str) -> Result<(Source, Moment), T
 /// The server's name (own rule).
 ///
 /// # Errors
-/// [`Trouble::Name`] exactly where it is none; [`Trouble::MEMORY`] where memory runs out.
-pub fn server_name(alloc: Global, text: &str) -> Result<Source, Trouble>
+/// [`ExitReason::Name`] exactly where it is none; [`ExitReason::MEMORY`] where memory runs out.
+pub fn server_name(alloc: Global, text: &str) -> Result<Source, ExitReason>
     ensures value { IfOk result (λ name. name ≡ lowered text.now) }
-    ensures bad { (result ≡ Err Trouble.Name) ↔ (is_source text.now ≡ false) }
-    ensures refused { IfErr result (λ trouble. trouble ≢ Trouble.Name → trouble ≡ Trouble.Run ServeError.Memory) }
+    ensures bad { (result ≡ Err ExitReason.Name) ↔ (is_source text.now ≡ false) }
+    ensures refused { IfErr result (λ reason. reason ≢ ExitReason.Name → reason ≡ ExitReason.Run ServeError.Memory) }
 {
     match Source::parse(alloc, text.as_bytes()) {
         Ok(name) => Ok(name),
-        Err(SourceError::Bad) => Err(Trouble::Name),
-        Err(SourceError::Memory) => Err(Trouble::MEMORY),
+        Err(SourceError::Bad) => Err(ExitReason::Name),
+        Err(SourceError::Memory) => Err(ExitReason::MEMORY),
     }
 }
 
 /// The moment of every answer.
-fn moment_of(alloc: Global, text: &str) -> Result<Moment, Trouble>
+fn moment_of(alloc: Global, text: &str) -> Result<Moment, ExitReason>
     ensures value { IfOk result (λ moment. option_map (λ stamp. stamp.moment) (read_stamp text.now) ≡ Some moment) }
-    ensures bad { (result ≡ Err Trouble.Now) ↔ (is_stamp text.now ≡ false) }
-    ensures refused { IfErr result (λ trouble. trouble ≢ Trouble.Now → trouble ≡ Trouble.Run ServeError.Memory) }
+    ensures bad { (result ≡ Err ExitReason.Now) ↔ (is_stamp text.now ≡ false) }
+    ensures refused { IfErr result (λ reason. reason ≢ ExitReason.Now → reason ≡ ExitReason.Run ServeError.Memory) }
 {
     match Stamp::parse(alloc, text.as_bytes()) {
         Ok(stamp) => Ok(stamp.moment()),
-        Err(StampError::Bad) => Err(Trouble::Now),
-        Err(StampError::Memory) => Err(Trouble::MEMORY),
+        Err(StampError::Bad) => Err(ExitReason::Now),
+        Err(StampError::Memory) => Err(ExitReason::MEMORY),
     }
 }

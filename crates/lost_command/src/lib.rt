@@ -4,6 +4,7 @@
 
 mod arguments;
 mod checking;
+mod exit_reason;
 mod given;
 mod mistake;
 mod obeying;
@@ -11,11 +12,9 @@ mod order;
 mod outcome;
 mod progress;
 mod replaying;
-mod summary;
-mod trouble;
 
+pub use exit_reason::ExitReason;
 pub use given::{begin, server_name};
 pub use obeying::obey;
 pub use order::ServeOrder;
 pub use outcome::{check_outcome, end, replay_outcome};
-pub use trouble::Trouble;

@@ -1,31 +1,33 @@
 //! What the reader of the command line says: help, the version, and mistakes.
-use crate::trouble::Trouble;
+use crate::exit_reason::ExitReason;
 use clap::Error;
 use clap::error::ErrorKind as ClapKind;
 use lost_lines::ServeError;
 use std::alloc::{AllocError, Global};
 
 /// Prints what the reader of the command line says, whose first word is `command`: help and the version on standard
-/// output, which is no trouble, and a mistake as one line on standard error.
+/// output, which end the program well, and a mistake as one line on standard error.
 pub(crate) fn show<R: Print + Eprint>(
     rt: &R,
     alloc: Global,
     command: Option<&str>,
     error: &Error,
-) -> Result<(), Trouble> {
+) -> Result<(), ExitReason> {
     match error.kind() {
-        ClapKind::OutOfMemory => Err(Trouble::MEMORY),
+        ClapKind::OutOfMemory => Err(ExitReason::MEMORY),
         ClapKind::DisplayHelp | ClapKind::DisplayVersion => {
-            error.print(rt).map_err(|_| Trouble::Run(ServeError::Write))
+            error
+                .print(rt)
+                .map_err(|_| ExitReason::Run(ServeError::Write))
         }
         _ => {
             let Ok(line) = mistake_line(alloc, error) else {
-                return Err(Trouble::MEMORY);
+                return Err(ExitReason::MEMORY);
             };
             let hint = hint_of(command, error.kind(), line.as_str());
             // Where standard error fails too, the status still tells.
             let _said = eprintln!(rt; "lostd: {line}; {hint}");
-            Err(Trouble::CommandLine)
+            Err(ExitReason::CommandLine)
         }
     }
 }

@@ -1,10 +1,10 @@
 //! What the words of the command line say is done.
 use crate::arguments::command;
 use crate::checking::check_standard_input;
+use crate::exit_reason::ExitReason;
 use crate::mistake::show;
 use crate::order::{ServeOrder, order_of};
 use crate::replaying::replay_standard_streams;
-use crate::trouble::Trouble;
 use clap::ArgMatches;
 
 /// Does what the words of the command line say, but for serving connections: what is ordered of that, it gives (own rule).
@@ -16,14 +16,14 @@ pub fn obey<'a, R: Print + Eprint + Input + AllocGlobal>(
     rt: &R,
     words: &'a [String],
     is_terminal: bool,
-) -> Result<Option<ServeOrder<'a>>, Trouble> {
+) -> Result<Option<ServeOrder<'a>>, ExitReason> {
     let Ok(command) = command(rt.alloc()) else {
-        return Err(Trouble::MEMORY);
+        return Err(ExitReason::MEMORY);
     };
     match command.try_get_matches_from(words) {
         Ok(matches) => match matches.subcommand() {
             Some((first, given)) => obey_first(rt, first, given, is_terminal),
-            None => Err(Trouble::Words),
+            None => Err(ExitReason::Words),
         },
         Err(error) => {
             let first = words.get(1).map(|word| word.as_str());
@@ -39,12 +39,12 @@ fn obey_first<'a, R: Print + Eprint + Input + AllocGlobal>(
     first: &str,
     given: &ArgMatches<'a>,
     is_terminal: bool,
-) -> Result<Option<ServeOrder<'a>>, Trouble> {
+) -> Result<Option<ServeOrder<'a>>, ExitReason> {
     match first {
         "replay" => replay_standard_streams(rt, given, is_terminal)?,
         "check" => check_standard_input(rt, given, is_terminal)?,
         "serve" => return Ok(Some(order_of(rt, given)?)),
-        _ => return Err(Trouble::Words),
+        _ => return Err(ExitReason::Words),
     }
     Ok(None)
 }

@@ -1,7 +1,7 @@
 //! `lostd serve`: what is ordered of a server.
+use crate::exit_reason::ExitReason;
 use crate::given::server_name;
 use crate::replaying::said_of;
-use crate::trouble::Trouble;
 use clap::ArgMatches;
 use lost_mapping::Source;
 
@@ -28,11 +28,11 @@ pub struct ServeOrder<'a> {
 pub(crate) fn order_of<'a, R: Eprint + AllocGlobal>(
     rt: &R,
     given: &ArgMatches<'a>,
-) -> Result<ServeOrder<'a>, Trouble> {
+) -> Result<ServeOrder<'a>, ExitReason> {
     let name = given.get_str("name").unwrap_or("");
     let name = match server_name(rt.alloc(), name) {
         Ok(name) => name,
-        Err(trouble) => return Err(said_of(rt, trouble, name, "")),
+        Err(reason) => return Err(said_of(rt, reason, name, "")),
     };
     Ok(ServeOrder {
         name,

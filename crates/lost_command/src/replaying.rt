@@ -1,11 +1,10 @@
 //! `lostd replay`: standard input is answered on standard output.
+use crate::exit_reason::ExitReason;
 use crate::given::begin;
 use crate::outcome::replay_outcome;
-use crate::summary::Summary;
-use crate::trouble::Trouble;
 use clap::ArgMatches;
 use lost_mapping::{Moment, Source};
-use lost_replay::{Turns, Watched, replay};
+use lost_replay::{Summary, Turns, Watched, replay_summed};
 use std::io;
 
 /// Answers standard input on standard output, as the arguments say. Where it is wanted, or where `is_terminal` says that
@@ -14,33 +13,35 @@ pub(crate) fn replay_standard_streams<R: Print + Eprint + Input + AllocGlobal>(
     rt: &R,
     given: &ArgMatches<'_>,
     is_terminal: bool,
-) -> Result<(), Trouble> {
+) -> Result<(), ExitReason> {
     let (name, moment) = begun(rt, given)?;
     let is_summed = is_terminal || given.get_flag("summary");
     let mut input = Watched::new(rt.reader());
-    let mut output = Watched::new(Summary::new(io::writer(rt), is_summed));
-    let replayed = replay(
+    let mut output = Watched::new(io::writer(rt));
+    let mut summary = Summary::default();
+    let replayed = replay_summed(
         rt.alloc(),
         &mut input,
         &mut output,
         &name,
         &moment,
         turns_of(given),
+        &mut summary,
     );
     if let Ok(counts) = replayed {
         if is_summed {
-            say_summary(rt, counts.lines, output.inner());
+            say_summary(rt, counts.lines, summary);
         }
     }
     replay_outcome(replayed)
 }
 
 /// Says on standard error what was counted of a replay.
-fn say_summary<R: Eprint, W>(rt: &R, lines: u64, summary: &Summary<W>) {
+fn say_summary<R: Eprint>(rt: &R, lines: u64, summary: Summary) {
     // Where standard error fails, the status still tells.
     let _said = eprintln!(rt;
         "lostd: done lines={lines} refused={} edition={}",
-        summary.told.refused, summary.told.edition
+        summary.refused, summary.edition
     );
 }
 
@@ -48,12 +49,12 @@ fn say_summary<R: Eprint, W>(rt: &R, lines: u64, summary: &Summary<W>) {
 pub(crate) fn begun<R: Eprint + AllocGlobal>(
     rt: &R,
     given: &ArgMatches<'_>,
-) -> Result<(Source, Moment), Trouble> {
+) -> Result<(Source, Moment), ExitReason> {
     let name = given.get_str("name").unwrap_or("");
     let now = given.get_str("now").unwrap_or("");
     match begin(rt.alloc(), name, now) {
         Ok(begun) => Ok(begun),
-        Err(trouble) => Err(said_of(rt, trouble, name, now)),
+        Err(reason) => Err(said_of(rt, reason, name, now)),
     }
 }
 
@@ -69,15 +70,15 @@ pub(crate) fn turns_of(given: &ArgMatches<'_>) -> Turns {
     }
 }
 
-/// Says of a bad name or a bad moment which word it is, and gives the trouble of a mistake that was said already; any
-/// other trouble is given as it is.
-pub(crate) fn said_of<R: Eprint>(rt: &R, trouble: Trouble, name: &str, now: &str) -> Trouble {
-    let text = trouble.text();
+/// Says of a bad name or a bad moment which word it is, and gives the reason of a mistake that was said already; any
+/// other reason is given as it is.
+pub(crate) fn said_of<R: Eprint>(rt: &R, reason: ExitReason, name: &str, now: &str) -> ExitReason {
+    let text = reason.text();
     // Where standard error fails, the status still tells.
-    let _said = match trouble {
-        Trouble::Name => eprintln!(rt; "lostd: --name '{name}' {text}"),
-        Trouble::Now => eprintln!(rt; "lostd: --now '{now}' {text}"),
-        _ => return trouble,
+    let _said = match reason {
+        ExitReason::Name => eprintln!(rt; "lostd: --name '{name}' {text}"),
+        ExitReason::Now => eprintln!(rt; "lostd: --now '{now}' {text}"),
+        _ => return reason,
     };
-    Trouble::CommandLine
+    ExitReason::CommandLine
 }

@@ -4,7 +4,7 @@
 
 mod serving;
 
-use lost_command::{Trouble, end, obey};
+use lost_command::{ExitReason, end, obey};
 use serving::serve_addresses;
 use std::env;
 use std::io::IsTerminal;
@@ -35,10 +35,10 @@ fn run<
         + Clone
         + Send
         + Sync,
->(rt: &R, is_terminal: bool) -> Result<(), Trouble> {
+>(rt: &R, is_terminal: bool) -> Result<(), ExitReason> {
     let mut words = Vec::new(rt.alloc());
-    for word in env::args(rt).map_err(|error| Trouble::of_words(&error))? {
-        words.push(word).map_err(|_| Trouble::MEMORY)?;
+    for word in env::args(rt).map_err(|error| ExitReason::of_words(&error))? {
+        words.push(word).map_err(|_| ExitReason::MEMORY)?;
     }
     match obey(rt, words.as_slice(), is_terminal)? {
         Some(order) => serve_addresses(rt, &order),

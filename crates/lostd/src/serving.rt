@@ -1,8 +1,8 @@
 //! `lostd serve`: connections to two addresses are answered.
 ghost use Rattle.std.specs.Prelude.{◌≡◌};
-ghost use Rattle.lostd.specs.Trouble.{serve_trouble};
+ghost use Rattle.lostd.specs.ExitReasons.{serve_reason};
 
-use lost_command::{ServeOrder, Trouble};
+use lost_command::{ExitReason, ServeOrder};
 use lost_server::{ConnectionSettings, NoGate, RunFault, ServeError, serve};
 use std::io::ErrorKind;
 use std::net::{Net, TcpListener, TcpStream};
@@ -24,10 +24,10 @@ pub(crate) fn serve_addresses<
         + Clone
         + Send
         + Sync,
->(rt: &R, order: &ServeOrder<'_>) -> Result<(), Trouble> {
+>(rt: &R, order: &ServeOrder<'_>) -> Result<(), ExitReason> {
     let queries = listen(rt, "--queries", order.queries)?;
     let desk = listen(rt, "--desk", order.desk)?;
-    println!(rt; "ready").map_err(|_| Trouble::Run(ServeError::Write))?;
+    println!(rt; "ready").map_err(|_| ExitReason::Run(ServeError::Write))?;
     let counts = serve(
         rt,
         rt.alloc(),
@@ -39,10 +39,10 @@ pub(crate) fn serve_addresses<
         &NoGate,
         settings_of(order),
     )
-    .map_err(trouble_of)?;
-    println!(rt; "done lines={} faults={}", counts.lines, counts.faults).map_err(|_| Trouble::Run(
-        ServeError::Write,
-    ))
+    .map_err(reason_of)?;
+    println!(rt; "done lines={} faults={}", counts.lines, counts.faults).map_err(
+        |_| ExitReason::Run(ServeError::Write),
+    )
 }
 
 /// How the connections of a server are treated, as it is ordered.
@@ -58,13 +58,13 @@ fn settings_of(order: &ServeOrder<'_>) -> ConnectionSettings {
 }
 
 /// What of a server's fault ends the program.
-fn trouble_of(fault: RunFault) -> Trouble
-    ensures { result ≡ serve_trouble fault }
+fn reason_of(fault: RunFault) -> ExitReason
+    ensures { result ≡ serve_reason fault }
 {
     match fault {
-        RunFault::Workers => Trouble::Workers,
-        RunFault::Accept => Trouble::Accept,
-        RunFault::Memory => Trouble::MEMORY,
+        RunFault::Workers => ExitReason::Workers,
+        RunFault::Accept => ExitReason::Accept,
+        RunFault::Memory => ExitReason::MEMORY,
     }
 }
 
@@ -73,14 +73,14 @@ fn listen<R: Eprint + Net<Listener = TcpListener, Stream = TcpStream>>(
     rt: &R,
     option: &str,
     address: &str,
-) -> Result<TcpListener, Trouble> {
+) -> Result<TcpListener, ExitReason> {
     match TcpListener::bind(rt, address) {
         Ok(listener) => Ok(listener),
         Err(error) => {
             let text = refusal_text(error.kind());
             // Where standard error fails, the status still tells.
             let _said = eprintln!(rt; "lostd: {option} '{address}' {text}");
-            Err(Trouble::Address)
+            Err(ExitReason::Address)
         }
     }
 }

@@ -11,18 +11,18 @@
 //! | `!` | a line of standard error that is wanted |
 //! | `:` | the order of a server that is wanted |
 mod console;
+mod exit_reasons;
 mod row;
-mod troubles;
 
 use std::rt::Files;
 use std::{fs, io};
 
-/// Runs the rows, and prints how each went, and then the texts of troubles.
+/// Runs the rows, and prints how each went, and then the texts of exit reasons.
 pub(crate) fn run<R: Files + Print + AllocGlobal>(rt: &R) -> io::Result<()> {
     let rows = fs::read_to_string(rt, "command.rows")?;
     for row in rows.as_str().split("\n\n") {
         row::run(rt, row)?;
     }
-    println!(rt; "-- troubles")?;
-    troubles::tell(rt)
+    println!(rt; "-- exit reasons")?;
+    exit_reasons::tell(rt)
 }

@@ -1,7 +1,7 @@
 //! Runs the program's command line and its server. Each word of the command line is a command, and the commands run in turn:
 //!
 //! - `command`: each row of `command.rows` is a command line that is obeyed over a console in memory, and what comes of it is
-//!   compared with what the row wants ([`command`] says how a row is written). Then come the texts of the troubles that no
+//!   compared with what the row wants ([`command`] says how a row is written). Then come the texts of the exit reasons that no
 //!   console can bring about.
 //! - `serve`: desks and clients of a server over connections of this machine: a desk that stays while a query is answered,
 //!   a gate that holds the first reply until the other was given, bad numbers of workers, and eight clients of four workers

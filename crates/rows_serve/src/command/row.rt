@@ -36,7 +36,7 @@ fn obeyed(console: &Console, row: &str) -> Result<Ending, AllocError> {
             Ok(())
         }
         Ok(None) => Ok(()),
-        Err(trouble) => Err(trouble),
+        Err(reason) => Err(reason),
     };
     let code: ExitCode = end(console, outcome);
     Ok(Ending {
