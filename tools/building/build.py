@@ -50,7 +50,8 @@ def build(top: str, jobs: Optional[int], processor: str) -> Built:
             copies = Copies(top, place, names, min(count, len(names)))
             schedule = Schedule(uses, {name: lines_of(top, name) for name in names})
             line, log = Line({name: functions_of(top, name) for name in names}), Log(f"{top}/{LOG}")
-            print(f"build: {len(names)} crates, {count} at a time; it takes up to {DISK:,} MB of disk, and {disk:,} are free; its log is {LOG}", file=sys.stderr)
+            room = f"it takes up to {DISK:,} MB of disk, and {disk:,} are free"
+            print(f"build: {len(names)} crates, {count} at a time; {room}; its log is {LOG}", file=sys.stderr)
             sources = sum_of(copies.folders[0], names)
             folder = Proving(kit, copies, schedule, line, log).run(processor)
             with open(f"{folder}/crates/{PROGRAM}/out/{PROGRAM}", "rb") as file:
