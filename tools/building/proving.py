@@ -95,7 +95,7 @@ class Proving:
 
     def _begin(self, processor: str) -> None:
         jobs = {name: job.jobs for name, job in self.running.items()}
-        for name, given in self.schedule.next(self.done, jobs, len(self.copies.folders)):
+        for name, given in self.schedule.next(self.done, jobs):
             folder = self.copies.begin(name)
             words = [*ends_with_us(), *words_of(self.kit, name, given, processor)]
             self.running[name] = job = Job(name, given, folder, started(words, f"{folder}/crates/{name}"))
@@ -147,7 +147,7 @@ class Proving:
         spent = {name: job.spent for name, job in self.running.items()}
         proved = {name: job.proved for name, job in self.running.items()}
         seconds, cost = (sum(column) for column in zip(*self.paced)) if self.paced else (PACE, 1.0)
-        left = self.schedule.left(self.done, spent, len(self.copies.folders), seconds / cost)
+        left = self.schedule.left(self.done, spent, seconds / cost)
         if self.running:
             self.line.say(self.line.text(self.done, spent, proved, left))
 

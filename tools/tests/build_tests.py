@@ -39,7 +39,7 @@ class Build(Checkout):
 
     def test_the_crates_of_the_program_are_proved_once(self) -> None:
         said = self.build("--jobs", "2")
-        self.assertIn("build: 4 crates, 2 at a time; it takes up to 1 MB of disk, and ", said)
+        self.assertIn("build: 4 crates, up to 2 at a time; it takes up to 1 MB of disk, and ", said)
         self.assertEqual(self.names(), ALL)
         self.is_clean()
         self.assertTrue(os.path.isfile(f"{self.top}/crates/lost_low/out/rlib/stamp"))
@@ -104,8 +104,8 @@ class Build(Checkout):
         self.assertEqual(self.fault("lostd"), f"lostd: there is no packaged program, and {wanted}")
 
     def test_too_little_memory(self) -> None:
-        self.change("tools/building/machine.py", "CRATE_MEMORY = 1", "CRATE_MEMORY = 900_000_000")
-        wanted = r"^build: [\d,]+ MB of memory are free, and proving takes 900,000,000: end other programs, or take a larger machine$"
+        self.change("tools/building/schedule.py", " = 1, 0.8, 0.1", " = 900_000_000, 0, 0")
+        wanted = r"^build: [\d,]+ MB of memory are free, and a proof takes up to 900,000,000: end other programs, or take a larger machine$"
         self.assertRegex(self.fault(), wanted)
 
     def test_too_little_disk(self) -> None:
