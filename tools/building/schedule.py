@@ -11,8 +11,8 @@ EACH = 100
 # Each further processor shortens a crate as if it were so much of one, and takes so much of its memory.
 FURTHER, FURTHER_MEMORY = 0.5, 0.6
 # The megabytes that a proof takes: so many, and for each line of the crate, and for each line of it and all below. With one
-# processor no crate was seen to take a tenth more than that.
-MEMORY, MEMORY_OF_LINE, MEMORY_OF_LINE_BELOW = 1_000, 0.8, 0.1
+# processor no crate was seen to take more than that.
+MEMORY, MEMORY_OF_LINE, MEMORY_OF_LINE_BELOW = 1_200, 0.8, 0.1
 
 
 class Schedule:

@@ -34,12 +34,12 @@ class Order(unittest.TestCase):
         self.assertEqual(schedule_of(4).next([], {"low": 2, "other": 2}), [])
 
     def test_memory_is_shared(self) -> None:
-        # low takes 1,000 + 0.8 x 1,000 + 0.1 x 1,000 = 1,900 MB, and each further processor 1,140
+        # low takes 1,200 + 0.8 x 1,000 + 0.1 x 1,000 = 2,100 MB, and each further processor 1,260
         self.assertEqual(schedule_of(8, 1_000, 1_000).next([], {}), [("low", 1)])
-        self.assertEqual(schedule_of(8, 3_039, 1_000).next([], {}), [("low", 1)])
-        self.assertEqual(schedule_of(8, 3_040, 1_000).next([], {}), [("low", 2)])
-        self.assertEqual(schedule_of(2, 3_800, 1_000).next([], {}), [("low", 1), ("other", 1)])
-        self.assertEqual(schedule_of(2, 3_799, 1_000).next([], {}), [("low", 1)])
+        self.assertEqual(schedule_of(8, 3_359, 1_000).next([], {}), [("low", 1)])
+        self.assertEqual(schedule_of(8, 3_360, 1_000).next([], {}), [("low", 2)])
+        self.assertEqual(schedule_of(2, 4_200, 1_000).next([], {}), [("low", 1), ("other", 1)])
+        self.assertEqual(schedule_of(2, 4_199, 1_000).next([], {}), [("low", 1)])
         self.assertEqual(schedule_of(2, 1_000, 1_000).next([], {"low": 1}), [])
 
     def test_the_rest_takes_as_long_as_its_longest_chain(self) -> None:
