@@ -3,6 +3,7 @@ import os
 import re
 import subprocess
 import sys
+import tempfile
 from collections import Counter
 
 from serving import Wrong
@@ -12,7 +13,7 @@ TOP = os.path.dirname(os.path.dirname(HERE))
 DESK_LINE = re.compile(rb'\s*\{\s*"(publish|replace|withdraw|commit)"')
 MARK = b"memory ran out"
 NOT_OPENED = b"open: 2"
-# A question, an edit that the rows of desk_rows do not have, and a commit.
+# A question, an edit that the lines of the command desk do not have, and a commit.
 FURTHER = [
     b'{"findService":{"location":[{"id":"p","pos":[5000000,5000000],"profile":"geodetic-2d"}],'
     b'"service":"urn:service:sos.police"}}',
@@ -100,22 +101,41 @@ class Program:
         return made, Counter(self.judge(number) for number in range(1, made + 1))
 
 
-class Desk(Program):
-    """The program desk_rows, which answers a refused line and goes on."""
+class Lines(Program):
+    """A command of the program rows_desk, which answers a refused line and goes on."""
 
-    def __init__(self, library):
-        super().__init__("desk_rows", library)
-        self.lines = lines_of(self.given)
+    # How many bytes of lines the program is given: empty lines fill them up, so that to read them always takes as many growths.
+    ROOM = 16_384
+
+    def __init__(self, command, library):
+        super().__init__("rows_desk", library, command)
+        self.file = f"{command}.lines"
+        self.lines = lines_of(read(f"{self.folder}/{self.file}"))
         self.answers = lines_of(self.wanted)
-        self.first = len(self.answers) - len(self.lines)
+
+    def call(self, refused, lines=None, **further):
+        """Runs the command over its lines, or over these."""
+        given = b"".join(line + b"\n" for line in (self.lines if lines is None else lines))
+        with tempfile.TemporaryDirectory() as folder:
+            with open(f"{folder}/{self.file}", "wb") as file:
+                file.write(given.ljust(self.ROOM, b"\n"))
+            return call(self.words, self.library, refused, folder=folder, **further)
 
     def run(self, lines, refused=0):
-        given = b"".join(line + b"\n" for line in lines)
-        return lines_of(call(self.words, self.library, refused, given=given).stdout)
+        """What the command writes over these lines."""
+        return lines_of(self.call(refused, lines).stdout)
+
+
+class Desk(Lines):
+    """The command desk, over a desk and a reader."""
+
+    def __init__(self, library):
+        super().__init__("desk", library)
+        self.first = len(self.answers) - len(self.lines)
 
     def judge(self, refused):
         """In which way the program ends where this growth is refused."""
-        ran = call(self.words, self.library, refused, given=self.given)
+        ran = self.call(refused)
         answers = lines_of(ran.stdout)
         if ran.returncode == 0 and answers == self.answers[: self.first - 1] + [NOT_OPENED]:
             return "not opened"
@@ -150,15 +170,13 @@ class Desk(Program):
         return f"not {self.answers[place].decode()}"
 
 
-class Cache(Program):
-    """The program cache_rows, which answers a refused line and goes on: a desk line once, a question by two readers."""
+class Cache(Lines):
+    """The command cache, over a desk and two readers: a desk line is answered once, a question by both."""
 
     def __init__(self, library):
-        super().__init__("cache_rows", library)
-        self.lines = lines_of(self.given)
-        self.answers = lines_of(self.wanted)
+        super().__init__("cache", library)
         # For each answer the number of its line; none for what is said at the beginning and at the end of a part.
-        self.numbers = [None, None]
+        self.numbers = [None, None, None]
         for number, line in enumerate(self.lines):
             is_question = line != b"next" and not DESK_LINE.match(line)
             self.numbers += [None] * 4 if line == b"next" else [number] * (2 if is_question else 1)
@@ -166,13 +184,11 @@ class Cache(Program):
         self.unopened = self.outputs_unopened()
 
     def outputs_unopened(self):
-        """What is said where one desk is not opened: a desk reads the part that the one before it would have read."""
+        """What is said where one desk is not opened: nothing of its part but that."""
         ends = [place + 1 for place, line in enumerate(self.answers) if line.startswith(b"finds ")]
-        parts = [self.answers[begin:end] for begin, end in zip([0, *ends], ends)][:-1]
-        return [sum(parts[:place], []) + [NOT_OPENED] + sum(parts[place:], []) for place in range(len(parts) + 1)]
-
-    def run(self, given, refused=0):
-        return call(self.words, self.library, refused, given=given).stdout
+        parts = [self.answers[begin:end] for begin, end in zip([1, *ends], ends)]
+        outputs = [parts[:place] + [[NOT_OPENED]] + parts[place + 1 :] for place in range(len(parts))]
+        return [self.answers[:1] + sum(output, []) for output in outputs]
 
     def is_same(self, got, wanted):
         """Whether two outputs are the same but for the counts."""
@@ -182,7 +198,7 @@ class Cache(Program):
 
     def judge(self, refused):
         """In which way the program ends where this growth is refused."""
-        ran = call(self.words, self.library, refused, given=self.given)
+        ran = self.call(refused)
         answers = lines_of(ran.stdout)
         if answers in self.unopened:
             return "not opened"
@@ -195,8 +211,7 @@ class Cache(Program):
         if answers.count(MARK) != 1 or number is None:
             raise Wrong(f"growth {refused}: {answers}")
         if DESK_LINE.match(self.lines[number]):
-            others = b"".join(line + b"\n" for line in self.lines[:number] + self.lines[number + 1 :])
-            wanted = lines_of(self.run(others))
+            wanted = self.run(self.lines[:number] + self.lines[number + 1 :])
             kind = "desk line"
         else:
             # One of the two readers, or the line before either was asked.

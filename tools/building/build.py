@@ -8,7 +8,7 @@ from typing import NamedTuple, NoReturn, Optional
 
 from building.copies import Copies, locked, settle, working_folder
 from building.kit import find_kit
-from building.machine import DISK, free_disk, free_memory, see_disk, side_by_side
+from building.machine import DISK, free_disk, free_memory, processors, see_disk, see_memory
 from building.progress import Line, Log
 from building.proving import Proving
 from building.schedule import Schedule
@@ -42,15 +42,17 @@ def build(top: str, jobs: Optional[int], processor: str) -> Built:
     os.makedirs(os.path.dirname(place), exist_ok=True)
     with locked(os.path.dirname(place), RUNNING):
         settle(top, place)
-        count, disk = side_by_side(jobs, free_memory()), free_disk(place)
-        see_disk(place, disk)
+        free, disk = free_memory(), free_disk(place)
+        uses = uses_of(rows_of(top))
+        names = crates_below(uses, PROGRAM)
+        schedule = Schedule(uses, {name: lines_of(top, name) for name in names}, jobs or processors(), free)
+        see_memory(free, round(max(schedule.needs.values())))
+        see_disk(disk, place)
         try:
-            uses = uses_of(rows_of(top))
-            names = crates_below(uses, PROGRAM)
-            copies = Copies(top, place, names, min(count, len(names)))
-            schedule = Schedule(uses, {name: lines_of(top, name) for name in names})
+            copies = Copies(top, place, names, min(schedule.processors, len(names)))
             line, log = Line({name: functions_of(top, name) for name in names}), Log(f"{top}/{LOG}")
-            print(f"build: {len(names)} crates, {count} at a time; it takes up to {DISK:,} MB of disk, and {disk:,} are free; its log is {LOG}", file=sys.stderr)
+            room = f"it takes up to {DISK:,} MB of disk, and {disk:,} are free"
+            print(f"build: {len(names)} crates, up to {schedule.processors} at a time; {room}; its log is {LOG}", file=sys.stderr)
             sources = sum_of(copies.folders[0], names)
             folder = Proving(kit, copies, schedule, line, log).run(processor)
             with open(f"{folder}/crates/{PROGRAM}/out/{PROGRAM}", "rb") as file:

@@ -31,7 +31,8 @@ def find_kit(place: str = PLACE) -> Kit:
     """The kit whose rt is on the PATH, or else the one at its usual place; a fault where it proves in another logic."""
     path = shutil.which("rt") or (place if os.access(place, os.X_OK) else None)
     if path is None:
-        raise Fault(f"no kit is here, which proves and builds: neither is rt on the PATH, nor is there {place}")
+        root = os.path.dirname(os.path.dirname(place))
+        raise Fault(f"there is no kit to build with: put one of logic {LOGIC} at {root}, or its rt on the PATH")
     try:
         ran = subprocess.run([path, "version"], stdin=subprocess.DEVNULL, capture_output=True, text=True, timeout=60, check=True)
     except (OSError, subprocess.SubprocessError):

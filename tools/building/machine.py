@@ -7,9 +7,7 @@ from typing import Optional
 
 from building.faults import Fault
 
-# What the largest crate has been seen to take of memory with one job, and each further job of it; and what all take of disk: megabytes.
-CRATE_MEMORY = 3_000
-JOB_MEMORY = 1_500
+# The megabytes of disk that a build may take.
 DISK = 12_000
 
 PORTABLE, QUICKER = "x86-64-v2", "x86-64-v3"
@@ -66,14 +64,13 @@ def quickest() -> str:
     return QUICKER if QUICKER_FLAGS <= flags else PORTABLE
 
 
-def side_by_side(wanted: Optional[int], memory: int) -> int:
-    """How many processors a build uses: as many as wanted, or as there are, where memory holds a crate on each."""
-    if memory < CRATE_MEMORY:
-        raise Fault(f"{memory:,} MB of memory are free, and proving takes {CRATE_MEMORY:,}: end other programs, or take a larger machine")
-    return max(min(wanted or processors(), memory // CRATE_MEMORY), 1)
+def see_memory(free: int, needed: int) -> None:
+    """A fault where less memory is free than the largest proof takes."""
+    if free < needed:
+        raise Fault(f"{free:,} MB of memory are free, and a proof takes up to {needed:,}: end other programs, or take a larger machine")
 
 
-def see_disk(folder: str, free: int) -> None:
-    """A fault where the disk has less than a build may take."""
+def see_disk(free: int, folder: str) -> None:
+    """A fault where less disk is free than a build may take."""
     if free < DISK:
         raise Fault(f"{free:,} MB of disk are free at {folder}, and a build takes up to {DISK:,}: free some, or clone onto a larger disk")

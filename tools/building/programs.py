@@ -40,9 +40,14 @@ def built(top: str, *processors: str) -> Optional[str]:
         return None
 
 
+def built_here(top: str) -> Optional[str]:
+    """The program that a build made of the sources as they stand, where this processor can run it."""
+    return built(top, PORTABLE, quickest())
+
+
 def at_hand(top: str) -> Optional[str]:
     """The program of the sources as they stand that needs no build: one that was built, or else the packaged one."""
-    path = built(top, PORTABLE, quickest())
+    path = built_here(top)
     if path is not None:
         return path
     package = package_of(top)

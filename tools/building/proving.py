@@ -63,6 +63,12 @@ def environment() -> Dict[str, str]:
     return {name: value for name, value in os.environ.items() if not name.startswith("RT_")}
 
 
+def started(words: List[str], folder: str) -> "subprocess.Popen[str]":
+    """A command at work in a folder, whose lines can be read."""
+    how = {"stdin": subprocess.DEVNULL, "stdout": subprocess.PIPE, "stderr": subprocess.STDOUT}
+    return subprocess.Popen(words, cwd=folder, env=environment(), text=True, errors="replace", **how)
+
+
 class Proving:
     """A run over all crates."""
 
@@ -89,12 +95,10 @@ class Proving:
 
     def _begin(self, processor: str) -> None:
         jobs = {name: job.jobs for name, job in self.running.items()}
-        for name, given in self.schedule.next(self.done, jobs, len(self.copies.folders)):
+        for name, given in self.schedule.next(self.done, jobs):
             folder = self.copies.begin(name)
-            how = {"stdin": subprocess.DEVNULL, "stdout": subprocess.PIPE, "stderr": subprocess.STDOUT}
-            words = words_of(self.kit, name, given, processor)
-            process = subprocess.Popen([*ends_with_us(), *words], cwd=f"{folder}/crates/{name}", env=environment(), text=True, errors="replace", **how)
-            self.running[name] = job = Job(name, given, folder, process)
+            words = [*ends_with_us(), *words_of(self.kit, name, given, processor)]
+            self.running[name] = job = Job(name, given, folder, started(words, f"{folder}/crates/{name}"))
             self.log.write(name, f"begins, with {given} job{'s' * (given > 1)}, in {folder}")
             threading.Thread(target=self._read, args=(job,), daemon=True).start()
 
@@ -143,7 +147,7 @@ class Proving:
         spent = {name: job.spent for name, job in self.running.items()}
         proved = {name: job.proved for name, job in self.running.items()}
         seconds, cost = (sum(column) for column in zip(*self.paced)) if self.paced else (PACE, 1.0)
-        left = self.schedule.left(self.done, spent, len(self.copies.folders), seconds / cost)
+        left = self.schedule.left(self.done, spent, seconds / cost)
         if self.running:
             self.line.say(self.line.text(self.done, spent, proved, left))
 

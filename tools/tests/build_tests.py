@@ -10,7 +10,7 @@ from building.kit import LOGIC
 from tests.checkout import CRATES, Checkout
 
 ALL = ["lost_left", "lost_low", "lost_right", "lostd"]
-NO_KIT = "no kit is here, which proves and builds: neither is rt on the PATH, nor is there "
+NO_KIT = f"there is no kit to build with: put one of logic {LOGIC} at "
 
 
 class Build(Checkout):
@@ -39,7 +39,7 @@ class Build(Checkout):
 
     def test_the_crates_of_the_program_are_proved_once(self) -> None:
         said = self.build("--jobs", "2")
-        self.assertIn("build: 4 crates, 2 at a time; it takes up to 1 MB of disk, and ", said)
+        self.assertIn("build: 4 crates, up to 2 at a time; it takes up to 1 MB of disk, and ", said)
         self.assertEqual(self.names(), ALL)
         self.is_clean()
         self.assertTrue(os.path.isfile(f"{self.top}/crates/lost_low/out/rlib/stamp"))
@@ -93,18 +93,20 @@ class Build(Checkout):
 
     def test_no_kit(self) -> None:
         os.remove(f"{self.kit}/rt")
-        self.assertEqual(self.fault(), f"build: {NO_KIT}{self.kit}/rt")
-        self.assertEqual(self.fault("lostd"), f"lostd: there is no packaged program, and {NO_KIT}{self.kit}/rt")
+        self.assertEqual(self.fault(), f"build: {NO_KIT}{self.folder}/kit, or its rt on the PATH")
+        self.assertEqual(self.fault("lostd"), f"lostd: there is no packaged program, and {NO_KIT}{self.folder}/kit, or its rt on the PATH")
 
     def test_a_kit_of_another_logic(self) -> None:
         self.write(f"{self.kit}/KIT-ID", "rattle-kit-99 logic 0123456789abcdef")
-        wanted = f"the kit of {self.kit}/rt is 'rattle-kit-99 logic 0123456789abcdef', and these sources are proved in logic {LOGIC}: take a kit of that logic"
+        kit = f"the kit of {self.kit}/rt is 'rattle-kit-99 logic 0123456789abcdef'"
+        wanted = f"{kit}, and these sources are proved in logic {LOGIC}: take a kit of that logic"
         self.assertEqual(self.fault(), f"build: {wanted}")
         self.assertEqual(self.fault("lostd"), f"lostd: there is no packaged program, and {wanted}")
 
     def test_too_little_memory(self) -> None:
-        self.change("tools/building/machine.py", "CRATE_MEMORY = 1", "CRATE_MEMORY = 900_000_000")
-        self.assertRegex(self.fault(), r"^build: [\d,]+ MB of memory are free, and proving takes 900,000,000: end other programs, or take a larger machine$")
+        self.change("tools/building/schedule.py", " = 1, 0.8, 0.1", " = 900_000_000, 0, 0")
+        wanted = r"^build: [\d,]+ MB of memory are free, and a proof takes up to 900,000,000: end other programs, or take a larger machine$"
+        self.assertRegex(self.fault(), wanted)
 
     def test_too_little_disk(self) -> None:
         self.change("tools/building/machine.py", "DISK = 1", "DISK = 900_000_000")

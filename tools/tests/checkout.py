@@ -35,7 +35,7 @@ class Checkout(unittest.TestCase):
         shutil.copytree(f"{TOP}/tools/building", f"{self.top}/tools/building", ignore=shutil.ignore_patterns("__pycache__"))
         self.change("tools/building/kit.py", PLACE, f"{self.kit}/rt")
         self.change("tools/building/machine.py", "DISK = 12_000", "DISK = 1")
-        self.change("tools/building/machine.py", "CRATE_MEMORY = 3_000", "CRATE_MEMORY = 1")
+        self.change("tools/building/schedule.py", " = 1_200, 0.8, 0.1", " = 1, 0.8, 0.1")
         self.write(f"{self.kit}/KIT-ID", IDENTITY)
         shutil.copy(f"{CASES}/building/rt", self.kit)
         self.link_commands()

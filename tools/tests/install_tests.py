@@ -73,6 +73,12 @@ class Install(Checkout):
         self.assertEqual(self.install("--from-source", self.prefix)[0], 0)
         self.assertEqual(len(self.proved()), 4)
         self.assertEqual(self.files(self.prefix), ["bin/lostd", "share/man/man1/lostd.1"])
+        self.assertEqual(self.install(self.prefix)[0], 0)
+        self.assertEqual(self.proved(), [])
+
+    def test_from_source_is_never_the_package(self) -> None:
+        self.assertEqual(self.install("--from-source", self.prefix)[0], 0)
+        self.assertEqual(len(self.proved()), 4)
 
     def test_mistakes_and_faults(self) -> None:
         self.assertEqual(self.install("--help")[0], 0)

@@ -4,10 +4,12 @@ from __future__ import annotations
 import os
 import shutil
 
+from building.kit import LOGIC
 from building.package import FILE, MANIFEST, UNPACKED, package_of
 from building.trees import trees_of
 from tests.checkout import IDENTITY, Checkout
 
+CHANGED = "the sources have changed since the packaged program was made"
 AGAIN = "get it again with `git checkout -- release`, or build with ./build"
 
 
@@ -60,7 +62,7 @@ class Package(Checkout):
                 change()
                 status, out, said = self.run_script("lostd", "--version")
                 self.assertEqual((status, out), (0, "lostd 0.0.7\n"))
-                wanted = "lostd: the sources have changed since the packaged program was made: proving and building it from the sources, up to half an hour, as ./build does"
+                wanted = f"lostd: {CHANGED}: proving and building it from the sources, up to half an hour, as ./build does"
                 self.assertEqual(said.splitlines()[0], wanted)
                 shutil.rmtree(f"{self.top}/crates/lostd/out")
                 self.git("checkout", "--quiet", ".")
@@ -69,8 +71,8 @@ class Package(Checkout):
     def test_changed_sources_without_a_kit(self) -> None:
         os.remove(f"{self.kit}/rt")
         self.change("crates/lost_low/src/lib.rt", "{}", "{ }")
-        wanted = "the sources have changed since the packaged program was made, and no kit is here, which proves and builds: neither is rt on the PATH, nor is there"
-        self.assertEqual(self.said("lostd", 1), f"lostd: {wanted} {self.kit}/rt\n")
+        remedy = f"put one of logic {LOGIC} at {self.folder}/kit, or its rt on the PATH"
+        self.assertEqual(self.said("lostd", 1), f"lostd: {CHANGED}, and there is no kit to build with: {remedy}\n")
 
     def test_what_was_built_comes_first(self) -> None:
         self.run_script("build")
@@ -96,12 +98,15 @@ class Package(Checkout):
         self.assertEqual(self.run_script("lostd", "--version"), (0, "lostd 0.0.7\n", ""))
 
     def test_the_gate_is_told_of_it(self) -> None:
-        self.assertEqual(self.said("release/check"), "release/check: the packaged program is of these sources, and answers all 1 sessions of examples/ as stored\n")
+        wanted = "release/check: the packaged program is of these sources, and answers all 1 sessions of examples/ as stored\n"
+        self.assertEqual(self.said("release/check"), wanted)
         self.write(f"{self.top}/examples/one.expected", "another\n")
-        wanted = "release/check: the packaged program was built from other sources than these, and answers 1 of 1 sessions of examples/ otherwise than stored; release/make makes a new one\n"
+        differs = "and answers 1 of 1 sessions of examples/ otherwise than stored; release/make makes a new one"
+        wanted = f"release/check: the packaged program was built from other sources than these, {differs}\n"
         self.assertEqual(self.said("release/check"), wanted)
         self.pack()
-        self.assertEqual(self.said("release/check", 1), "release/check: the packaged program answers otherwise than stored: one; make it anew by release/make\n")
+        wanted = "release/check: the packaged program answers otherwise than stored: one; make it anew by release/make\n"
+        self.assertEqual(self.said("release/check", 1), wanted)
         shutil.rmtree(f"{self.top}/release/out")
         os.remove(f"{self.top}/{MANIFEST}")
         self.assertEqual(self.said("release/check"), "")

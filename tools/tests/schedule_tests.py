@@ -4,39 +4,50 @@ from __future__ import annotations
 import unittest
 
 from building.faults import Fault
-from building.machine import CRATE_MEMORY, side_by_side
+from building.machine import see_memory
 from building.progress import Line
 from building.schedule import Schedule
 from building.sources import crates_below, rows_of, uses_of
 from tests.running import TOP
 
 USES = {"low": [], "short": ["low"], "long": ["low"], "above": ["long"], "top": ["short", "above", "other"], "other": []}
-LINES = {name: 1000 for name in USES}
+
+
+def schedule_of(processors: int, memory: int = 100_000, lines: int = 900) -> Schedule:
+    """A schedule of crates that have as many lines each."""
+    return Schedule(USES, {name: lines for name in USES}, processors, memory)
 
 
 class Order(unittest.TestCase):
     """Which crate is next."""
 
     def test_the_longest_chain_is_first(self) -> None:
-        schedule = Schedule(USES, LINES)
+        schedule = schedule_of(4)
         self.assertEqual(schedule.ready([], []), ["low", "other"])
         self.assertEqual(schedule.ready(["low"], ["other"]), ["long", "short"])
         self.assertEqual(schedule.ready(["low", "short", "long", "above"], ["other"]), [])
 
     def test_idle_processors_are_shared(self) -> None:
-        schedule = Schedule(USES, LINES)
-        self.assertEqual(schedule.next([], {}, 1), [("low", 1)])
-        self.assertEqual(schedule.next([], {}, 4), [("low", 2), ("other", 2)])
-        self.assertEqual(schedule.next(["low"], {"other": 2}, 5), [("long", 1), ("short", 2)])
-        self.assertEqual(schedule.next([], {"low": 2, "other": 2}, 4), [])
+        self.assertEqual(schedule_of(1).next([], {}), [("low", 1)])
+        self.assertEqual(schedule_of(4).next([], {}), [("low", 2), ("other", 2)])
+        self.assertEqual(schedule_of(5).next(["low"], {"other": 2}), [("long", 1), ("short", 2)])
+        self.assertEqual(schedule_of(4).next([], {"low": 2, "other": 2}), [])
+
+    def test_memory_is_shared(self) -> None:
+        # low takes 1,200 + 0.8 x 1,000 + 0.1 x 1,000 = 2,100 MB, and each further processor 1,260
+        self.assertEqual(schedule_of(8, 1_000, 1_000).next([], {}), [("low", 1)])
+        self.assertEqual(schedule_of(8, 3_359, 1_000).next([], {}), [("low", 1)])
+        self.assertEqual(schedule_of(8, 3_360, 1_000).next([], {}), [("low", 2)])
+        self.assertEqual(schedule_of(2, 4_200, 1_000).next([], {}), [("low", 1), ("other", 1)])
+        self.assertEqual(schedule_of(2, 4_199, 1_000).next([], {}), [("low", 1)])
+        self.assertEqual(schedule_of(2, 1_000, 1_000).next([], {"low": 1}), [])
 
     def test_the_rest_takes_as_long_as_its_longest_chain(self) -> None:
-        schedule = Schedule(USES, {name: 900 for name in USES})
-        self.assertEqual(schedule.left([], {}, 1, 0.1), 600)
+        self.assertEqual(schedule_of(1).left([], {}, 0.1), 600)
         # low beside other, long beside short, above while short still has the other processor, and top on both
-        self.assertAlmostEqual(schedule.left([], {}, 2, 0.1), 300 + 100 / 1.5)
-        self.assertEqual(schedule.left(["low", "other", "short", "long", "above"], {"top": 40.0}, 2, 0.1), 60)
-        self.assertEqual(schedule.left(list(USES), {}, 2, 0.1), 0)
+        self.assertAlmostEqual(schedule_of(2).left([], {}, 0.1), 300 + 100 / 1.5)
+        self.assertEqual(schedule_of(2).left(["low", "other", "short", "long", "above"], {"top": 40.0}, 0.1), 60)
+        self.assertEqual(schedule_of(2).left(list(USES), {}, 0.1), 0)
 
     def test_the_crates_of_the_repository(self) -> None:
         uses = uses_of(rows_of(TOP))
@@ -47,14 +58,12 @@ class Order(unittest.TestCase):
 
 
 class Machine(unittest.TestCase):
-    """How much is done at a time."""
+    """What a build must have."""
 
-    def test_as_many_as_memory_holds(self) -> None:
-        self.assertEqual(side_by_side(8, 3 * CRATE_MEMORY + 1), 3)
-        self.assertEqual(side_by_side(2, 9 * CRATE_MEMORY), 2)
-        self.assertEqual(side_by_side(8, CRATE_MEMORY), 1)
+    def test_memory_for_the_largest_proof(self) -> None:
+        see_memory(4_000, 4_000)
         with self.assertRaises(Fault):
-            side_by_side(1, CRATE_MEMORY - 1)
+            see_memory(3_999, 4_000)
 
 
 class Progress(unittest.TestCase):

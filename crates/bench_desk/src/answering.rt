@@ -1,34 +1,38 @@
-//! What answers the lines: a reader, or a book alone.
+//! What answers the lines: a reader, one that keeps places, or a book alone.
 
 use crate::questions::Questions;
 use lost_desk::Reader;
 use lost_json::{ReadError, reply_line, reply_request};
 use lost_routing::Routing;
 use lost_tape::{Scratch, read_request};
+use lost_worker::CachedReader;
 use std::alloc::{AllocError, Global};
+use std::io;
+use std::rt::Clock;
+use std::time::Instant;
+use test_districts::{Setting, nanoseconds};
 
 /// How a reply that has found a mapping begins.
 const FOUND: &[u8] = b"{\"findServiceResponse\":";
 
+/// The reply to a line.
+type Replied = Result<Vec<u8>, AllocError>;
+
 /// What answers lines.
 pub(crate) trait Answering {
     /// The reply to a line.
-    fn reply(
-        &mut self,
-        alloc: Global,
-        questions: &Questions,
-        line: &[u8],
-    ) -> Result<Vec<u8>, AllocError>;
+    fn reply(&mut self, alloc: Global, setting: &Setting, line: &[u8]) -> Replied;
 }
 
 impl Answering for Reader {
-    fn reply(
-        &mut self,
-        alloc: Global,
-        questions: &Questions,
-        line: &[u8],
-    ) -> Result<Vec<u8>, AllocError> {
-        self.reply_line(alloc, &questions.name, &questions.moment, line)
+    fn reply(&mut self, alloc: Global, setting: &Setting, line: &[u8]) -> Replied {
+        self.reply_line(alloc, &setting.name, &setting.moment, line)
+    }
+}
+
+impl Answering for CachedReader {
+    fn reply(&mut self, alloc: Global, setting: &Setting, line: &[u8]) -> Replied {
+        self.reply_line(alloc, &setting.name, &setting.moment, line)
     }
 }
 
@@ -50,18 +54,13 @@ impl<'a> ByTokens<'a> {
 }
 
 impl Answering for ByTokens<'_> {
-    fn reply(
-        &mut self,
-        alloc: Global,
-        questions: &Questions,
-        line: &[u8],
-    ) -> Result<Vec<u8>, AllocError> {
+    fn reply(&mut self, alloc: Global, setting: &Setting, line: &[u8]) -> Replied {
         match read_request(alloc, line, &mut self.scratch) {
             Ok(request) => reply_request(
                 alloc,
                 self.book,
-                &questions.name,
-                &questions.moment,
+                &setting.name,
+                &setting.moment,
                 &request,
             ),
             Err(ReadError::BadRequest) | Err(ReadError::Memory) => Err(AllocError),
@@ -76,30 +75,49 @@ pub(crate) struct ByTree<'a> {
 }
 
 impl Answering for ByTree<'_> {
-    fn reply(
-        &mut self,
-        alloc: Global,
-        questions: &Questions,
-        line: &[u8],
-    ) -> Result<Vec<u8>, AllocError> {
-        reply_line(alloc, self.book, &questions.name, &questions.moment, line)
+    fn reply(&mut self, alloc: Global, setting: &Setting, line: &[u8]) -> Replied {
+        reply_line(alloc, self.book, &setting.name, &setting.moment, line)
     }
 }
 
-/// How many of so many questions, from one on, are answered by a mapping.
-pub(crate) fn found<A: Answering>(
+/// How many questions were answered by a mapping, and how many nanoseconds all took.
+#[derive(Clone, Copy, Drop)]
+pub(crate) struct Answered {
+    pub(crate) found: u32,
+    pub(crate) spent: u64,
+}
+
+impl Answered {
+    /// The one that took less time.
+    pub(crate) fn quicker(self, other: Answered) -> Answered {
+        if other.spent < self.spent {
+            other
+        } else {
+            self
+        }
+    }
+}
+
+/// Asks so many questions, from one on.
+pub(crate) fn ask<A: Answering, R: Clock>(
+    rt: &R,
     alloc: Global,
     answering: &mut A,
     questions: &Questions,
     first: usize,
     count: u32,
-) -> Result<u32, AllocError> {
+) -> io::Result<Answered> {
+    let start = Instant::now(rt)?;
     let mut found: u32 = 0;
     for number in 0..count {
         let line = questions.line(first.saturating_add(number as usize));
-        if answering.reply(alloc, questions, line)?.starts_with(FOUND) {
+        let reply = answering.reply(alloc, &questions.setting, line)?;
+        if reply.starts_with(FOUND) {
             found = found.saturating_add(1);
         }
     }
-    Ok(found)
+    Ok(Answered {
+        found,
+        spent: nanoseconds(start.elapsed(rt)?),
+    })
 }

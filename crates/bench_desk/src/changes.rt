@@ -1,130 +1,172 @@
-//! What it takes to stage one edit and commit it.
+//! What it takes to stage one edit and commit it, and how that grows with the map.
 
-use crate::edits::Place;
+use crate::layout::Place;
 use crate::map::Map;
-use bench_parts::{Flood, Spans, below, nanoseconds};
 use lost_book::Edit;
-use std::alloc::Global;
+use std::alloc::{AllocError, Global};
 use std::io;
 use std::rt::Clock;
 use std::sync::Wait;
+use test_districts::{Flood, Spans, below, share};
 
-/// Medians in nanoseconds of an edit of a kind: with its commit, and its commit alone.
-#[derive(Clone, Copy, Drop)]
-pub(crate) struct Cost {
-    pub(crate) whole: u64,
-    pub(crate) commit: u64,
-}
+/// The kinds of edits, in the order in which they are made.
+const KINDS: [&str; 3] = ["publish", "replacement", "withdrawal"];
 
-/// What an edit of each kind costs.
-#[derive(Clone, Copy, Drop)]
-pub(crate) struct Costs {
-    pub(crate) publish: Cost,
-    pub(crate) replace: Cost,
-    pub(crate) withdraw: Cost,
-}
-
-/// How long edits of a kind took, each with its commit, and their commits alone.
+/// Spans in nanoseconds of each kind of edits: with their commits, and then of their commits alone.
 #[derive(Drop)]
-struct Taken {
-    wholes: Vec<u64>,
-    commits: Vec<u64>,
+struct Spent {
+    lists: Vec<Vec<u64>>,
 }
 
-impl Taken {
-    /// None.
-    fn none(alloc: Global) -> Taken {
-        Taken {
-            wholes: Vec::new(alloc),
-            commits: Vec::new(alloc),
+impl Spent {
+    /// No spans.
+    fn none(alloc: Global) -> Result<Spent, AllocError> {
+        let mut lists = Vec::new(alloc);
+        for _ in 0..2 * KINDS.len() {
+            lists.push(Vec::new(alloc))?;
+        }
+        Ok(Spent { lists })
+    }
+
+    /// One more span in a list.
+    fn push(&mut self, list: usize, span: u64) -> Result<(), AllocError> {
+        match self.lists.get_mut(list) {
+            Some(spans) => Ok(spans.push(span)?),
+            None => Ok(()),
         }
     }
 
-    /// Makes an edit and commits it, after the caches were emptied where there is a flood for it.
-    fn take<R: Wait + Clock>(
-        &mut self,
-        rt: &R,
-        map: &mut Map,
-        edit: Edit,
-        flood: &mut Option<Flood>,
-    ) -> io::Result<()> {
-        if let Some(flood) = flood {
-            flood.walk();
-        }
-        let (whole, commit) = map.time_of(rt, edit)?;
-        self.wholes.push(nanoseconds(whole))?;
-        self.commits.push(nanoseconds(commit))?;
-        Ok(())
-    }
-
-    /// The medians.
-    fn cost(self) -> Cost {
-        Cost {
-            whole: Spans::of(self.wholes).at(50),
-            commit: Spans::of(self.commits).at(50),
+    /// The spans of a list.
+    fn list(&self, list: usize) -> &[u64] {
+        match self.lists.get(list) {
+            Some(spans) => spans.as_slice(),
+            None => &[],
         }
     }
 }
 
-/// How long edits of each kind took.
-#[derive(Drop)]
-struct TakenByKind {
-    publish: Taken,
-    replace: Taken,
-    withdraw: Taken,
-}
-
-impl TakenByKind {
-    /// None.
-    fn none(alloc: Global) -> TakenByKind {
-        TakenByKind {
-            publish: Taken::none(alloc),
-            replace: Taken::none(alloc),
-            withdraw: Taken::none(alloc),
-        }
-    }
-
-    /// Publishes a district beside the map, replaces one in it, and withdraws the first, each with a commit of its own.
-    fn take<R: Wait + Clock + AllocGlobal>(
-        &mut self,
-        rt: &R,
-        map: &mut Map,
-        round: u32,
-        flood: &mut Option<Flood>,
-    ) -> io::Result<()> {
-        let alloc = rt.alloc();
-        let beside = Place {
-            row: map.rows,
-            column: below(map.rows, round, 1),
-        };
-        let within = Place {
-            row: below(map.rows, round, 2),
-            column: below(map.rows, round, 3),
-        };
-        let edit = beside.publish(alloc, map.next_time())?;
-        self.publish.take(rt, map, edit, flood)?;
-        let edit = within.replace(alloc, map.next_time())?;
-        self.replace.take(rt, map, edit, flood)?;
-        let edit = beside.withdraw(alloc, map.next_time())?;
-        self.withdraw.take(rt, map, edit, flood)
-    }
+/// How many rounds there are of a small map and a large one in turn, and how many edits of each kind in a round.
+#[derive(Clone, Copy)]
+pub(crate) struct Rounds {
+    pub(crate) rounds: u32,
+    pub(crate) edits: u32,
 }
 
 /// Publishes a district beside the map, replaces one in it, and withdraws the first, so many times, each with a commit of
-/// its own. Where there is a flood, it empties the caches before each. Gives the medians of each kind.
-pub(crate) fn changed<R: Wait + Clock + AllocGlobal>(
+/// its own. Where there is a flood, it empties the caches before each. Gives the median of each list.
+pub(crate) fn change<R: Wait + Clock + AllocGlobal>(
     rt: &R,
     map: &mut Map,
-    rounds: u32,
+    edits: u32,
     flood: &mut Option<Flood>,
-) -> io::Result<Costs> {
-    let mut taken = TakenByKind::none(rt.alloc());
-    for round in 0..rounds {
-        taken.take(rt, map, round, flood)?;
+) -> io::Result<Vec<u64>> {
+    let mut spent = Spent::none(rt.alloc())?;
+    for round in 0..edits {
+        for kind in 0..KINDS.len() {
+            let edit = edit(rt.alloc(), map, kind, round)?;
+            if let Some(flood) = flood {
+                flood.walk();
+            }
+            let taken = map.time_of(rt, edit)?;
+            spent.push(kind, taken.whole)?;
+            spent.push(kind.saturating_add(KINDS.len()), taken.commit)?;
+        }
     }
-    Ok(Costs {
-        publish: taken.publish.cost(),
-        replace: taken.replace.cost(),
-        withdraw: taken.withdraw.cost(),
-    })
+    medians(rt.alloc(), &spent)
+}
+
+/// The edit of a kind, in a round.
+fn edit(alloc: Global, map: &mut Map, kind: usize, round: u32) -> io::Result<Edit> {
+    let time = map.next_time();
+    let beside = Place {
+        row: map.rows,
+        column: below(map.rows, round, 1),
+    };
+    let within = Place {
+        row: below(map.rows, round, 2),
+        column: below(map.rows, round, 3),
+    };
+    match kind {
+        0 => beside.publish(alloc, time),
+        1 => within.replace(alloc, time),
+        _ => beside.withdraw(alloc, time),
+    }
+}
+
+/// The median of each list.
+fn medians(alloc: Global, spent: &Spent) -> io::Result<Vec<u64>> {
+    let mut medians = Vec::new(alloc);
+    for spans in &spent.lists {
+        medians.push(Spans::copied(alloc, spans.as_slice())?.at(50))?;
+    }
+    Ok(medians)
+}
+
+/// The medians of both maps, round by round, and what those of the large map are of a hundred of those of the small one.
+#[derive(Drop)]
+struct Growth {
+    few: Spent,
+    many: Spent,
+    shares: Spent,
+}
+
+impl Growth {
+    /// No rounds.
+    fn none(alloc: Global) -> Result<Growth, AllocError> {
+        Ok(Growth {
+            few: Spent::none(alloc)?,
+            many: Spent::none(alloc)?,
+            shares: Spent::none(alloc)?,
+        })
+    }
+
+    /// One more round.
+    fn add(&mut self, few: &[u64], many: &[u64]) -> Result<(), AllocError> {
+        for (list, (few, many)) in few.iter().zip(many.iter()).enumerate() {
+            self.few.push(list, *few)?;
+            self.many.push(list, *many)?;
+            self.shares.push(list, share(*many, *few))?;
+        }
+        Ok(())
+    }
+
+    /// Prints the middle of the rounds of a list, and between what their ratios lie.
+    fn print<R: Print + AllocGlobal>(&self, rt: &R, list: usize, kind: &str) -> io::Result<()> {
+        let alloc = rt.alloc();
+        let few = Spans::copied(alloc, self.few.list(list))?.at(50);
+        let many = Spans::copied(alloc, self.many.list(list))?.at(50);
+        let shares = Spans::copied(alloc, self.shares.list(list))?;
+        let what = if list < KINDS.len() {
+            "with its commit"
+        } else {
+            "its commit alone"
+        };
+        println!(rt;
+            "a {kind}, {what}: {few} and {many} nanoseconds at 1,024 and 60,025 mappings, {} of a hundred ({} to {}), the middle of the rounds",
+            shares.at(50),
+            shares.at(0),
+            shares.longest()
+        )
+    }
+}
+
+/// Edits both maps in turn, and prints what that takes at each.
+pub(crate) fn print_growth<R: Print + Wait + Clock + AllocGlobal>(
+    rt: &R,
+    small: &mut Map,
+    large: &mut Map,
+    rounds: Rounds,
+    flood: &mut Option<Flood>,
+) -> io::Result<()> {
+    let mut growth = Growth::none(rt.alloc())?;
+    for _ in 0..rounds.rounds {
+        let few = change(rt, small, rounds.edits, flood)?;
+        let many = change(rt, large, rounds.edits, flood)?;
+        growth.add(few.as_slice(), many.as_slice())?;
+    }
+    for (list, kind) in KINDS.iter().enumerate() {
+        growth.print(rt, list, kind)?;
+        growth.print(rt, list.saturating_add(KINDS.len()), kind)?;
+    }
+    Ok(())
 }

@@ -2,17 +2,20 @@
 
 ghost use Rattle.std.specs.Thread.{IsSync};
 
-use crate::answering::found;
-use crate::edits::Place;
-use crate::map::Map;
+use crate::answering::{Answered, ask};
+use crate::layout::Place;
+use crate::map::{Map, next_reader};
 use crate::questions::Questions;
 use lost_desk::{Reader, Readers};
 use std::alloc::{AllocError, Global};
 use std::rt::Clock;
 use std::sync::{Arc, Wait};
 use std::thread::{Threads, join_mut};
-use std::time::{Duration, Instant};
+use std::time::Duration;
 use std::{io, thread};
+
+/// How many readers there are.
+const READERS: u32 = 4;
 
 /// A reader with its questions, and what came of them.
 #[derive(Drop)]
@@ -24,9 +27,8 @@ struct Asker {
     first: usize,
     /// How many questions it asks.
     count: u32,
-    /// How many of them were answered by a mapping, and how long that took. None before it has asked, or where it could
-    /// not.
-    answered: Option<(u32, Duration)>,
+    /// What came of them. None before it has asked, or where it could not.
+    answered: Option<Answered>,
 }
 
 impl Asker {
@@ -41,7 +43,7 @@ impl Asker {
             alloc,
             questions: Arc::try_clone(questions)?,
             reader,
-            first: (number as usize).saturating_mul(questions.len() / 4),
+            first: (number as usize).saturating_mul(questions.len() / READERS as usize),
             count: 0,
             answered: None,
         })
@@ -49,21 +51,15 @@ impl Asker {
 
     /// Asks all questions.
     fn ask<R: Clock>(&mut self, rt: &R) {
-        self.answered = self.answers(rt);
-    }
-
-    /// How many questions were answered by a mapping, and how long that took.
-    fn answers<R: Clock>(&mut self, rt: &R) -> Option<(u32, Duration)> {
-        let start = Instant::now(rt).ok()?;
-        let found = found(
+        self.answered = ask(
+            rt,
             self.alloc,
             &mut self.reader,
             &self.questions,
             self.first,
             self.count,
         )
-        .ok()?;
-        Some((found, start.elapsed(rt).ok()?))
+        .ok();
     }
 }
 
@@ -73,66 +69,37 @@ pub(crate) struct Crowd {
     askers: Vec<Asker>,
 }
 
-/// A crowd of one reader, and one of four.
-#[derive(Drop)]
-pub(crate) struct Crowds {
-    pub(crate) one: Crowd,
-    pub(crate) four: Crowd,
-}
-
-impl Crowds {
-    /// Five readers, with these questions.
+impl Crowd {
+    /// Four readers, with these questions.
     pub(crate) fn new(
         alloc: Global,
         readers: &mut Readers,
         questions: &Arc<Questions>,
-    ) -> io::Result<Crowds> {
-        let one = Crowd::new(alloc, readers, questions, 1)?;
-        let four = Crowd::new(alloc, readers, questions, 4)?;
-        Ok(Crowds { one, four })
-    }
-}
-
-/// What a crowd was answered: how many questions by a mapping, and how long the longest of it took.
-#[derive(Clone, Copy, Drop)]
-pub(crate) struct Answers {
-    pub(crate) found: u32,
-    pub(crate) spent: Duration,
-}
-
-impl Crowd {
-    /// So many readers, or as many as are left.
-    fn new(
-        alloc: Global,
-        readers: &mut Readers,
-        questions: &Arc<Questions>,
-        count: u32,
     ) -> io::Result<Crowd> {
         let mut askers = Vec::new(alloc);
-        for number in 0..count {
-            let Some(reader) = readers.take() else {
-                break;
-            };
-            askers.push(Asker::new(alloc, reader, questions, number)?)?;
+        for number in 0..READERS {
+            askers.push(Asker::new(alloc, next_reader(readers)?, questions, number)?)?;
         }
         Ok(Crowd { askers })
     }
 
-    /// Has each reader ask so many questions in a thread of its own, while the desk commits so many edits, 100 a second.
+    /// Has so many of the readers ask so many questions each, in a thread of its own, while the desk commits so many
+    /// edits, 100 a second. Gives what all found, and the time of the one that took longest.
     pub(crate) fn ask<R: Threads + Wait + Clock + Sync + AllocGlobal>(
         &mut self,
         rt: &R,
+        askers: usize,
         count: u32,
         map: &mut Map,
         commits: u32,
-    ) -> io::Result<Answers> {
-        for asker in &mut self.askers {
-            asker.count = count;
+    ) -> io::Result<Answered> {
+        for (number, asker) in self.askers.iter_mut().enumerate() {
+            asker.count = if number < askers { count } else { 0 };
             asker.answered = None;
         }
         map.commits = commits;
         beside(rt, self, map)?;
-        self.answers()
+        self.answered()
     }
 
     /// Has each reader ask in a thread of its own.
@@ -146,17 +113,14 @@ impl Crowd {
     }
 
     /// What all of them were answered.
-    fn answers(&self) -> io::Result<Answers> {
-        let mut all = Answers {
-            found: 0,
-            spent: Duration::ZERO,
-        };
+    fn answered(&self) -> io::Result<Answered> {
+        let mut all = Answered { found: 0, spent: 0 };
         for asker in &self.askers {
-            let Some((found, spent)) = asker.answered else {
+            let Some(answered) = asker.answered else {
                 return Err(io::Error::from(io::ErrorKind::Other));
             };
-            all.found = all.found.saturating_add(found);
-            all.spent = all.spent.max(spent);
+            all.found = all.found.saturating_add(answered.found);
+            all.spent = all.spent.max(answered.spent);
         }
         Ok(all)
     }
@@ -185,7 +149,7 @@ fn commit_often<R: Wait + Clock + AllocGlobal>(rt: &R, map: &mut Map) -> io::Res
     for _ in 0..map.commits {
         let time = map.next_time();
         let edit = Place { row: 0, column: 0 }.replace(rt.alloc(), time)?;
-        let (spent, _commit) = map.time_of(rt, edit)?;
+        let spent = Duration::from_nanos(map.time_of(rt, edit)?.whole);
         thread::sleep(rt, Duration::from_millis(10).saturating_sub(spent));
     }
     Ok(())

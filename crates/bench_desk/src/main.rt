@@ -1,33 +1,56 @@
-//! What a desk and its readers cost, as ratios: `bench_desk measure` prints them. Without an argument a small map is asked
-//! and edited, and how much was found is printed, so that the gate runs the same code.
+//! What a desk, its readers and the caches of its readers cost.
+//!
+//!     bench_desk                  all that follows in a small way, as the gate runs it: how much was found
+//!     bench_desk desk             how many questions readers find an answer to, alone, in threads and beside commits
+//!     bench_desk measure          what a reader takes beside a book alone, and four beside one; and what an edit and its
+//!                                 commit take at 1,024 and 60,025 mappings
+//!     bench_desk cache            how many questions find an answer by a reader, and by one that keeps places
+//!     bench_desk cache measure    what such a reader takes beside a plain one
+//!     bench_desk cache with       asks 20,000 places that never come again by a reader that keeps places,
+//!     bench_desk cache without    and by a plain one, for a tool that counts instructions
+//!
+//! It ends with status 2 at any other word.
 #![tactic(auto)]
 
 mod answering;
-mod asking;
+mod cache;
 mod changes;
-mod counts;
 mod crowd;
-mod edits;
-mod growth;
+mod desk;
+mod layout;
 mod map;
-mod measures;
 mod questions;
+mod stacks;
 
+use std::io;
+use std::process::ExitCode;
 use std::rt::{Clock, Env};
-use std::{env, io};
+use std::sync::Wait;
+use std::thread::Threads;
+use test_districts::{mistaken, words};
 
-fn main(rt: HostRuntime) -> io::Result<()> {
-    if is_measuring(&rt)? {
-        measures::print_costs(&rt)
-    } else {
-        counts::print_counts(&rt)
+/// What the words may be.
+const USAGE: &str =
+    "bench_desk\nbench_desk desk | measure\nbench_desk cache [measure | with | without]";
+
+fn main(rt: HostRuntime) -> io::Result<ExitCode> {
+    match words(&rt)?.as_str() {
+        "" => print_all(&rt)?,
+        "desk" => desk::print_counts(&rt)?,
+        "measure" => desk::print_costs(&rt)?,
+        "cache" => cache::print_counts(&rt)?,
+        "cache measure" => cache::print_costs(&rt)?,
+        "cache with" => cache::print_found(&rt, true)?,
+        "cache without" => cache::print_found(&rt, false)?,
+        _ => return mistaken(&rt, USAGE),
     }
+    Ok(ExitCode::SUCCESS)
 }
 
-/// Whether the first argument is `measure`.
-fn is_measuring<R: Env + AllocGlobal>(rt: &R) -> io::Result<bool> {
-    for word in env::args(rt)?.skip(1) {
-        return Ok(word.as_str() == "measure");
-    }
-    Ok(false)
+/// Runs all in a small way.
+fn print_all<R: Print + Clock + Threads + Wait + Sync + AllocGlobal>(rt: &R) -> io::Result<()> {
+    println!(rt; "== desk")?;
+    desk::print_counts(rt)?;
+    println!(rt; "== cache")?;
+    cache::print_counts(rt)
 }

@@ -1,18 +1,24 @@
-//! A desk over a map of districts.
+//! A desk over a map, and a book alone with the same map.
 
-use crate::edits::Place;
+use crate::layout::Layout;
 use lost_book::{Edit, Limits};
-use lost_desk::{Desk, Readers, open_desk};
+use lost_desk::{Desk, Reader, Readers, open_desk};
 use lost_routing::Routing;
 use std::alloc::Global;
 use std::io;
 use std::rt::Clock;
 use std::sync::Wait;
-use std::time::{Duration, Instant};
+use std::thread::Threads;
+use std::time::Instant;
+use test_districts::nanoseconds;
 
-/// A desk over a map of so many rows and columns of districts. It is not `Drop`: end it by `close`.
+/// How many readers a map has: one alone, and a crowd of four.
+const READERS: u32 = 5;
+
+/// A desk over a map. It is not `Drop`: end it by `close`.
 pub(crate) struct Map {
     desk: Desk,
+    /// The rows and the columns of its districts.
     pub(crate) rows: u32,
     /// How many edits came after the map, which is the time of the last of them.
     time: u32,
@@ -20,28 +26,63 @@ pub(crate) struct Map {
     pub(crate) commits: u32,
 }
 
+/// What is done with a map.
+pub(crate) trait Work {
+    /// Does it, with the desk and its readers.
+    fn run<R: Print + Clock + Threads + Wait + Sync + AllocGlobal>(
+        &self,
+        rt: &R,
+        map: &mut Map,
+        readers: &mut Readers,
+    ) -> io::Result<()>;
+}
+
+/// Opens a map, does what is to be done with it, and ends it.
+pub(crate) fn with_map<W: Work, R: Print + Clock + Threads + Wait + Sync + AllocGlobal>(
+    rt: &R,
+    layout: Layout,
+    work: &W,
+) -> io::Result<()> {
+    let (mut map, mut readers) = Map::open(rt, layout)?;
+    let result = work.run(rt, &mut map, &mut readers);
+    map.close(rt);
+    result
+}
+
+/// One of the readers.
+pub(crate) fn next_reader(readers: &mut Readers) -> io::Result<Reader> {
+    readers
+        .take()
+        .ok_or(io::Error::from(io::ErrorKind::NotFound))
+}
+
+/// How long an edit took with its commit, and its commit alone, in nanoseconds.
+#[derive(Clone, Copy, Drop)]
+pub(crate) struct EditTime {
+    pub(crate) whole: u64,
+    pub(crate) commit: u64,
+}
+
 impl Map {
     /// A map that is published, and its readers.
     pub(crate) fn open<R: Wait + AllocGlobal>(
         rt: &R,
-        rows: u32,
-        workers: u32,
+        layout: Layout,
     ) -> io::Result<(Map, Readers)> {
-        let Ok((mut desk, readers)) = open_desk(rt, rt.alloc(), Limits::widest(), workers) else {
+        let Ok((mut desk, readers)) = open_desk(rt, rt.alloc(), Limits::widest(), READERS) else {
             return Err(io::Error::from(io::ErrorKind::OutOfMemory));
         };
-        match fill(rt, &mut desk, rows) {
-            Ok(()) => Ok((
-                Map {
-                    desk,
-                    rows,
-                    time: 0,
-                    commits: 0,
-                },
-                readers,
-            )),
+        let filled = fill(rt, &mut desk, layout);
+        let map = Map {
+            desk,
+            rows: layout.rows(),
+            time: 0,
+            commits: 0,
+        };
+        match filled {
+            Ok(()) => Ok((map, readers)),
             Err(error) => {
-                desk.close(rt);
+                map.close(rt);
                 Err(error)
             }
         }
@@ -53,12 +94,8 @@ impl Map {
         self.time
     }
 
-    /// Stages an edit and commits it. Gives how long both took, and the commit alone.
-    pub(crate) fn time_of<R: Wait + Clock>(
-        &mut self,
-        rt: &R,
-        edit: Edit,
-    ) -> io::Result<(Duration, Duration)> {
+    /// Stages an edit and commits it. Gives how long both took.
+    pub(crate) fn time_of<R: Wait + Clock>(&mut self, rt: &R, edit: Edit) -> io::Result<EditTime> {
         let start = Instant::now(rt)?;
         let is_staged = self.desk.stage(edit).is_ok();
         let middle = Instant::now(rt)?;
@@ -67,7 +104,10 @@ impl Map {
         if !is_staged || !is_published {
             return Err(io::Error::from(io::ErrorKind::Other));
         }
-        Ok((end.duration_since(start), end.duration_since(middle)))
+        Ok(EditTime {
+            whole: nanoseconds(end.duration_since(start)),
+            commit: nanoseconds(end.duration_since(middle)),
+        })
     }
 
     /// How many edits are published.
@@ -87,14 +127,12 @@ impl Map {
     }
 }
 
-/// Publishes a map of so many rows and columns of districts.
-fn fill<R: Wait + AllocGlobal>(rt: &R, desk: &mut Desk, rows: u32) -> io::Result<()> {
-    for row in 0..rows {
-        for column in 0..rows {
-            let edit = Place { row, column }.publish(rt.alloc(), 0)?;
-            if desk.stage(edit).is_err() {
-                return Err(io::Error::from(io::ErrorKind::Other));
-            }
+/// Publishes a map.
+fn fill<R: Wait + AllocGlobal>(rt: &R, desk: &mut Desk, layout: Layout) -> io::Result<()> {
+    for number in 0..layout.len() {
+        let edit = layout.publish(rt.alloc(), number)?;
+        if desk.stage(edit).is_err() {
+            return Err(io::Error::from(io::ErrorKind::Other));
         }
     }
     match desk.commit(rt) {
@@ -104,16 +142,11 @@ fn fill<R: Wait + AllocGlobal>(rt: &R, desk: &mut Desk, rows: u32) -> io::Result
 }
 
 /// A book alone with the same map.
-pub(crate) fn book_of(alloc: Global, rows: u32) -> io::Result<Routing> {
+pub(crate) fn book_of(alloc: Global, layout: Layout) -> io::Result<Routing> {
     let mut book = Routing::new(alloc, Limits::widest())?;
-    for row in 0..rows {
-        for column in 0..rows {
-            if book
-                .apply(Place { row, column }.publish(alloc, 0)?)
-                .is_err()
-            {
-                return Err(io::Error::from(io::ErrorKind::Other));
-            }
+    for number in 0..layout.len() {
+        if book.apply(layout.publish(alloc, number)?).is_err() {
+            return Err(io::Error::from(io::ErrorKind::Other));
         }
     }
     Ok(book)

@@ -1,32 +1,30 @@
-//! The lines that are asked, and who asks them.
+//! The lines that are asked, with the server's name and the moment of the answers.
 
-use bench_parts::{SIDE, below};
-use lost_mapping::{Moment, Source};
-use std::alloc::{AllocError, Global};
+use crate::stacks::Stacks;
+use std::alloc::Global;
 use std::io;
+use test_districts::{SERVICE, SIDE, Setting, below, find_line};
 
-/// Lines that ask for points, with the server's name and the moment.
+/// Lines that ask for points, with the server's name and the moment of the answers.
 #[derive(Drop)]
 pub(crate) struct Questions {
     lines: Vec<String>,
-    pub(crate) name: Source,
-    pub(crate) moment: Moment,
+    pub(crate) setting: Setting,
 }
 
 impl Questions {
     /// No lines.
     fn none(alloc: Global) -> io::Result<Questions> {
-        let Some(moment) = Moment::new(20_454, 0) else {
-            return Err(io::Error::from(io::ErrorKind::Other));
-        };
-        let Ok(name) = Source::parse(alloc, b"lost.example") else {
-            return Err(io::Error::from(io::ErrorKind::OutOfMemory));
-        };
         Ok(Questions {
             lines: Vec::new(alloc),
-            name,
-            moment,
+            setting: Setting::new(alloc)?,
         })
+    }
+
+    /// One more line, for a point.
+    fn push(&mut self, alloc: Global, (lat, lon): (u32, u32)) -> io::Result<()> {
+        let line = find_line(alloc, SERVICE, i64::from(lat), i64::from(lon))?;
+        Ok(self.lines.push(line)?)
     }
 
     /// The middles of a map of so many rows and columns of districts.
@@ -34,22 +32,27 @@ impl Questions {
         let mut questions = Questions::none(alloc)?;
         for row in 0..rows {
             for column in 0..rows {
-                questions
-                    .lines
-                    .push(line(alloc, middle(row), middle(column))?)?;
+                questions.push(alloc, (middle(row), middle(column)))?;
             }
         }
         Ok(questions)
     }
 
-    /// So many points all over a map and a little beside it.
+    /// So many points all over a map of districts and a little beside it.
     pub(crate) fn all_over(alloc: Global, rows: u32, count: u32) -> io::Result<Questions> {
         let end = rows.saturating_mul(SIDE / 8 * 9);
         let mut questions = Questions::none(alloc)?;
         for number in 0..count {
-            questions
-                .lines
-                .push(line(alloc, below(end, number, 1), below(end, number, 2))?)?;
+            questions.push(alloc, (below(end, number, 1), below(end, number, 2)))?;
+        }
+        Ok(questions)
+    }
+
+    /// So many places over the spots of stacks.
+    pub(crate) fn over(alloc: Global, stacks: Stacks, count: u32) -> io::Result<Questions> {
+        let mut questions = Questions::none(alloc)?;
+        for number in 0..count {
+            questions.push(alloc, stacks.place(number))?;
         }
         Ok(questions)
     }
@@ -72,11 +75,4 @@ impl Questions {
 /// The latitude or the longitude of the middle of a row or a column.
 fn middle(row: u32) -> u32 {
     row.saturating_mul(SIDE).saturating_add(SIDE / 2)
-}
-
-/// The line that asks for a point.
-fn line(alloc: Global, lat: u32, lon: u32) -> Result<String, AllocError> {
-    format!(in alloc;
-        "{{\"findService\":{{\"location\":[{{\"id\":\"p\",\"pos\":[{lat},{lon}],\"profile\":\"geodetic-2d\"}}],\"service\":\"urn:service:sos.police\"}}}}"
-    )
 }

@@ -1,5 +1,8 @@
-//! The map: squares side by side, each a mapping of its own.
-use std::alloc::{AllocError, Global};
+//! The map: squares side by side, each a mapping of its own. Each line has its byte 10.
+
+use std::alloc::Global;
+use std::io;
+use test_districts::{COMMIT, SERVICE, edit_line, find_line, square};
 
 /// The squares of a row.
 const ROW: u32 = 256;
@@ -14,25 +17,38 @@ fn corner(number: u32) -> (u32, u32) {
     (row.saturating_mul(SIDE), column.saturating_mul(SIDE))
 }
 
-/// The desk line that publishes a square, with its byte 10.
-pub(crate) fn publish(alloc: Global, number: u32) -> Result<String, AllocError> {
+/// Appends the desk line that publishes a square.
+pub(crate) fn push_publish(alloc: Global, lines: &mut Vec<u8>, number: u32) -> io::Result<()> {
     let (lat, lon) = corner(number);
-    let (top, right) = (lat.saturating_add(SIDE), lon.saturating_add(SIDE));
-    let line = format!(in alloc;
-        "{{\"publish\":{{\"expires\":\"NO-EXPIRATION\",\"key\":\"D-{number}\",\"lastUpdated\":\"2025-12-01T00:00:00Z\",\"service\":\"urn:service:sos.police\",\"serviceBoundary\":[{{\"polygon\":[[{lat},{lon}],[{lat},{right}],[{top},{right}],[{top},{lon}],[{lat},{lon}]],\"profile\":\"geodetic-2d\"}}],\"source\":\"map.example\",\"sourceId\":\"D-{number}\",\"uri\":[\"sip:D-{number}@map.example\"]}}}}\n"
+    let far = (lat.saturating_add(SIDE), lon.saturating_add(SIDE));
+    let ring = square(alloc, (lat, lon), far)?;
+    let name = format!(in alloc; "D-{number}")?;
+    let line = edit_line(
+        alloc,
+        "publish",
+        name.as_str(),
+        name.as_str(),
+        "2025-12-01T00:00:00Z",
+        ring.as_slice(),
     )?;
-    Ok(line)
+    push_line(lines, line.as_str())
 }
 
-/// The request line for the middle of a square, with its byte 10.
-pub(crate) fn question(alloc: Global, number: u32) -> Result<String, AllocError> {
+/// Appends the request line for the middle of a square.
+pub(crate) fn push_question(alloc: Global, lines: &mut Vec<u8>, number: u32) -> io::Result<()> {
     let (lat, lon) = corner(number);
     let (lat, lon) = (lat.saturating_add(SIDE / 2), lon.saturating_add(SIDE / 2));
-    let line = format!(in alloc;
-        "{{\"findService\":{{\"location\":[{{\"id\":\"p\",\"pos\":[{lat},{lon}],\"profile\":\"geodetic-2d\"}}],\"service\":\"urn:service:sos.police\"}}}}\n"
-    )?;
-    Ok(line)
+    let line = find_line(alloc, SERVICE, i64::from(lat), i64::from(lon))?;
+    push_line(lines, line.as_str())
 }
 
-/// A commit.
-pub(crate) const COMMIT: &[u8] = b"{\"commit\":{}}\n";
+/// Appends a commit.
+pub(crate) fn push_commit(lines: &mut Vec<u8>) -> io::Result<()> {
+    push_line(lines, COMMIT)
+}
+
+/// Appends a line and its byte 10.
+fn push_line(lines: &mut Vec<u8>, line: &str) -> io::Result<()> {
+    lines.extend_from_slice(line.as_bytes())?;
+    Ok(lines.push(b'\n')?)
+}

@@ -1,30 +1,27 @@
-//! What connections cost, as ratios: `bench_serve measure` prints them, beside the same lines through `replay` and beside a
-//! server that sends each line back, which runs the same loop. Without an argument a few lines are asked over each, and how
-//! many replies came is printed, so that the gate runs the same code.
+//! What connections cost, beside a server that sends each line back, which runs the same loop.
+//!
+//!     bench_serve            a few lines over each server, as the gate runs it: how many mappings were found
+//!     bench_serve measure    replies a second of one connection and of four, and how long a line and a commit take
+//!
+//! It ends with status 2 at any other word.
 #![tactic(auto)]
 
 mod client;
 mod districts;
 mod echo;
+mod machine;
 mod measures;
-mod replays;
 mod scenes;
 
-use std::rt::{Clock, Env};
-use std::{env, io};
+use std::io;
+use std::process::ExitCode;
+use test_districts::{mistaken, words};
 
-fn main(rt: HostRuntime) -> io::Result<()> {
-    if is_measuring(&rt)? {
-        measures::print_costs(&rt)
-    } else {
-        measures::print_counts(&rt)
+fn main(rt: HostRuntime) -> io::Result<ExitCode> {
+    match words(&rt)?.as_str() {
+        "" => measures::print_counts(&rt)?,
+        "measure" => measures::print_costs(&rt)?,
+        _ => return mistaken(&rt, "bench_serve [measure]"),
     }
-}
-
-/// Whether the first argument is `measure`.
-fn is_measuring<R: Env + AllocGlobal>(rt: &R) -> io::Result<bool> {
-    for word in env::args(rt)?.skip(1) {
-        return Ok(word.as_str() == "measure");
-    }
-    Ok(false)
+    Ok(ExitCode::SUCCESS)
 }

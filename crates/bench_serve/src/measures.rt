@@ -1,15 +1,9 @@
 //! What is measured, and how it is printed.
-use crate::replays::replayed;
+
+use crate::machine::Machine;
 use crate::scenes::{Outcome, Plan, echoed, served};
-use bench_parts::{a_second, share};
-use lost_mapping::{Moment, Source, Stamp};
-use std::alloc::{AllocError, Global};
 use std::io;
-use std::net::{Net, TcpListener, TcpStream};
-use std::random::RandomSource;
-use std::sync::Wait;
-use std::thread::Threads;
-use std::time::Clock;
+use test_districts::{Setting, Spans, a_second, share};
 
 /// The mappings of the small map and of the large one.
 const SMALL: u32 = 1_000;
@@ -20,228 +14,122 @@ const LARGE: u32 = 60_000;
 /// shorter.
 const TIMES: u32 = 3;
 
-/// One client that sends one line at a time.
-const ONE: Plan = Plan {
-    districts: SMALL,
-    workers: 1,
-    clients: 1,
-    depth: 1,
-    rounds: 50_000,
-    commits: 0,
-};
+/// How many lines are sent before their replies are read, and how often.
+const DEPTHS: [(u32, u32); 3] = [(1, 50_000), (16, 20_000), (64, 10_000)];
 
-/// The name and the moment of all answers.
-fn setting(alloc: Global) -> io::Result<(Source, Moment)> {
-    match (
-        Source::parse(alloc, b"lost.example"),
-        Stamp::parse(alloc, b"2026-01-01T00:00:00Z"),
-    ) {
-        (Ok(name), Ok(stamp)) => Ok((name, stamp.moment())),
-        _ => Err(AllocError.into()),
-    }
+/// Who answers.
+#[derive(Clone, Copy)]
+enum Server {
+    /// One that sends each line back.
+    Echo,
+    /// One that serves a map.
+    Lost,
 }
 
-/// Asks a few lines over each server, and prints how many replies came.
-pub(crate) fn print_counts<
-    R: Net<Listener = TcpListener, Stream = TcpStream>
-        + Threads
-        + Wait
-        + Clock
-        + Print
-        + Eprint
-        + RandomSource
-        + Clone
-        + Send
-        + Sync
-        + AllocGlobal,
->(rt: &R) -> io::Result<()> {
-    let alloc = rt.alloc();
-    let (name, moment) = setting(alloc)?;
+/// Asks a few lines over each server, and prints how many mappings were found.
+pub(crate) fn print_counts<R: Machine>(rt: &R) -> io::Result<()> {
     let few = Plan {
         districts: 200,
+        clients: 1,
         depth: 16,
         rounds: 4,
-        ..ONE
+        commits: 0,
     };
-    replayed(rt, alloc, &name, &moment, few.districts, 64)?;
-    let echo = echoed(rt, alloc, few)?;
-    println!(rt; "a server that sends lines back: {} found", echo.found)?;
-    let one = served(rt, alloc, &name, few)?;
-    println!(rt; "one client: {} of 16 found", one.found)?;
     let four = Plan {
-        workers: 4,
         clients: 4,
         commits: 3,
         ..few
     };
-    let four = served(rt, alloc, &name, four)?;
-    println!(rt; "four clients beside commits: {} of 64 found", four.found)
+    let found = asked(rt, Server::Echo, few)?.found;
+    println!(rt; "a server that sends lines back: {found} found")?;
+    let found = asked(rt, Server::Lost, few)?.found;
+    println!(rt; "one client: {found} of 16 found")?;
+    let found = asked(rt, Server::Lost, four)?.found;
+    println!(rt; "four clients beside commits: {found} of 64 found")
 }
 
-/// The best of several rounds over a server of mappings: that of the least time.
-fn best_served<
-    R: Net<Listener = TcpListener, Stream = TcpStream>
-        + Threads
-        + Wait
-        + Clock
-        + Eprint
-        + RandomSource
-        + Clone
-        + Send
-        + Sync,
->(rt: &R, alloc: Global, name: &Source, plan: Plan) -> io::Result<Outcome> {
-    let mut best = served(rt, alloc, name, plan)?;
+/// What comes of a plan at a server.
+fn asked<R: Machine>(rt: &R, server: Server, plan: Plan) -> io::Result<Outcome> {
+    match server {
+        Server::Echo => echoed(rt, plan),
+        Server::Lost => served(rt, &Setting::new(rt.alloc())?.name, plan),
+    }
+}
+
+/// The best of several rounds of a plan: that of the least time.
+fn best<R: Machine>(rt: &R, server: Server, plan: Plan) -> io::Result<Outcome> {
+    let mut best = asked(rt, server, plan)?;
     for _ in 1..TIMES {
-        best = best.better(served(rt, alloc, name, plan)?);
+        best = best.better(asked(rt, server, plan)?);
     }
     Ok(best)
-}
-
-/// The best of several rounds over a server that sends each line back.
-fn best_echoed<R: Net<Listener = TcpListener, Stream = TcpStream> + Threads + Clock + Sync>(
-    rt: &R,
-    alloc: Global,
-    plan: Plan,
-) -> io::Result<Outcome> {
-    let mut best = echoed(rt, alloc, plan)?;
-    for _ in 1..TIMES {
-        best = best.better(echoed(rt, alloc, plan)?);
-    }
-    Ok(best)
-}
-
-/// Replies a second of a plan.
-fn rate(plan: Plan, outcome: &Outcome) -> u64 {
-    let replies = u64::from(plan.clients)
-        .saturating_mul(u64::from(plan.depth))
-        .saturating_mul(u64::from(plan.rounds));
-    a_second(replies, outcome.spent)
 }
 
 /// Measures, and prints the costs.
-pub(crate) fn print_costs<
-    R: Net<Listener = TcpListener, Stream = TcpStream>
-        + Threads
-        + Wait
-        + Clock
-        + Print
-        + Eprint
-        + RandomSource
-        + Clone
-        + Send
-        + Sync
-        + AllocGlobal,
->(rt: &R) -> io::Result<()> {
-    let alloc = rt.alloc();
-    let (name, moment) = setting(alloc)?;
-    print_replay(rt, alloc, &name, &moment)?;
-    for (depth, rounds) in [(1, 50_000), (16, 20_000)] {
-        let plan = Plan {
-            depth,
-            rounds,
-            ..ONE
-        };
-        let echo = rate(plan, &best_echoed(rt, alloc, plan)?);
-        let lost = rate(plan, &best_served(rt, alloc, &name, plan)?);
-        println!(rt;
-            "one connection, {depth} lines at a time: {lost} replies a second, a server that sends lines back {echo}, {} of a hundred",
-            share(lost, echo)
-        )?;
-    }
-    print_four(rt, alloc, &name)?;
-    print_beside(rt, alloc, &name, SMALL)?;
-    print_beside(rt, alloc, &name, LARGE)
-}
-
-/// Measures the same lines through `replay`.
-fn print_replay<R: Print + Clock>(
-    rt: &R,
-    alloc: Global,
-    name: &Source,
-    moment: &Moment,
-) -> io::Result<()> {
-    let mut least = u64::MAX;
-    for _ in 0..TIMES {
-        let none = replayed(rt, alloc, name, moment, SMALL, 0)?;
-        let all = replayed(rt, alloc, name, moment, SMALL, 500_000)?;
-        least = least.min(all.saturating_sub(none));
-    }
-    println!(rt;
-        "the same lines through replay, in memory: {} replies a second, best of {TIMES}, over {SMALL} mappings",
-        a_second(500_000, least)
-    )
-}
-
-/// Measures four workers beside one, each with a client of its own.
-fn print_four<
-    R: Net<Listener = TcpListener, Stream = TcpStream>
-        + Threads
-        + Wait
-        + Clock
-        + Print
-        + Eprint
-        + RandomSource
-        + Clone
-        + Send
-        + Sync,
->(rt: &R, alloc: Global, name: &Source) -> io::Result<()> {
-    for (depth, rounds) in [(1, 50_000), (16, 20_000), (64, 10_000)] {
+pub(crate) fn print_costs<R: Machine>(rt: &R) -> io::Result<()> {
+    for (depth, rounds) in DEPTHS {
         let one = Plan {
+            districts: SMALL,
+            clients: 1,
             depth,
             rounds,
-            ..ONE
+            commits: 0,
         };
-        let four = Plan {
-            workers: 4,
-            clients: 4,
-            ..one
-        };
-        let alone = rate(one, &best_served(rt, alloc, name, one)?);
-        let together = rate(four, &best_served(rt, alloc, name, four)?);
+        let four = Plan { clients: 4, ..one };
+        let echo = rate(one, best(rt, Server::Echo, one)?.spent);
+        let alone = rate(one, best(rt, Server::Lost, one)?.spent);
+        let together = rate(four, best(rt, Server::Lost, four)?.spent);
         println!(rt;
-            "four workers and four connections, {depth} lines at a time: {together} replies a second, {} of a hundred of one",
+            "{depth} lines at a time: {alone} replies a second over one connection, a server that sends lines back {echo}, {} of a hundred; four workers and four connections {together}, {} of a hundred of one",
+            share(alone, echo),
             share(together, alone)
         )?;
     }
-    Ok(())
+    print_beside(rt, SMALL)?;
+    print_beside(rt, LARGE)
+}
+
+/// Replies a second of a plan that took so many nanoseconds.
+fn rate(plan: Plan, spent: u64) -> u64 {
+    let replies = u64::from(plan.clients)
+        .saturating_mul(u64::from(plan.depth))
+        .saturating_mul(u64::from(plan.rounds));
+    a_second(replies, spent)
 }
 
 /// Measures how long one line takes, with and without commits beside it, and how long a commit takes.
-fn print_beside<
-    R: Net<Listener = TcpListener, Stream = TcpStream>
-        + Threads
-        + Wait
-        + Clock
-        + Print
-        + Eprint
-        + RandomSource
-        + Clone
-        + Send
-        + Sync,
->(rt: &R, alloc: Global, name: &Source, districts: u32) -> io::Result<()> {
+fn print_beside<R: Machine>(rt: &R, districts: u32) -> io::Result<()> {
     let quiet = Plan {
         districts,
+        clients: 1,
+        depth: 1,
         rounds: 100_000,
-        ..ONE
+        commits: 0,
     };
     let busy = Plan {
         commits: 100,
         ..quiet
     };
-    let alone = best_served(rt, alloc, name, quiet)?;
-    let beside = best_served(rt, alloc, name, busy)?;
+    let alone = Spans::of(best(rt, Server::Lost, quiet)?.rounds);
+    let Outcome {
+        found: _found,
+        spent: _spent,
+        rounds,
+        commits,
+    } = best(rt, Server::Lost, busy)?;
+    let (beside, commits) = (Spans::of(rounds), Spans::of(commits));
     println!(rt;
         "{districts} mappings, one line at a time: half within {} nanoseconds, 99 of a hundred within {}; while the desk commits 100 times a second {} and {}, {} of a hundred",
-        alone.rounds.at(50),
-        alone.rounds.at(99),
-        beside.rounds.at(50),
-        beside.rounds.at(99),
-        share(beside.rounds.at(99), alone.rounds.at(99))
+        alone.at(50),
+        alone.at(99),
+        beside.at(50),
+        beside.at(99),
+        share(beside.at(99), alone.at(99))
     )?;
     println!(rt;
         "{districts} mappings: half of the commits answered within {} nanoseconds, 99 of a hundred within {}, all within {}",
-        beside.commits.at(50),
-        beside.commits.at(99),
-        beside.commits.longest()
+        commits.at(50),
+        commits.at(99),
+        commits.longest()
     )
 }

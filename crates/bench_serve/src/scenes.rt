@@ -1,18 +1,18 @@
 //! A server in one thread, and those that it serves in others.
+
 use crate::client::{Client, found_in};
-use crate::districts::{COMMIT, publish, question};
+use crate::districts::{push_commit, push_publish, push_question};
 use crate::echo::send_back;
-use bench_parts::{Spans, nanoseconds};
+use crate::machine::Machine;
 use lost_mapping::Source;
 use lost_server::{ConnectionSettings, NoGate, serve};
-use std::alloc::{AllocError, Global};
+use std::alloc::Global;
 use std::io;
-use std::net::{Net, SocketAddr, TcpListener, TcpStream};
-use std::random::RandomSource;
-use std::sync::Wait;
+use std::net::{SocketAddr, TcpListener};
 use std::sync::atomic::{AtomicBool, Ordering};
-use std::thread::{Threads, join, map_indices, sleep};
-use std::time::{Clock, Duration, Instant};
+use std::thread::{join, map_indices, sleep};
+use std::time::{Duration, Instant};
+use test_districts::nanoseconds;
 
 /// How many different pieces of lines a client sends in turn.
 const PIECES: u32 = 64;
@@ -28,7 +28,7 @@ const MAX_COMMITS: u32 = 5_000;
 pub(crate) struct Plan {
     /// How many mappings are held.
     pub(crate) districts: u32,
-    pub(crate) workers: u32,
+    /// How many clients there are, and as many workers.
     pub(crate) clients: u32,
     /// How many lines a client sends before it reads.
     pub(crate) depth: u32,
@@ -41,17 +41,26 @@ pub(crate) struct Plan {
 /// What came of it.
 #[derive(Drop)]
 pub(crate) struct Outcome {
-    /// How many mappings were found.
+    /// How many mappings were found in the first rounds of all clients.
     pub(crate) found: u32,
     /// How long the slowest client took, in nanoseconds.
     pub(crate) spent: u64,
-    /// How long each round took.
-    pub(crate) rounds: Spans,
-    /// How long each commit took.
-    pub(crate) commits: Spans,
+    /// How long each round and each commit took.
+    pub(crate) rounds: Vec<u64>,
+    pub(crate) commits: Vec<u64>,
 }
 
 impl Outcome {
+    /// Nothing yet.
+    fn none(alloc: Global) -> Outcome {
+        Outcome {
+            found: 0,
+            spent: 0,
+            rounds: Vec::new(alloc),
+            commits: Vec::new(alloc),
+        }
+    }
+
     /// The one that took less time.
     pub(crate) fn better(self, other: Outcome) -> Outcome {
         if other.spent < self.spent {
@@ -60,20 +69,18 @@ impl Outcome {
             self
         }
     }
+
+    /// Adds what came of another client.
+    fn add(&mut self, other: &Outcome) -> io::Result<()> {
+        self.found = self.found.saturating_add(other.found);
+        self.spent = self.spent.max(other.spent);
+        Ok(self.rounds.extend_from_slice(other.rounds.as_slice())?)
+    }
 }
 
 /// Serves a map and has clients ask, as a plan says.
-pub(crate) fn served<
-    R: Net<Listener = TcpListener, Stream = TcpStream>
-        + Threads
-        + Wait
-        + Clock
-        + Eprint
-        + RandomSource
-        + Clone
-        + Send
-        + Sync,
->(rt: &R, alloc: Global, name: &Source, plan: Plan) -> io::Result<Outcome> {
+pub(crate) fn served<R: Machine>(rt: &R, name: &Source, plan: Plan) -> io::Result<Outcome> {
+    let alloc = rt.alloc();
     let queries = TcpListener::bind(rt, "127.0.0.1:0")?;
     let desk = TcpListener::bind(rt, "127.0.0.1:0")?;
     let (to_queries, to_desk) = (queries.local_addr()?, desk.local_addr()?);
@@ -90,13 +97,13 @@ pub(crate) fn served<
                 name,
                 &queries,
                 &desk,
-                plan.workers,
+                plan.clients,
                 plan.clients,
                 &NoGate,
                 manners,
             )
         },
-        || with_desk(rt, alloc, to_queries, to_desk, plan),
+        || with_desk(rt, to_queries, to_desk, plan),
     );
     match counts {
         Ok(_) => outcome,
@@ -104,25 +111,38 @@ pub(crate) fn served<
     }
 }
 
+/// Has one client ask a server that sends each line back. Gives what came of it, in which nothing is found.
+pub(crate) fn echoed<R: Machine>(rt: &R, plan: Plan) -> io::Result<Outcome> {
+    let alloc = rt.alloc();
+    let listener = TcpListener::bind(rt, "127.0.0.1:0")?;
+    let address = listener.local_addr()?;
+    let (sent, outcome) = join(
+        rt,
+        || send_back(alloc, &listener),
+        || client(rt, address, plan, 0),
+    );
+    sent?;
+    outcome
+}
+
 /// Sends the map over the desk's connection, and then has the clients ask.
-fn with_desk<R: Net<Listener = TcpListener, Stream = TcpStream> + Threads + Clock + Sync>(
+fn with_desk<R: Machine>(
     rt: &R,
-    alloc: Global,
     to_queries: SocketAddr,
     to_desk: SocketAddr,
     plan: Plan,
 ) -> io::Result<Outcome> {
-    let mut desk = Client::to(rt, alloc, to_desk)?;
-    load(alloc, &mut desk, plan.districts)?;
+    let mut desk = Client::to(rt, rt.alloc(), to_desk)?;
+    load(rt.alloc(), &mut desk, plan.districts)?;
     let is_over = AtomicBool::new(false);
     let (outcome, commits) = join(
         rt,
         || {
-            let outcome = all_clients(rt, alloc, to_queries, plan);
+            let outcome = all_clients(rt, to_queries, plan);
             is_over.store(true, Ordering::SeqCst);
             outcome
         },
-        || commit_often(rt, alloc, &mut desk, plan, &is_over),
+        || commit_often(rt, &mut desk, plan, &is_over),
     );
     let mut outcome = outcome?;
     outcome.commits = commits?;
@@ -133,119 +153,108 @@ fn with_desk<R: Net<Listener = TcpListener, Stream = TcpStream> + Threads + Cloc
 /// other has at the commit after it, and a large commit makes that one long.
 fn load(alloc: Global, desk: &mut Client, districts: u32) -> io::Result<()> {
     let mut lines = Vec::new(alloc);
-    let mut count: u32 = 0;
-    for number in 0..districts {
-        lines.extend_from_slice(publish(alloc, number)?.as_bytes())?;
-        count = count.saturating_add(1);
-        if count == AT_ONCE {
-            desk.ask(lines.as_slice(), count, false)?;
-            lines.clear();
-            count = 0;
+    for first in (0..districts).step_by(AT_ONCE as usize) {
+        let end = first.saturating_add(AT_ONCE).min(districts);
+        for number in first..end {
+            push_publish(alloc, &mut lines, number)?;
         }
+        desk.ask(lines.as_slice(), end.saturating_sub(first), false)?;
+        lines.clear();
     }
-    desk.ask(lines.as_slice(), count, false)?;
-    desk.ask(COMMIT, 1, false)?;
+    push_commit(&mut lines)?;
+    desk.ask(lines.as_slice(), 1, false)?;
     for number in 0..2 {
-        let line = publish(alloc, districts.saturating_add(number))?;
-        desk.ask(line.as_bytes(), 1, false)?;
-        desk.ask(COMMIT, 1, false)?;
+        publish_one(alloc, desk, districts.saturating_add(number))?;
+        desk.ask(lines.as_slice(), 1, false)?;
     }
+    Ok(())
+}
+
+/// Publishes one district.
+fn publish_one(alloc: Global, desk: &mut Client, number: u32) -> io::Result<()> {
+    let mut line = Vec::new(alloc);
+    push_publish(alloc, &mut line, number)?;
+    desk.ask(line.as_slice(), 1, false)?;
     Ok(())
 }
 
 /// Publishes one more district and commits it, 100 times a second, until the clients are done. Gives how long each commit
 /// took.
-fn commit_often<R: Clock>(
+fn commit_often<R: Machine>(
     rt: &R,
-    alloc: Global,
     desk: &mut Client,
     plan: Plan,
     is_over: &AtomicBool,
-) -> io::Result<Spans> {
+) -> io::Result<Vec<u64>> {
+    let alloc = rt.alloc();
     let mut spans = Vec::new(alloc);
+    let mut commit = Vec::new(alloc);
+    push_commit(&mut commit)?;
     for number in 0..MAX_COMMITS {
         if plan.commits == 0 || (number >= plan.commits && is_over.load(Ordering::SeqCst)) {
             break;
         }
-        let line = publish(
-            alloc,
-            plan.districts.saturating_add(number).saturating_add(2),
-        )?;
-        desk.ask(line.as_bytes(), 1, false)?;
+        let district = plan.districts.saturating_add(number).saturating_add(2);
+        publish_one(alloc, desk, district)?;
         let start = Instant::now(rt)?;
-        desk.ask(COMMIT, 1, false)?;
+        desk.ask(commit.as_slice(), 1, false)?;
         spans.push(nanoseconds(start.elapsed(rt)?))?;
         sleep(rt, Duration::from_millis(10));
     }
-    Ok(Spans::of(spans))
+    Ok(spans)
 }
 
 /// All clients, each in a thread of its own.
-fn all_clients<R: Net<Listener = TcpListener, Stream = TcpStream> + Threads + Clock + Sync>(
-    rt: &R,
-    alloc: Global,
-    address: SocketAddr,
-    plan: Plan,
-) -> io::Result<Outcome> {
+fn all_clients<R: Machine>(rt: &R, address: SocketAddr, plan: Plan) -> io::Result<Outcome> {
     let results = map_indices(
         rt,
-        alloc,
+        rt.alloc(),
         plan.clients as usize,
-        &|number| { client(rt, alloc, address, plan, number) },
+        &|number| { client(rt, address, plan, number) },
     )?;
-    let mut sum = Outcome {
-        found: 0,
-        spent: 0,
-        rounds: Spans::of(Vec::new(alloc)),
-        commits: Spans::of(Vec::new(alloc)),
-    };
+    let mut sum = Outcome::none(rt.alloc());
     for result in results {
-        sum = sum_of(alloc, sum, result?)?;
+        sum.add(&result?)?;
     }
     Ok(sum)
 }
 
-/// Both outcomes together.
-fn sum_of(alloc: Global, sum: Outcome, other: Outcome) -> Result<Outcome, AllocError> {
-    Ok(Outcome {
-        found: sum.found.saturating_add(other.found),
-        spent: sum.spent.max(other.spent),
-        rounds: sum.rounds.with(alloc, &other.rounds)?,
-        commits: sum.commits,
-    })
-}
-
-/// A client: it sends some lines at a time, and reads their replies.
-fn client<R: Net<Listener = TcpListener, Stream = TcpStream> + Clock>(
+/// A client: it sends some lines at a time, and reads their replies. Those of the first round are looked at; those of the
+/// others are counted.
+fn client<R: Machine>(
     rt: &R,
-    alloc: Global,
     address: SocketAddr,
     plan: Plan,
     number: usize,
 ) -> io::Result<Outcome> {
+    let alloc = rt.alloc();
     let mut line = Client::to(rt, alloc, address)?;
     let pieces = pieces_of(alloc, plan, number)?;
-    let mut spans = Vec::with_capacity(alloc, plan.rounds as usize)?;
-    let mut found: u32 = 0;
+    let mut outcome = Outcome::none(alloc);
+    ask_all(rt, &mut line, pieces.as_slice(), plan, &mut outcome)?;
+    Ok(outcome)
+}
+
+/// Sends all pieces in turn, and reads their replies.
+fn ask_all<R: Machine>(
+    rt: &R,
+    line: &mut Client,
+    pieces: &[Vec<u8>],
+    plan: Plan,
+    outcome: &mut Outcome,
+) -> io::Result<()> {
     let start = Instant::now(rt)?;
     for round in 0..plan.rounds {
         let Some(piece) = pieces.get((round % PIECES) as usize) else {
             break;
         };
         let before = Instant::now(rt)?;
-        // The replies of the first round are looked at; those of the others are counted.
         let replies = line.ask(piece.as_slice(), plan.depth, round == 0)?;
-        spans.push(nanoseconds(before.elapsed(rt)?))?;
-        if round == 0 {
-            found = found_in(replies.as_slice());
-        }
+        outcome.rounds.push(nanoseconds(before.elapsed(rt)?))?;
+        outcome.found = outcome.found.saturating_add(found_in(replies.as_slice()));
     }
-    Ok(Outcome {
-        found,
-        spent: nanoseconds(start.elapsed(rt)?),
-        rounds: Spans::of(spans),
-        commits: Spans::of(Vec::new(alloc)),
-    })
+    outcome.spent = nanoseconds(start.elapsed(rt)?);
+    Ok(())
 }
 
 /// The pieces that a client sends in turn: each has as many questions as the depth.
@@ -257,26 +266,9 @@ fn pieces_of(alloc: Global, plan: Plan, client: usize) -> io::Result<Vec<Vec<u8>
         for _ in 0..plan.depth {
             number = number.wrapping_add(613);
             let district = number.checked_rem(plan.districts).unwrap_or(0);
-            piece.extend_from_slice(question(alloc, district)?.as_bytes())?;
+            push_question(alloc, &mut piece, district)?;
         }
         pieces.push(piece)?;
     }
     Ok(pieces)
-}
-
-/// Has one client ask a server that sends each line back. Gives what came of it, in which nothing is found.
-pub(crate) fn echoed<R: Net<Listener = TcpListener, Stream = TcpStream> + Threads + Clock + Sync>(
-    rt: &R,
-    alloc: Global,
-    plan: Plan,
-) -> io::Result<Outcome> {
-    let listener = TcpListener::bind(rt, "127.0.0.1:0")?;
-    let address = listener.local_addr()?;
-    let (sent, outcome) = join(
-        rt,
-        || send_back(alloc, &listener),
-        || client(rt, alloc, address, plan, 0),
-    );
-    sent?;
-    outcome
 }

@@ -10,6 +10,7 @@ use crate::words::{owned, refused, yes_or_no};
 use lost_book::{Book, Edit, EditError, Limits};
 use lost_mapping::{Mapping, Moment};
 use lost_query::{Holdings, Place};
+use lost_spec::Coded;
 use std::alloc::Global;
 
 /// The book that the cases of a table change and ask, and a copy that was made of it.

@@ -3,6 +3,7 @@ use crate::fields::Fields;
 use crate::trouble::Trouble;
 use crate::words::{checked, compared, owned, push_pairs, refused, text_pairs, yes_or_no};
 use lost_civic::{CivicAddress, CivicError, CivicPattern, Element};
+use lost_spec::Coded;
 use std::alloc::Global;
 
 /// What a call gives.

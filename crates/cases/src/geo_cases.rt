@@ -3,6 +3,7 @@ use crate::fields::Fields;
 use crate::trouble::Trouble;
 use crate::words::{compared, number_pair, number_pairs, owned, refused, yes_or_no};
 use lost_geo::{GeoPoint, Polygon, is_ring};
+use lost_spec::Coded;
 use std::alloc::Global;
 
 /// What a call gives.

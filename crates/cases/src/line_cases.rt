@@ -11,6 +11,7 @@ use lost_json::{
 };
 use lost_mapping::MappingError;
 use lost_query::{AnswerError, Body, Location, Locations, Reply, Request};
+use lost_spec::Coded;
 use std::alloc::Global;
 use std::borrow::CowStr;
 

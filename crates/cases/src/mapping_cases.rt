@@ -6,6 +6,7 @@ use crate::stamp_cases::stamp;
 use crate::trouble::Trouble;
 use crate::words::{checked, owned, push_pairs, refused, yes_or_no};
 use lost_mapping::{Expires, Mapping, MappingError, Moment, Parts};
+use lost_spec::Coded;
 use std::alloc::Global;
 
 /// What a call gives.

@@ -3,6 +3,7 @@ use crate::fields::Fields;
 use crate::trouble::Trouble;
 use crate::words::{checked, compared, owned, refused, yes_or_no};
 use lost_mapping::{Identity, MappingError, Moment, Source, SourceError, Stamp, StampError};
+use lost_spec::Coded;
 use std::alloc::Global;
 
 /// What a call gives.

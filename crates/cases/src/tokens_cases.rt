@@ -6,6 +6,7 @@ use crate::words::{owned, refused};
 use lost_json::{DeskFault, ReadError};
 use lost_mapping::MappingError;
 use lost_reading::Line;
+use lost_spec::Coded;
 use lost_tape::{Scratch, read_common, read_line, read_request};
 use std::alloc::Global;
 

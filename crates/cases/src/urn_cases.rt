@@ -4,6 +4,7 @@ ghost use Rattle.std.specs.Prelude.{◌≤◌, IfOk, length};
 use crate::fields::Fields;
 use crate::trouble::Trouble;
 use crate::words::{checked, compared, copy_of, owned, refused, yes_or_no};
+use lost_spec::Coded;
 use lost_urn::{ServiceUrn, UrnError};
 use std::alloc::Global;
 use std::cmp::Ordering;

@@ -1,5 +1,5 @@
 //! The book that is published, and the book of what is staged too. Rules without a section are this profile's own.
-ghost use Rattle.std.specs.Prelude.{◌≡◌, ◌≢◌, ◌-◌, false, None, Some, Ok, Err, IfOk, IsErr, Option, Result};
+ghost use Rattle.std.specs.Prelude.{◌≡◌, ◌≢◌, ◌-◌, true, false, None, Some, Ok, Err, IfOk, IsErr, Option, Result};
 ghost use Rattle.std.specs.Result.{result_err};
 ghost use Rattle.lost_spec.specs.Text.{Text};
 ghost use Rattle.lost_spec.specs.Moment.{Instant};

@@ -1,4 +1,5 @@
 //! Why a reader gets no cache.
+use lost_spec::Coded;
 use thiserror::Error;
 
 /// Why a reader gets no cache.

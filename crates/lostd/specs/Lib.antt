@@ -1,1 +1,1 @@
-pub mod Trouble
+pub mod ExitReasons

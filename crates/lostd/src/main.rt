@@ -2,16 +2,10 @@
 //! check` says what of it would be refused, and `lostd serve` answers connections.
 #![tactic(auto)]
 
-mod arguments;
-mod checking;
-mod mistake;
-mod progress;
-mod replaying;
 mod serving;
-mod summary;
 
-use lost_trouble::{Trouble, end};
-use serving::ServeOrder;
+use lost_command::{ExitReason, end, obey};
+use serving::serve_addresses;
 use std::env;
 use std::io::IsTerminal;
 use std::net::{Net, TcpListener, TcpStream};
@@ -41,46 +35,13 @@ fn run<
         + Clone
         + Send
         + Sync,
->(rt: &R, is_terminal: bool) -> Result<(), Trouble> {
+>(rt: &R, is_terminal: bool) -> Result<(), ExitReason> {
     let mut words = Vec::new(rt.alloc());
-    for word in env::args(rt).map_err(|error| Trouble::of_words(&error))? {
-        words.push(word).map_err(|_| Trouble::MEMORY)?;
+    for word in env::args(rt).map_err(|error| ExitReason::of_words(&error))? {
+        words.push(word).map_err(|_| ExitReason::MEMORY)?;
     }
     match obey(rt, words.as_slice(), is_terminal)? {
-        Some(order) => serving::serve_addresses(rt, &order),
+        Some(order) => serve_addresses(rt, &order),
         None => Ok(()),
     }
 }
-
-/// Does what the words of the command line say, but for serving connections: what is ordered of that, it gives.
-fn obey<'a, R: Print + Eprint + Input + AllocGlobal>(
-    rt: &R,
-    words: &'a [String],
-    is_terminal: bool,
-) -> Result<Option<ServeOrder<'a>>, Trouble> {
-    let Ok(command) = arguments::command(rt.alloc()) else {
-        return Err(Trouble::MEMORY);
-    };
-    match command.try_get_matches_from(words) {
-        Ok(matches) => match matches.subcommand() {
-            Some(("replay", given)) => {
-                replaying::replay_standard_streams(rt, given, is_terminal)?;
-                Ok(None)
-            }
-            Some(("check", given)) => {
-                checking::check_standard_input(rt, given, is_terminal)?;
-                Ok(None)
-            }
-            Some(("serve", given)) => Ok(Some(serving::order_of(rt, given)?)),
-            _ => Err(Trouble::Words),
-        },
-        Err(error) => {
-            let first = words.get(1).map(|word| word.as_str());
-            mistake::show(rt, rt.alloc(), first, &error)?;
-            Ok(None)
-        }
-    }
-}
-
-#[cfg(test)]
-mod tests;

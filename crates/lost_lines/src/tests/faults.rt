@@ -2,7 +2,7 @@
 
 use super::lengths::{Outcome, assert_fault, assert_served, run};
 use crate::{ServeError, Turns};
-use lost_fakes::{Feed, Sink};
+use test_fakes::{Feed, Sink};
 use std::alloc::{AllocError, Global};
 use std::io;
 use std::test::Fail;

@@ -4,7 +4,7 @@ ghost use Rattle.std.specs.Prelude.{ℕ, Bool};
 
 use super::lengths::{assert_fault, assert_served, run_through};
 use crate::{Gate, NoGate, ServeError, Turns};
-use lost_fakes::{Feed, Sink};
+use test_fakes::{Feed, Sink};
 use std::alloc::{AllocError, Global};
 use std::test::Fail;
 

@@ -3,7 +3,7 @@
 ghost use Rattle.lost_lines.specs.Run.{Cut, Reply};
 
 use crate::{Answer, Answerer, Counts, Gate, NoGate, ServeError, Text, Turns, Watched, run_lines};
-use lost_fakes::Sink;
+use test_fakes::Sink;
 use lost_text::DeskText;
 use std::alloc::{AllocError, Global};
 use std::io::Read;

@@ -2,7 +2,7 @@
 
 use super::lengths::{Outcome, assert_served, run};
 use crate::Turns;
-use lost_fakes::{Feed, Sink};
+use test_fakes::{Feed, Sink};
 use std::alloc::{AllocError, Global};
 use std::test::Fail;
 

@@ -2,7 +2,7 @@
 
 use super::lengths::{assert_fault, assert_served, run};
 use crate::{ServeError, Turns};
-use lost_fakes::{Feed, Sink, Spaces};
+use test_fakes::{Feed, Sink, Spaces};
 use std::test::Fail;
 
 #[test]

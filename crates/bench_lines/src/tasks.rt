@@ -1,0 +1,147 @@
+//! What lines do.
+
+use crate::lines;
+use crate::maps::Map;
+use crate::replies::Reply;
+use std::alloc::{AllocError, Global};
+use test_districts::{COMMIT, SERVICE};
+
+/// What the lines of a part do.
+#[derive(Clone, Copy, PartialEq, Eq)]
+pub(crate) enum Task {
+    /// Publish the districts, one after another.
+    Load,
+    /// Publish the roads, one after another.
+    LoadRoads,
+    /// Publish the default.
+    Standby,
+    /// Publish what is staged.
+    Commit,
+    /// Ask for a service at a point that a mapping of it holds.
+    Hits,
+    /// Ask at a point that no mapping holds.
+    Misses,
+    /// Ask for a service that nobody holds.
+    Unheld,
+    /// Ask for a service that has a default alone.
+    Defaults,
+    /// Ask for all services.
+    Services,
+    /// Ask for the services at a point.
+    ServicesAt,
+    /// Ask for a boundary.
+    Boundaries,
+    /// Ask for an address, and for its validation.
+    Validations,
+    /// Replace a district's mapping and commit, for the first time: what was loaded is then applied to the other book too.
+    Settle,
+    /// Replace a drawn district's mapping and commit, in turn.
+    Replacements,
+    /// Publish a new district, commit, withdraw the first one that is held, and commit, in turn.
+    Turnover,
+    /// Ask for a service that nobody holds, in a line of 1 MiB.
+    Filled,
+    /// Publish a mapping that is crowded with URIs, in a line of 1 MiB: there are too many.
+    ManyUris,
+    /// Ask with a crowd of locations, in a line of 1 MiB: there are too many.
+    ManyLocations,
+}
+
+impl Task {
+    /// The words for it.
+    pub(crate) fn words(self) -> &'static str {
+        match self {
+            Task::Load => "load",
+            Task::LoadRoads => "load of roads",
+            Task::Standby => "load of the default",
+            Task::Commit => "commit",
+            Task::Hits => "hits",
+            Task::Misses => "misses",
+            Task::Unheld => "unheld service",
+            Task::Defaults => "default",
+            Task::Services => "listServices",
+            Task::ServicesAt => "listServicesByLocation",
+            Task::Boundaries => "getServiceBoundary",
+            Task::Validations => "validation",
+            Task::Settle => "first replace and commit",
+            Task::Replacements => "replace and commit",
+            Task::Turnover => "publish, commit, withdraw, commit",
+            Task::Filled => "lines of 1 MiB",
+            Task::ManyUris => "1 MiB of URIs",
+            Task::ManyLocations => "1 MiB of locations",
+        }
+    }
+
+    /// Whether a reply to such a line is as it should be.
+    pub(crate) fn allows(self, reply: Reply) -> bool {
+        match self {
+            Task::Load | Task::LoadRoads | Task::Standby => reply == Reply::Staged,
+            Task::Commit => reply == Reply::Committed,
+            Task::Hits => reply == Reply::Found,
+            Task::Misses => reply == Reply::NotFound,
+            Task::Unheld | Task::Filled => reply == Reply::NotImplemented,
+            Task::Defaults => reply == Reply::Default,
+            Task::Services => reply == Reply::Services,
+            Task::ServicesAt => reply == Reply::ServicesAt,
+            Task::Boundaries => reply == Reply::Boundary,
+            Task::Validations => reply == Reply::Validated,
+            Task::Settle | Task::Replacements | Task::Turnover => {
+                reply == Reply::Staged || reply == Reply::Committed
+            }
+            Task::ManyUris => reply == Reply::Refused,
+            Task::ManyLocations => reply == Reply::BadRequest,
+        }
+    }
+
+    /// The line of a number, over a map.
+    pub(crate) fn line(self, alloc: Global, map: Map, number: u32) -> Result<String, AllocError> {
+        match self {
+            Task::Load => lines::district(alloc, map, "publish", number, "2025-12-01T00:00:00Z"),
+            Task::LoadRoads => lines::road(alloc, number),
+            Task::Standby => lines::standby(alloc),
+            Task::Commit => String::from_str(alloc, COMMIT),
+            Task::Hits => lines::find(alloc, map, SERVICE, number),
+            Task::Misses => lines::find_below(alloc, map, SERVICE, number),
+            Task::Unheld => lines::find(alloc, map, "urn:service:physician", number),
+            Task::Defaults => lines::find(alloc, map, "urn:service:sos.fire", number),
+            Task::Services => String::from_str(alloc, "{\"listServices\":{}}"),
+            Task::ServicesAt => lines::services_at(alloc, map, number),
+            Task::Boundaries => lines::boundary(alloc, map, number),
+            Task::Validations => lines::validate(alloc, map, number),
+            Task::Settle => replacement(alloc, map, number),
+            Task::Replacements => replacement(alloc, map, number.saturating_add(2)),
+            Task::Turnover => turn(alloc, map, number),
+            Task::Filled => {
+                lines::filled(lines::find(alloc, map, "urn:service:physician", number)?)
+            }
+            Task::ManyUris => lines::many_uris(alloc),
+            Task::ManyLocations => lines::many_locations(alloc),
+        }
+    }
+}
+
+/// A replacement of a drawn district's mapping, with a stamp that is newer each time, or a commit.
+fn replacement(alloc: Global, map: Map, number: u32) -> Result<String, AllocError> {
+    if number % 2 == 1 {
+        return String::from_str(alloc, COMMIT);
+    }
+    let fraction = number.saturating_add(100_000_000);
+    let updated = format!(in alloc; "2025-12-02T00:00:00.{fraction}Z")?;
+    lines::district(alloc, map, "replace", map.drawn(number), updated.as_str())
+}
+
+/// A publish behind all, a withdrawal of the first that is held, or a commit after each.
+fn turn(alloc: Global, map: Map, number: u32) -> Result<String, AllocError> {
+    let turn = number / 4;
+    match number % 4 {
+        0 => lines::district(
+            alloc,
+            map,
+            "publish",
+            map.mappings.saturating_add(turn),
+            "2025-12-01T00:00:00Z",
+        ),
+        2 => lines::withdraw(alloc, turn),
+        _ => String::from_str(alloc, COMMIT),
+    }
+}

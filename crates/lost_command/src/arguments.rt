@@ -1,0 +1,214 @@
+//! The command line.
+use clap::{Arg, ArgAction, Command, Error, value_parser};
+use std::alloc::Global;
+
+/// The version that `lostd --version` prints.
+const VERSION: &str = "0.1.0";
+
+const HELP: &str =
+    "Examples:\n  lostd replay --name lost.example --now 2026-01-01T00:00:00Z < examples/one-mapping.jsonl\n  \
+lostd check --name lost.example --now 2026-01-01T00:00:00Z < examples/one-mapping.jsonl\n  \
+lostd serve --name lost.example --queries 127.0.0.1:5222 --desk 127.0.0.1:5223 --workers 4 --connections 1000\n\n\
+`lostd replay --help`, `lostd check --help` and `lostd serve --help` explain the arguments and the exit status.";
+
+const REPLAY_HELP: &str =
+    "Each line of standard input is one JSON object. Desk lines (`publish`, `replace`, `withdraw`, \
+`commit`) change the mappings; any other line is a request (`findService`, `listServicesByLocation`, `listServices`, \
+`getServiceBoundary`). Each line gets one line of reply on standard output, as soon as it is answered.\n\n\
+Example:\n  lostd replay --name lost.example --now 2026-01-01T00:00:00Z < examples/one-mapping.jsonl\n\n\
+With --summary, or where standard error is a terminal, it says there at the end how many lines were answered, how many \
+of them were refused, and how many edits are published.\n\n\
+Exit status: 0 at the end of the input; 1 where standard input or output failed, the input was too long (more lines \
+than --lines allows) or memory ran out at the start; 2 for a mistake on the command line.";
+
+const CHECK_HELP: &str =
+    "Each line of standard input is read as by `lostd replay`. For each line that would be refused or answered \
+`badRequest` it prints a line: the number of the line, from 1, the code and name of the refusal, and the cause with the \
+place in the line, where items of a list are counted from 0:\n  \
+line 12: 9 BadRegion: serviceBoundary[2].polygon: the last position is not the first\n\
+Of any other line nothing is printed. At the end it prints `done lines=L refused=R badRequest=B internalError=I \
+edition=E`: the lines, those of them that are refused, answered `badRequest`, and not judged since memory ran out, and \
+how many edits are published. Where standard error is a terminal, it says there after each 100,000 lines how far it is.\n\n\
+Example:\n  lostd check --name lost.example --now 2026-01-01T00:00:00Z < examples/one-mapping.jsonl\n\n\
+Exit status: 0 where nothing is said of a line; 1 where standard input or output failed, the input was too long (more \
+lines than --lines allows) or memory ran out at the start; 2 for a mistake on the command line; 3 where something is \
+said of a line.";
+
+const SERVE_HELP: &str =
+    "It prints `ready` once both addresses are listened on. One connection to the desk's address gives desk lines \
+(`publish`, `replace`, `withdraw`, `commit`); each connection to the address of queries gives requests (`findService`, \
+`listServicesByLocation`, `listServices`, `getServiceBoundary`). Each line is one JSON object and gets one line of reply. \
+It begins with no mappings, and keeps nothing once it has ended: have the desk send its map after each start.\n\n\
+A worker answers one connection at a time, from its first line to its end; further ones wait. A connection ends where \
+its input ends, where it fails, or after 1,000,000 lines. When the desk's connection and all query connections have \
+ended, it prints `done lines=L faults=F`: the lines that were answered and the query connections that ended in a \
+fault.\n\n\
+Example, with a query from another shell:\n  \
+lostd serve --name lost.example --queries 127.0.0.1:5222 --desk 127.0.0.1:5223 --workers 4 --connections 1000\n  \
+echo '{\"listServices\":{}}' | nc -N 127.0.0.1 5222\n\n\
+Exit status: 0 when all connections have ended; 1 where an address cannot be used, no connection can be accepted, \
+standard output failed or memory ran out outside the connections; 2 for a mistake on the command line. SIGINT and \
+SIGTERM end it at once.";
+
+/// The whole command line.
+pub(crate) fn command<'a>(alloc: Global) -> Result<Command<'a>, Error> {
+    let command = Command::new(alloc, "lostd")
+        .about(
+            "A LoST server (RFC 5222) of JSON lines: it tells which emergency centre serves a place",
+        )
+        .version(VERSION)
+        .after_help(HELP)
+        .subcommand_required(true)
+        .subcommand(replay_command(alloc)?)?
+        .subcommand(check_command(alloc)?)?
+        .subcommand(serve_command(alloc)?)?;
+    Ok(command)
+}
+
+/// `lostd replay`.
+fn replay_command<'a>(alloc: Global) -> Result<Command<'a>, Error> {
+    let command = Command::new(alloc, "replay")
+        .about(
+            "Answers the desk lines and request lines of standard input, in order, from an empty book",
+        )
+        .after_help(REPLAY_HELP)
+        .arg(name_argument(alloc))?
+        .arg(now_argument(alloc))?
+        .arg(lines_argument(alloc))?
+        .arg(flag_argument(
+            alloc,
+            "summary",
+            "Says at the end on standard error how many lines were answered and refused",
+        ))?;
+    Ok(command)
+}
+
+/// `lostd check`.
+fn check_command<'a>(alloc: Global) -> Result<Command<'a>, Error> {
+    let command = Command::new(alloc, "check")
+        .about(
+            "Says which desk lines and request lines of standard input would be refused, and why",
+        )
+        .after_help(CHECK_HELP)
+        .arg(name_argument(alloc))?
+        .arg(now_argument(alloc))?
+        .arg(lines_argument(alloc))?
+        .arg(flag_argument(
+            alloc,
+            "quiet",
+            "Says nothing of the lines, and prints the counts alone",
+        ))?;
+    Ok(command)
+}
+
+/// `lostd serve`.
+fn serve_command<'a>(alloc: Global) -> Result<Command<'a>, Error> {
+    let command = Command::new(alloc, "serve")
+        .about("Answers requests over TCP, while a map desk edits the boundaries")
+        .after_help(SERVE_HELP)
+        .arg(name_argument(alloc))?
+        .arg(address_argument(
+            alloc,
+            "queries",
+            "Where requests are taken: an address of this machine and a port, as 127.0.0.1:5222",
+        ))?
+        .arg(address_argument(
+            alloc,
+            "desk",
+            "Where the desk's lines are taken, on one connection: an address of this machine and a port, as 127.0.0.1:5223",
+        ))?
+        .arg(workers_argument(alloc))?
+        .arg(connections_argument(alloc))?
+        .arg(idle_argument(alloc))?
+        .arg(flag_argument(
+            alloc,
+            "quiet",
+            "Says nothing of connections that end in a fault",
+        ))?;
+    Ok(command)
+}
+
+fn address_argument<'a>(alloc: Global, name: &'static str, help: &'static str) -> Arg<'a> {
+    Arg::new(alloc, name)
+        .long(name)
+        .value_name("HOST:PORT")
+        .required(true)
+        .action(ArgAction::Set)
+        .help(help)
+}
+
+fn number_argument<'a>(alloc: Global, name: &'static str, help: &'static str) -> Arg<'a> {
+    Arg::new(alloc, name)
+        .long(name)
+        .value_name("NUMBER")
+        .action(ArgAction::Set)
+        .help(help)
+}
+
+fn workers_argument<'a>(alloc: Global) -> Arg<'a> {
+    number_argument(
+        alloc,
+        "workers",
+        "How many threads answer requests, each one connection at a time: 1 to 64",
+    )
+    .value_parser(value_parser!(u32).range(1..=64))
+    .required(true)
+}
+
+fn connections_argument<'a>(alloc: Global) -> Arg<'a> {
+    number_argument(
+        alloc,
+        "connections",
+        "How many query connections are served before it ends: 1 to 1000000",
+    )
+    .value_parser(value_parser!(u32).range(1..=1_000_000))
+    .required(true)
+}
+
+fn idle_argument<'a>(alloc: Global) -> Arg<'a> {
+    number_argument(
+        alloc,
+        "idle",
+        "After how many seconds without a byte a query connection is ended: 0 to 86400, 0 for never",
+    )
+    .value_name("SECONDS")
+    .value_parser(value_parser!(u32).range(0..=86_400))
+    .default_value("300")
+}
+
+fn flag_argument<'a>(alloc: Global, name: &'static str, help: &'static str) -> Arg<'a> {
+    Arg::new(alloc, name)
+        .long(name)
+        .action(ArgAction::SetTrue)
+        .help(help)
+}
+
+fn lines_argument<'a>(alloc: Global) -> Arg<'a> {
+    number_argument(
+        alloc,
+        "lines",
+        "How many lines are read at most: 1 to 4294967295",
+    )
+    .value_parser(value_parser!(u32).range(1..))
+    .default_value("1000000")
+}
+
+fn name_argument<'a>(alloc: Global) -> Arg<'a> {
+    Arg::new(alloc, "name")
+        .long("name")
+        .value_name("NAME")
+        .required(true)
+        .action(ArgAction::Set)
+        .help(
+            "The server's name, as in a path: labels of letters, digits and hyphens, joined by single dots",
+        )
+}
+
+fn now_argument<'a>(alloc: Global) -> Arg<'a> {
+    Arg::new(alloc, "now")
+        .long("now")
+        .value_name("TIME")
+        .required(true)
+        .action(ArgAction::Set)
+        .help("The moment of every answer, in UTC, such as 2026-01-01T00:00:00Z")
+}

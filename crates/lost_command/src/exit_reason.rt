@@ -1,0 +1,105 @@
+//! What ends the program early: one line on standard error, and the exit status.
+ghost use Rattle.std.specs.Prelude.{◌≡◌, ◌≢◌};
+ghost use Rattle.std.specs.IoError.{error_kind};
+ghost use Rattle.std.specs.Process.{exit_status};
+ghost use Rattle.lost_command.specs.ExitReasons.{reason_status};
+
+use lost_lines::ServeError;
+use std::io;
+use std::io::ErrorKind;
+use std::process::ExitCode;
+
+/// The status of a run that could not be begun or ended.
+const RUN_FAULT: u8 = 1;
+
+/// The status of a mistake on the command line.
+const COMMAND_LINE: u8 = 2;
+
+/// The status of a check that said something of a line.
+const FOUND: u8 = 3;
+
+/// Why the program ends early (own rule).
+#[derive(Clone, Copy, PartialEq, Eq, Debug)]
+pub enum ExitReason {
+    /// The words of the command line could not be read.
+    Words,
+    /// The command line has a mistake, which was said already.
+    CommandLine,
+    /// `--name` is no name of a server.
+    Name,
+    /// `--now` is no time.
+    Now,
+    /// An address cannot be listened on, which was said already.
+    Address,
+    /// Standard input or output ended in a fault, or memory ran out.
+    Run(ServeError),
+    /// The number of workers is not one that a server may have.
+    Workers,
+    /// No more connections could be accepted.
+    Accept,
+    /// A check found lines that would be refused or not answered, which was said already.
+    Found,
+}
+
+impl ExitReason {
+    /// Memory ran out.
+    pub const MEMORY: ExitReason = ExitReason::Run(ServeError::Memory);
+
+    /// Why the words of the command line could not be read: memory ran out, or it was another error, as where they are not
+    /// UTF-8 (own rule).
+    pub fn of_words(error: &io::Error) -> ExitReason
+        ensures memory { error_kind error.now ≡ ErrorKind.OutOfMemory → result ≡ ExitReason.Run ServeError.Memory }
+        ensures words { error_kind error.now ≢ ErrorKind.OutOfMemory → result ≡ ExitReason.Words }
+    {
+        match error.kind() {
+            ErrorKind::OutOfMemory => ExitReason::MEMORY,
+            _ => ExitReason::Words,
+        }
+    }
+
+    /// What is said of it; nothing where it was said already. Of a bad word it is what stands behind the word (own rule).
+    pub fn text(self) -> &'static str {
+        match self {
+            ExitReason::Words => "the command line could not be read: is it UTF-8?",
+            ExitReason::CommandLine | ExitReason::Address | ExitReason::Found => "",
+            ExitReason::Name => {
+                "is not a server name: it must have 1 to 253 characters, in labels of letters, digits and hyphens joined by single dots, as lost.example"
+            }
+            ExitReason::Now => {
+                "is not a time: it must be written in UTC as 2026-01-01T00:00:00Z, with up to nine digits of a fraction of a second before the Z"
+            }
+            ExitReason::Run(ServeError::Read) => "standard input could not be read",
+            ExitReason::Run(ServeError::Write) => "standard output could not be written",
+            ExitReason::Run(ServeError::TurnsSpent) => {
+                "the input is too long: it has more lines than --lines allows, 1,000,000 where that is left out"
+            }
+            ExitReason::Run(ServeError::Memory) => "memory ran out",
+            ExitReason::Workers => "there must be 1 to 64 workers",
+            ExitReason::Accept => "no more connections could be accepted",
+        }
+    }
+
+    /// The exit status: 1 for a fault of the run, 2 for a mistake on the command line, 3 for what a check found (own rule).
+    pub fn status(self) -> u8
+        ensures { result ≡ reason_status self }
+    {
+        match self {
+            ExitReason::Address | ExitReason::Run(_) | ExitReason::Workers | ExitReason::Accept =>
+                RUN_FAULT,
+            ExitReason::Found => FOUND,
+            _ => COMMAND_LINE,
+        }
+    }
+
+    /// Says it on standard error, and gives the exit status. Where standard error fails too, the status still tells (own
+    /// rule).
+    pub fn report<R: Eprint>(self, rt: &R) -> ExitCode
+        ensures { exit_status result ≡ reason_status self }
+    {
+        let text = self.text();
+        if !text.is_empty() {
+            let _said = eprintln!(rt; "lostd: {text}");
+        }
+        ExitCode::from(self.status())
+    }
+}

@@ -1,0 +1,20 @@
+//! The command line of `lostd` (own rules): its words are read and judged, `replay` and `check` are run over standard input
+//! and output, and `serve` is ordered. What ends the program early is one line on standard error, and the exit status.
+#![tactic(auto)]
+
+mod arguments;
+mod checking;
+mod exit_reason;
+mod given;
+mod mistake;
+mod obeying;
+mod order;
+mod outcome;
+mod progress;
+mod replaying;
+
+pub use exit_reason::ExitReason;
+pub use given::{begin, server_name};
+pub use obeying::obey;
+pub use order::ServeOrder;
+pub use outcome::{check_outcome, end, replay_outcome};

@@ -1,0 +1,70 @@
+//! What the reader of the command line says: help, the version, and mistakes.
+use crate::exit_reason::ExitReason;
+use clap::Error;
+use clap::error::ErrorKind as ClapKind;
+use lost_lines::ServeError;
+use std::alloc::{AllocError, Global};
+
+/// Prints what the reader of the command line says, whose first word is `command`: help and the version on standard
+/// output, which end the program well, and a mistake as one line on standard error.
+pub(crate) fn show<R: Print + Eprint>(
+    rt: &R,
+    alloc: Global,
+    command: Option<&str>,
+    error: &Error,
+) -> Result<(), ExitReason> {
+    match error.kind() {
+        ClapKind::OutOfMemory => Err(ExitReason::MEMORY),
+        ClapKind::DisplayHelp | ClapKind::DisplayVersion => {
+            error
+                .print(rt)
+                .map_err(|_| ExitReason::Run(ServeError::Write))
+        }
+        _ => {
+            let Ok(line) = mistake_line(alloc, error) else {
+                return Err(ExitReason::MEMORY);
+            };
+            let hint = hint_of(command, error.kind(), line.as_str());
+            // Where standard error fails too, the status still tells.
+            let _said = eprintln!(rt; "lostd: {line}; {hint}");
+            Err(ExitReason::CommandLine)
+        }
+    }
+}
+
+/// What to do about a mistake on the command line, whose first word is `command`.
+fn hint_of(command: Option<&str>, kind: ClapKind, line: &str) -> &'static str {
+    match (kind, command) {
+        (ClapKind::MissingSubcommand | ClapKind::InvalidSubcommand, _) => "see `lostd --help`",
+        (_, Some("serve")) => "see `lostd serve --help`",
+        (ClapKind::UnknownArgument, _) if !line.starts_with("unexpected argument '-") => {
+            "standard input is read: use `< FILE`"
+        }
+        (_, Some("check")) => "see `lostd check --help`",
+        _ => "see `lostd replay --help`",
+    }
+}
+
+/// A mistake on one line: the first paragraph of its text, without the word `error:` before it.
+fn mistake_line(alloc: Global, error: &Error) -> Result<String, AllocError> {
+    let text = format!(in alloc; "{error}")?;
+    let mut line = String::new(alloc);
+    for word in first_paragraph(text.as_str())
+        .split_ascii_whitespace()
+        .skip(1)
+    {
+        if !line.is_empty() {
+            line.push(' ')?;
+        }
+        line.push_str(word)?;
+    }
+    Ok(line)
+}
+
+/// A text up to its first empty line.
+fn first_paragraph(text: &str) -> &str {
+    match text.split_once("\n\n") {
+        Some((first, _)) => first,
+        None => text,
+    }
+}

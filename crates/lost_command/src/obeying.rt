@@ -1,0 +1,50 @@
+//! What the words of the command line say is done.
+use crate::arguments::command;
+use crate::checking::check_standard_input;
+use crate::exit_reason::ExitReason;
+use crate::mistake::show;
+use crate::order::{ServeOrder, order_of};
+use crate::replaying::replay_standard_streams;
+use clap::ArgMatches;
+
+/// Does what the words of the command line say, but for serving connections: what is ordered of that, it gives (own rule).
+/// `is_terminal` says whether standard error is a terminal.
+///
+/// # Errors
+/// What ends the program early. It was said on standard error where its text is empty; else the caller says it.
+pub fn obey<'a, R: Print + Eprint + Input + AllocGlobal>(
+    rt: &R,
+    words: &'a [String],
+    is_terminal: bool,
+) -> Result<Option<ServeOrder<'a>>, ExitReason> {
+    let Ok(command) = command(rt.alloc()) else {
+        return Err(ExitReason::MEMORY);
+    };
+    match command.try_get_matches_from(words) {
+        Ok(matches) => match matches.subcommand() {
+            Some((first, given)) => obey_first(rt, first, given, is_terminal),
+            None => Err(ExitReason::Words),
+        },
+        Err(error) => {
+            let first = words.get(1).map(|word| word.as_str());
+            show(rt, rt.alloc(), first, &error)?;
+            Ok(None)
+        }
+    }
+}
+
+/// Does what the first word and the arguments behind it say.
+fn obey_first<'a, R: Print + Eprint + Input + AllocGlobal>(
+    rt: &R,
+    first: &str,
+    given: &ArgMatches<'a>,
+    is_terminal: bool,
+) -> Result<Option<ServeOrder<'a>>, ExitReason> {
+    match first {
+        "replay" => replay_standard_streams(rt, given, is_terminal)?,
+        "check" => check_standard_input(rt, given, is_terminal)?,
+        "serve" => return Ok(Some(order_of(rt, given)?)),
+        _ => return Err(ExitReason::Words),
+    }
+    Ok(None)
+}

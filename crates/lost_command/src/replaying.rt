@@ -1,0 +1,84 @@
+//! `lostd replay`: standard input is answered on standard output.
+use crate::exit_reason::ExitReason;
+use crate::given::begin;
+use crate::outcome::replay_outcome;
+use clap::ArgMatches;
+use lost_mapping::{Moment, Source};
+use lost_replay::{Summary, Turns, Watched, replay_summed};
+use std::io;
+
+/// Answers standard input on standard output, as the arguments say. Where it is wanted, or where `is_terminal` says that
+/// standard error is one, what was counted is said there at the end.
+pub(crate) fn replay_standard_streams<R: Print + Eprint + Input + AllocGlobal>(
+    rt: &R,
+    given: &ArgMatches<'_>,
+    is_terminal: bool,
+) -> Result<(), ExitReason> {
+    let (name, moment) = begun(rt, given)?;
+    let is_summed = is_terminal || given.get_flag("summary");
+    let mut input = Watched::new(rt.reader());
+    let mut output = Watched::new(io::writer(rt));
+    let mut summary = Summary::default();
+    let replayed = replay_summed(
+        rt.alloc(),
+        &mut input,
+        &mut output,
+        &name,
+        &moment,
+        turns_of(given),
+        &mut summary,
+    );
+    if let Ok(counts) = replayed {
+        if is_summed {
+            say_summary(rt, counts.lines, summary);
+        }
+    }
+    replay_outcome(replayed)
+}
+
+/// Says on standard error what was counted of a replay.
+fn say_summary<R: Eprint>(rt: &R, lines: u64, summary: Summary) {
+    // Where standard error fails, the status still tells.
+    let _said = eprintln!(rt;
+        "lostd: done lines={lines} refused={} edition={}",
+        summary.refused, summary.edition
+    );
+}
+
+/// The server's name and the moment of every answer that the arguments give. What is wrong with them is said.
+pub(crate) fn begun<R: Eprint + AllocGlobal>(
+    rt: &R,
+    given: &ArgMatches<'_>,
+) -> Result<(Source, Moment), ExitReason> {
+    let name = given.get_str("name").unwrap_or("");
+    let now = given.get_str("now").unwrap_or("");
+    match begin(rt.alloc(), name, now) {
+        Ok(begun) => Ok(begun),
+        Err(reason) => Err(said_of(rt, reason, name, now)),
+    }
+}
+
+/// How many lines are read at most, as the arguments say, and how many reads are made: 100 for each of them, as
+/// [`Turns::USUAL`] has, and no fewer than that has.
+pub(crate) fn turns_of(given: &ArgMatches<'_>) -> Turns {
+    match given.get_one::<u32>("lines") {
+        Some(lines) => Turns {
+            lines: u64::from(lines),
+            reads: u64::from(lines).saturating_mul(100).max(Turns::USUAL.reads),
+        },
+        None => Turns::USUAL,
+    }
+}
+
+/// Says of a bad name or a bad moment which word it is, and gives the reason of a mistake that was said already; any
+/// other reason is given as it is.
+pub(crate) fn said_of<R: Eprint>(rt: &R, reason: ExitReason, name: &str, now: &str) -> ExitReason {
+    let text = reason.text();
+    // Where standard error fails, the status still tells.
+    let _said = match reason {
+        ExitReason::Name => eprintln!(rt; "lostd: --name '{name}' {text}"),
+        ExitReason::Now => eprintln!(rt; "lostd: --now '{now}' {text}"),
+        _ => return reason,
+    };
+    ExitReason::CommandLine
+}

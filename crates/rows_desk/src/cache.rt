@@ -1,0 +1,116 @@
+//! A desk and two readers: one has a cache of one place, and the other one answers over a keeper of one set that counts its
+//! calls. First come the capacities that are refused, and last the counts.
+
+use crate::counting::Counting;
+use crate::orders::{is_ordered, print_reply};
+use crate::setting::{Setting, limits};
+use lost_desk::{Desk, Reader, Readers, open_desk};
+use lost_spec::Coded;
+use lost_worker::CachedReader;
+use std::alloc::AllocError;
+use std::rt::Files;
+use std::sync::Wait;
+use std::{fs, io};
+
+/// What parts the sessions of the file.
+const NEXT: &str = "next\n";
+
+/// Runs the sessions of `cache.lines`, each with a desk of its own.
+pub(crate) fn run<R: Files + Wait + Print + AllocGlobal>(rt: &R) -> io::Result<()> {
+    let text = fs::read_to_string(rt, "cache.lines")?;
+    for session in text.as_str().split(NEXT) {
+        run_session(rt, session)?;
+    }
+    Ok(())
+}
+
+/// Runs the lines of a session.
+fn run_session<R: Wait + Print + AllocGlobal>(rt: &R, text: &str) -> io::Result<()> {
+    match open_desk(rt, rt.alloc(), limits(), 2) {
+        Ok((mut desk, mut readers)) => {
+            let result = take_and_answer(rt, &mut desk, &mut readers, text);
+            desk.close(rt);
+            result
+        }
+        Err(error) => println!(rt; "open: {}", error.code()),
+    }
+}
+
+/// Takes both readers, says which capacities are refused, and answers lines.
+fn take_and_answer<R: Wait + Print + AllocGlobal>(
+    rt: &R,
+    desk: &mut Desk,
+    readers: &mut Readers,
+    text: &str,
+) -> io::Result<()> {
+    let setting = Setting::new(rt.alloc())?;
+    let Some(mut cached) = cached(rt, readers)? else {
+        return Ok(());
+    };
+    let Some(mut reader) = readers.take() else {
+        return Ok(());
+    };
+    answer_lines(rt, desk, &mut cached, &mut reader, &setting, text)
+}
+
+/// A reader with a cache of one place, once it was refused caches of too few and too many.
+fn cached<R: Print + AllocGlobal>(
+    rt: &R,
+    readers: &mut Readers,
+) -> io::Result<Option<CachedReader>> {
+    let Some(reader) = readers.take() else {
+        return Ok(None);
+    };
+    let reader = refused(rt, reader, 0)?;
+    let reader = refused(rt, reader, 65_537)?;
+    match CachedReader::new(rt.alloc(), reader, 1) {
+        Ok(cached) => Ok(Some(cached)),
+        Err(_) => Err(AllocError.into()),
+    }
+}
+
+/// Says how a reader is refused a cache of so many places, and gives the reader that is handed back.
+fn refused<R: Print + AllocGlobal>(rt: &R, reader: Reader, capacity: u32) -> io::Result<Reader> {
+    match CachedReader::new(rt.alloc(), reader, capacity) {
+        Ok(_) => {
+            println!(rt; "capacity {capacity}: taken")?;
+            Err(AllocError.into())
+        }
+        Err(refusal) => {
+            println!(rt;
+                "capacity {capacity}: refused, code {}",
+                refusal.code.code()
+            )?;
+            Ok(refusal.reader)
+        }
+    }
+}
+
+/// Answers each line that is not empty, and prints the counts.
+#[tactic(auto, using(crate::proofs::CountingLemmas::nothing_is_right))]
+fn answer_lines<R: Wait + Print + AllocGlobal>(
+    rt: &R,
+    desk: &mut Desk,
+    cached: &mut CachedReader,
+    reader: &mut Reader,
+    setting: &Setting,
+    text: &str,
+) -> io::Result<()> {
+    let (name, moment) = (&setting.name, &setting.moment);
+    let mut sets = Counting::new();
+    for line in text.lines() {
+        if !line.is_empty() && !is_ordered(rt, desk, line)? {
+            let bytes = line.as_bytes();
+            print_reply(rt, cached.reply_line(rt.alloc(), name, moment, bytes))?;
+            print_reply(
+                rt,
+                reader.reply_line_over(rt.alloc(), &mut sets, name, moment, bytes),
+            )?;
+        }
+    }
+    println!(rt; "hits {}", cached.hits())?;
+    println!(rt;
+        "finds {}, sets {}, keeps {}",
+        sets.finds, sets.found, sets.keeps
+    )
+}

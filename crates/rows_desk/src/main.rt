@@ -1,0 +1,59 @@
+//! Runs the rows of a desk and its readers. Each word of the command line is a command, and the commands run in turn:
+//!
+//! - `desk`: the lines of `desk.lines`, for a desk and one reader. A desk line goes to the desk, `tell` has the reader learn
+//!   what the desk tells, and any other line goes to the reader.
+//! - `cache`: the lines of `cache.lines`, for a desk and two readers, of which one has a cache and the other one counts
+//!   what it finds. A desk line goes to the desk, any other line to both. The line `next` ends a session, and the next one
+//!   has a desk of its own.
+//! - `threads`: a desk in one thread and a reader in another, a thousand times.
+//!
+//! Each answer is a line of the output.
+#![tactic(auto)]
+
+mod cache;
+mod counting;
+mod desk;
+mod orders;
+mod setting;
+mod threads;
+
+use std::process::ExitCode;
+use std::rt::{Env, Files};
+use std::sync::Wait;
+use std::thread::Threads;
+use std::{env, io};
+
+/// The commands.
+const COMMANDS: [&str; 3] = ["desk", "cache", "threads"];
+
+/// The status where no command is given, or one that is unknown.
+const COMMAND_LINE: u8 = 2;
+
+fn main(rt: HostRuntime) -> io::Result<ExitCode> {
+    let mut is_known = false;
+    for word in env::args(&rt)?.skip(1) {
+        is_known = COMMANDS.contains(&word.as_str());
+        if !is_known {
+            break;
+        }
+        run(&rt, word.as_str())?;
+    }
+    if is_known {
+        return Ok(ExitCode::SUCCESS);
+    }
+    eprintln!(rt; "rows_desk: give one or more of the words desk, cache, threads")?;
+    Ok(ExitCode::from(COMMAND_LINE))
+}
+
+/// Runs a command.
+fn run<R: Files + Threads + Wait + Sync + Print + AllocGlobal>(
+    rt: &R,
+    command: &str,
+) -> io::Result<()> {
+    println!(rt; "== {command}")?;
+    match command {
+        "desk" => desk::run(rt),
+        "cache" => cache::run(rt),
+        _ => threads::run(rt),
+    }
+}

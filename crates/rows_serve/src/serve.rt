@@ -1,0 +1,53 @@
+//! Desks and clients of a server, over connections of this machine.
+mod bench;
+mod clients;
+mod desks;
+mod first_waits;
+mod lines;
+mod parties;
+mod scenes;
+
+use bench::Bench;
+use scenes::Stage;
+use std::io;
+use std::net::{Net, TcpListener, TcpStream};
+use std::random::RandomSource;
+use std::sync::Wait;
+use std::thread::Threads;
+use std::time::Clock;
+
+/// The scenes, in turn.
+const SCENES: [&str; 4] = [
+    "a query beside the desk",
+    "a gate",
+    "no workers",
+    "eight clients beside commits",
+];
+
+/// Plays each scene, and prints what was replied and counted.
+pub(crate) fn run<
+    R: Net<Listener = TcpListener, Stream = TcpStream>
+        + Threads
+        + Wait
+        + Clock
+        + Eprint
+        + Print
+        + RandomSource
+        + Clone
+        + Send
+        + Sync
+        + AllocGlobal,
+>(rt: &R) -> io::Result<()> {
+    for scene in SCENES {
+        println!(rt; "-- {scene}")?;
+        let bench = Bench::new(rt)?;
+        let stage = Stage { rt, bench: &bench };
+        match scene {
+            "a query beside the desk" => stage.loopback(),
+            "a gate" => stage.gate(),
+            "no workers" => stage.no_workers(),
+            _ => stage.eight_clients(),
+        }?;
+    }
+    Ok(())
+}

@@ -1,0 +1,22 @@
+//! A gate that two workers share.
+use lost_server::Gate;
+use std::time::Clock;
+use test_fakes::Meeting;
+
+/// Holds the first line that it is asked for until another was answered, and refuses it where none is in time.
+#[derive(Drop)]
+pub(crate) struct FirstWaits<'r, R: Clock>(pub(crate) Meeting<'r, R>);
+
+impl<R: Clock> Gate for FirstWaits<'_, R> {
+    ghost says = { λ _ _ _. Unit {0} };
+
+    const IS_OPEN: bool = false;
+
+    fn before_reply(&self, _line: u64) -> bool {
+        self.0.come()
+    }
+
+    fn after_reply(&self, _line: u64) {
+        self.0.leave();
+    }
+}

@@ -1,0 +1,109 @@
+//! Those that a server serves.
+use super::bench::{Bench, Line};
+use super::clients::{Found, ask_all};
+use super::desks::{ask, commit_all};
+use super::lines::{COMMIT, PUBLISH, QUESTION};
+use std::alloc::Global;
+use std::io;
+use std::net::{Net, TcpListener, TcpStream};
+use std::thread::{Threads, join, map_indices};
+use std::time::Clock;
+
+/// How many clients there are beside the commits.
+const CLIENTS: usize = 8;
+
+/// The replies to an edit, a commit and a query, in this order. The desk's connection ends last.
+pub(crate) fn desk_and_query<R: Net<Listener = TcpListener, Stream = TcpStream>>(
+    rt: &R,
+    alloc: Global,
+    bench: &Bench,
+) -> io::Result<Vec<String>> {
+    let mut desk = Line::to_desk(rt, alloc, bench)?;
+    let mut replies = Vec::new(alloc);
+    edit_and_query(rt, alloc, bench, &mut desk, &mut replies)?;
+    Ok(replies)
+}
+
+/// Adds the replies to an edit and a commit of a desk, and to a query.
+fn edit_and_query<R: Net<Listener = TcpListener, Stream = TcpStream>>(
+    rt: &R,
+    alloc: Global,
+    bench: &Bench,
+    desk: &mut Line,
+    replies: &mut Vec<String>,
+) -> io::Result<()> {
+    for line in [PUBLISH, COMMIT] {
+        replies.push(ask(alloc, desk, line)?)?;
+    }
+    let mut query = Line::to_queries(rt, alloc, bench)?;
+    replies.push(ask(alloc, &mut query, QUESTION)?)?;
+    Ok(())
+}
+
+/// A desk that sends nothing, and two connections of one line each. Gives how many replies came.
+pub(crate) fn two_queries<R: Net<Listener = TcpListener, Stream = TcpStream>>(
+    rt: &R,
+    alloc: Global,
+    bench: &Bench,
+) -> io::Result<u32> {
+    drop(Line::to_desk(rt, alloc, bench)?);
+    let mut one = Line::to_queries(rt, alloc, bench)?;
+    let mut other = Line::to_queries(rt, alloc, bench)?;
+    one.send(QUESTION)?;
+    other.send(QUESTION)?;
+    let first = one.reply(alloc).is_ok();
+    drop(one);
+    let second = other.reply(alloc).is_ok();
+    Ok(u32::from(first) + u32::from(second))
+}
+
+/// What the desk and the clients give, each in a thread of its own.
+pub(crate) fn beside_commits<
+    R: Net<Listener = TcpListener, Stream = TcpStream> + Threads + Clock + Sync,
+>(rt: &R, alloc: Global, bench: &Bench) -> (io::Result<bool>, io::Result<Found>) {
+    join(
+        rt,
+        || desk_beside(rt, alloc, bench),
+        || clients_beside(rt, alloc, bench),
+    )
+}
+
+/// The desk, which commits again and again.
+fn desk_beside<R: Net<Listener = TcpListener, Stream = TcpStream> + Clock>(
+    rt: &R,
+    alloc: Global,
+    bench: &Bench,
+) -> io::Result<bool> {
+    let mut desk = Line::to_desk(rt, alloc, bench)?;
+    commit_all(rt, alloc, &mut desk)
+}
+
+/// The clients, each in a thread of its own.
+fn clients_beside<R: Net<Listener = TcpListener, Stream = TcpStream> + Threads + Sync>(
+    rt: &R,
+    alloc: Global,
+    bench: &Bench,
+) -> io::Result<Found> {
+    let results = map_indices(
+        rt,
+        alloc,
+        CLIENTS,
+        &|number| client(rt, alloc, bench, number),
+    )?;
+    let mut sum = Found::default();
+    for result in results.into_iter() {
+        sum = sum.plus(result?);
+    }
+    Ok(sum)
+}
+
+/// A client: the even ones send one line at a time.
+fn client<R: Net<Listener = TcpListener, Stream = TcpStream>>(
+    rt: &R,
+    alloc: Global,
+    bench: &Bench,
+    number: usize,
+) -> io::Result<Found> {
+    let mut line = Line::to_queries(rt, alloc, bench)?;
+    ask_all(alloc, &mut line, number % 2 == 0)
+}

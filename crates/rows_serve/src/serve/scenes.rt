@@ -1,0 +1,130 @@
+//! The scenes: a server in one thread, and those that it serves in others.
+use super::bench::Bench;
+use super::first_waits::FirstWaits;
+use super::parties::{beside_commits, desk_and_query, two_queries};
+use lost_server::{ConnectionSettings, Counts, Gate, NoGate, RunFault, serve};
+use std::io;
+use std::net::{Net, TcpListener, TcpStream};
+use std::random::RandomSource;
+use std::sync::Wait;
+use std::thread::{Threads, join};
+use std::time::{Clock, Duration};
+use test_fakes::Meeting;
+
+/// How long a connection may be idle, in seconds.
+const IDLE: u64 = 30;
+
+/// Where a scene plays.
+#[derive(Drop)]
+pub(crate) struct Stage<'a, R> {
+    pub(crate) rt: &'a R,
+    pub(crate) bench: &'a Bench,
+}
+
+impl<
+    R: Net<Listener = TcpListener, Stream = TcpStream>
+        + Threads
+        + Wait
+        + Clock
+        + Eprint
+        + Print
+        + RandomSource
+        + Clone
+        + Send
+        + Sync
+        + AllocGlobal,
+> Stage<'_, R> {
+    /// Serves so many connections by so many workers.
+    fn serve_bench<G: Gate + Sync>(
+        &self,
+        workers: u32,
+        connections: u32,
+        gate: &G,
+    ) -> Result<Counts, RunFault> {
+        let manners = ConnectionSettings {
+            idle: Some(Duration::from_secs(IDLE)),
+            is_quiet: false,
+        };
+        serve(
+            self.rt,
+            self.rt.alloc(),
+            &self.bench.name,
+            &self.bench.queries,
+            &self.bench.desk,
+            workers,
+            connections,
+            gate,
+            manners,
+        )
+    }
+
+    /// One worker and one connection: the desk publishes and commits, and stays while the query is answered.
+    pub(crate) fn loopback(&self) -> io::Result<()> {
+        let (rt, bench) = (self.rt, self.bench);
+        let (served, asked) = join(
+            rt,
+            || self.serve_bench(1, 1, &NoGate),
+            || desk_and_query(rt, rt.alloc(), bench),
+        );
+        for reply in asked?.iter() {
+            println!(rt; "{reply}")?;
+        }
+        self.tell(served)
+    }
+
+    /// Two workers and two connections of one line each: the gate holds the first reply until the other was given.
+    pub(crate) fn gate(&self) -> io::Result<()> {
+        let (rt, bench) = (self.rt, self.bench);
+        let gate = FirstWaits(Meeting::new(rt));
+        let (served, asked) = join(
+            rt,
+            || self.serve_bench(2, 2, &gate),
+            || two_queries(rt, rt.alloc(), bench),
+        );
+        println!(rt; "replies {}", asked?)?;
+        self.tell(served)
+    }
+
+    /// Too few workers, and too many.
+    pub(crate) fn no_workers(&self) -> io::Result<()> {
+        self.tell(self.serve_bench(0, 1, &NoGate))?;
+        self.tell(self.serve_bench(65, 1, &NoGate))
+    }
+
+    /// Eight clients of four workers, half of which send one line at a time, while a desk commits.
+    pub(crate) fn eight_clients(&self) -> io::Result<()> {
+        let (rt, bench) = (self.rt, self.bench);
+        let (served, (committed, found)) = join(
+            rt,
+            || self.serve_bench(4, 8, &NoGate),
+            || beside_commits(rt, rt.alloc(), bench),
+        );
+        println!(rt; "each edit was staged and committed: {}", committed?)?;
+        let found = found?;
+        println!(rt;
+            "replies that are right for their edition {}, editions that fell {}",
+            found.right, found.fell
+        )?;
+        self.tell(served)
+    }
+
+    /// Prints what was counted.
+    fn tell(&self, served: Result<Counts, RunFault>) -> io::Result<()> {
+        match served {
+            Ok(counts) => println!(self.rt;
+                "lines {} long {} memory {} faults {}",
+                counts.lines, counts.long_lines, counts.memory, counts.faults
+            ),
+            Err(fault) => println!(self.rt; "fault {}", number_of(fault)),
+        }
+    }
+}
+
+/// The number of a fault in the output.
+fn number_of(fault: RunFault) -> u8 {
+    match fault {
+        RunFault::Workers => 1,
+        RunFault::Accept => 2,
+        RunFault::Memory => 3,
+    }
+}

@@ -1,0 +1,62 @@
+//! The commands of the hostile script.
+use crate::by::By;
+use crate::faults::{tell_faults, tell_marks};
+use crate::script::{Server, no_command, run_script};
+use crate::setting::Setting;
+use crate::stream::Stream;
+use crate::sweeps::{Sweep, reads, spaces, whole, writes};
+use crate::worker::work;
+use std::io;
+use std::sync::Wait;
+
+/// Serves each stream anew.
+#[derive(Drop)]
+struct Anew<'s> {
+    setting: &'s Setting,
+}
+
+/// Runs the script.
+pub(crate) fn run<R: Wait + Print + AllocGlobal>(rt: &R, script: &str) -> io::Result<()> {
+    let setting = Setting::new(rt.alloc())?;
+    run_script(rt, &mut Anew { setting: &setting }, script)
+}
+
+impl<R: Wait + Print + AllocGlobal> Server<R> for Anew<'_> {
+    fn serve(&mut self, rt: &R, stream: &Stream, command: &str) -> io::Result<()> {
+        let bytes = stream.bytes.as_slice();
+        match command {
+            "worker" => work(rt, self.setting, bytes),
+            "faults" => tell_faults(rt),
+            "marks" => tell_marks(rt),
+            _ => match command.split_once(' ') {
+                Some((who, how)) => serve_by(rt, self.setting, bytes, who, how),
+                None => no_command(rt),
+            },
+        }
+    }
+}
+
+/// Serves a stream by whom and how two words say.
+fn serve_by<R: Wait + Print + AllocGlobal>(
+    rt: &R,
+    setting: &Setting,
+    bytes: &[u8],
+    who: &str,
+    how: &str,
+) -> io::Result<()> {
+    let Some(by) = By::named(who) else {
+        return no_command(rt);
+    };
+    let sweep = Sweep { setting, by, bytes };
+    match how.split_once(' ') {
+        Some(("reads", count)) => reads(rt, &sweep, count.parse::<usize>().unwrap_or(1)),
+        Some(_) => no_command(rt),
+        None => match how {
+            "whole" => whole(rt, &sweep, usize::MAX),
+            "bytes" => whole(rt, &sweep, 1),
+            "writes" => writes(rt, &sweep),
+            "spaces" => spaces(rt, &sweep),
+            _ => no_command(rt),
+        },
+    }
+}

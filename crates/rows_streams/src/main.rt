@@ -1,0 +1,72 @@
+//! Serves streams, and prints how each went. Each word of the command line is a command, and the commands run in turn:
+//!
+//! - `streams`: the script `streams.lines`, over a desk and two readers that stay. `desk`, `queries`, `pair` and `workers`
+//!   serve a stream: by the desk, by a reader, by two readers in two threads, of which the first waits until the second has
+//!   answered, and by two workers whose first line waits until another was answered.
+//! - `hostile`: the script `hostile.lines`, over readers and writers that fail. A command that begins with `replay`, `desk`
+//!   or `queries` has a stream served by a replay, by a desk or by a reader of a desk: `whole`; `bytes`, a byte at a time;
+//!   `reads NUMBER`, in pieces of so many bytes, once for each read, which fails; `writes`, once for each write, which fails
+//!   or takes no byte; `spaces`, where spaces come for ever. `worker` has one worker serve it twice, first where the first
+//!   read fails. `faults` prints the texts of all faults, and `marks` the answers where memory is refused.
+//!
+//! Other lines of a script prepare the next stream: `line TEXT`, `last TEXT` (without byte 10), `long NUMBER` (so many
+//! bytes), `byte NUMBER` and `filled NUMBER TEXT` (with spaces behind it, so many bytes in all) add to it; `turns LINES` says
+//! how many lines are answered at most; `refuse LINE` has the gate refuse a line.
+#![tactic(auto)]
+
+mod by;
+mod faults;
+mod holding;
+mod hostile;
+mod pair;
+mod script;
+mod seat;
+mod setting;
+mod stream;
+mod streams;
+mod sweeps;
+mod telling;
+mod worker;
+mod workers;
+
+use std::process::ExitCode;
+use std::rt::{Env, Files};
+use std::sync::Wait;
+use std::thread::Threads;
+use std::time::Clock;
+use std::{env, fs, io};
+
+/// The commands.
+const COMMANDS: [&str; 2] = ["streams", "hostile"];
+
+/// The status where no command is given, or one that is unknown.
+const COMMAND_LINE: u8 = 2;
+
+fn main(rt: HostRuntime) -> io::Result<ExitCode> {
+    let mut is_known = false;
+    for word in env::args(&rt)?.skip(1) {
+        is_known = COMMANDS.contains(&word.as_str());
+        if !is_known {
+            break;
+        }
+        run(&rt, word.as_str())?;
+    }
+    if is_known {
+        return Ok(ExitCode::SUCCESS);
+    }
+    eprintln!(rt; "rows_streams: give one or more of the words streams, hostile")?;
+    Ok(ExitCode::from(COMMAND_LINE))
+}
+
+/// Runs the script of a command.
+fn run<R: Files + Threads + Wait + Clock + Sync + Print + AllocGlobal>(
+    rt: &R,
+    command: &str,
+) -> io::Result<()> {
+    println!(rt; "== {command}")?;
+    let script = fs::read_to_string(rt, format!(in rt.alloc(); "{command}.lines")?.as_str())?;
+    match command {
+        "streams" => streams::run(rt, script.as_str()),
+        _ => hostile::run(rt, script.as_str()),
+    }
+}

@@ -1,0 +1,67 @@
+//! A stream that is prepared.
+use lost_worker::Turns;
+use std::alloc::{AllocError, Global};
+
+/// The bytes of a stream, how long it is served, and which line the gate refuses.
+#[derive(Drop)]
+pub(crate) struct Stream {
+    pub(crate) bytes: Vec<u8>,
+    pub(crate) turns: Turns,
+    pub(crate) refused: Option<u64>,
+}
+
+impl Stream {
+    /// A stream with no bytes.
+    pub(crate) fn new(alloc: Global) -> Stream {
+        Stream {
+            bytes: Vec::new(alloc),
+            turns: Turns::USUAL,
+            refused: None,
+        }
+    }
+
+    /// Prepares the stream as a line of a script says; false where the line does not prepare it.
+    pub(crate) fn is_prepared(&mut self, line: &str) -> Result<bool, AllocError> {
+        let Some((word, rest)) = line.split_once(' ') else {
+            return Ok(false);
+        };
+        match word {
+            "line" => self.add_filled(rest, 0)?,
+            "last" => self.bytes.extend_from_slice(rest.as_bytes())?,
+            "long" => self.add_long(number(rest))?,
+            "byte" => self.bytes.push(rest.parse::<u8>().unwrap_or(0))?,
+            "filled" => {
+                let (count, text) = rest.split_once(' ').unwrap_or(("", rest));
+                self.add_filled(text, number(count))?;
+            }
+            "turns" => self.turns.lines = number(rest),
+            "refuse" => self.refused = Some(number(rest)),
+            _ => return Ok(false),
+        }
+        Ok(true)
+    }
+
+    /// Adds a line of a text and of spaces behind it, of at least so many bytes in all.
+    fn add_filled(&mut self, text: &str, least: u64) -> Result<(), AllocError> {
+        self.bytes.extend_from_slice(text.as_bytes())?;
+        for _ in text.len() as u64..least {
+            self.bytes.push(b' ')?;
+        }
+        self.bytes.push(b'\n')?;
+        Ok(())
+    }
+
+    /// Adds a line of so many bytes.
+    fn add_long(&mut self, count: u64) -> Result<(), AllocError> {
+        for _ in 0..count {
+            self.bytes.push(b'x')?;
+        }
+        self.bytes.push(b'\n')?;
+        Ok(())
+    }
+}
+
+/// The number that a text spells, or 0.
+fn number(text: &str) -> u64 {
+    text.parse::<u64>().unwrap_or(0)
+}

@@ -1,0 +1,129 @@
+//! The commands of the script of streams: what is served, by whom.
+use crate::holding::Holding;
+use crate::pair::serve_pair;
+use crate::script::{Server, no_command, run_script};
+use crate::setting::{Setting, limits};
+use crate::stream::Stream;
+use crate::telling::tell;
+use crate::workers::serve_two;
+use lost_desk::{Desk, Readers, open_desk};
+use lost_spec::Coded;
+use lost_worker::{Gate, NoGate, Replier, Watched, serve_desk, serve_lines};
+use std::io;
+use std::sync::Wait;
+use std::thread::Threads;
+use std::time::Clock;
+
+/// A desk and two of its readers.
+#[derive(Drop)]
+struct Bench<'d, P> {
+    desk: &'d mut Desk,
+    first: &'d mut P,
+    second: &'d mut P,
+    setting: &'d Setting,
+}
+
+/// Runs the script over a desk with two readers.
+pub(crate) fn run<R: Threads + Wait + Clock + Sync + Print + AllocGlobal>(
+    rt: &R,
+    script: &str,
+) -> io::Result<()> {
+    match open_desk(rt, rt.alloc(), limits(), 2) {
+        Ok((mut desk, mut readers)) => {
+            let result = run_bench(rt, &mut desk, &mut readers, script);
+            desk.close(rt);
+            result
+        }
+        Err(error) => println!(rt; "open: {}", error.code()),
+    }
+}
+
+/// Runs the script over a desk and both readers.
+fn run_bench<R: Threads + Wait + Clock + Sync + Print + AllocGlobal>(
+    rt: &R,
+    desk: &mut Desk,
+    readers: &mut Readers,
+    script: &str,
+) -> io::Result<()> {
+    let setting = Setting::new(rt.alloc())?;
+    let (Some(mut first), Some(mut second)) = (readers.take(), readers.take()) else {
+        return Ok(());
+    };
+    let mut bench = Bench {
+        desk,
+        first: &mut first,
+        second: &mut second,
+        setting: &setting,
+    };
+    run_script(rt, &mut bench, script)
+}
+
+impl<R: Threads + Wait + Clock + Sync + Print + AllocGlobal, P: Replier + Send> Server<R>
+    for Bench<'_, P> {
+    fn serve(&mut self, rt: &R, stream: &Stream, command: &str) -> io::Result<()> {
+        match command {
+            "desk" => serve_by_desk(rt, self.desk, stream),
+            "queries" => serve_queries(rt, self.first, self.setting, stream),
+            "pair" => serve_pair(rt, self.first, self.second, self.setting, stream),
+            "workers" => serve_two(rt, self.first, self.second, self.setting, stream),
+            _ => no_command(rt),
+        }
+    }
+}
+
+/// Serves a stream by the desk.
+fn serve_by_desk<R: Wait + Print + AllocGlobal>(
+    rt: &R,
+    desk: &mut Desk,
+    stream: &Stream,
+) -> io::Result<()> {
+    let alloc = rt.alloc();
+    let mut input = Watched::new(stream.bytes.as_slice());
+    let mut output = Watched::new(Vec::new(alloc));
+    let result = serve_desk(rt, alloc, &mut input, &mut output, desk, stream.turns);
+    let written: Vec<u8> = output.into_inner();
+    tell(rt, written.as_slice(), result)
+}
+
+/// Serves a stream by a reader, through a gate where a line is refused.
+fn serve_queries<R: Clock + Print + AllocGlobal, P: Replier>(
+    rt: &R,
+    replier: &mut P,
+    setting: &Setting,
+    stream: &Stream,
+) -> io::Result<()> {
+    match stream.refused {
+        Some(refused) => {
+            let gate: Holding<'_, R> = Holding::From(refused);
+            serve_through(rt, replier, setting, &gate, stream)
+        }
+        None => serve_through(rt, replier, setting, &NoGate, stream),
+    }
+}
+
+/// Serves a stream by a reader through a gate.
+fn serve_through<R: Print + AllocGlobal, P: Replier, G: Gate>(
+    rt: &R,
+    replier: &mut P,
+    setting: &Setting,
+    gate: &G,
+    stream: &Stream,
+) -> io::Result<()> {
+    let alloc = rt.alloc();
+    let mut input = Watched::new(stream.bytes.as_slice());
+    let mut output = Watched::new(Vec::new(alloc));
+    let mut moments = setting.moments();
+    let name = &setting.name;
+    let result = serve_lines(
+        alloc,
+        &mut input,
+        &mut output,
+        replier,
+        name,
+        &mut moments,
+        gate,
+        stream.turns,
+    );
+    let written: Vec<u8> = output.into_inner();
+    tell(rt, written.as_slice(), result)
+}

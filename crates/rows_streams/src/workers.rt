@@ -1,0 +1,119 @@
+//! Two workers, each in a thread of its own.
+ghost use Rattle.std.specs.Thread.{IsSync};
+
+use crate::holding::Holding;
+use crate::seat::Seat;
+use crate::setting::Setting;
+use crate::stream::Stream;
+use crate::telling::tell_counts;
+use crossbeam_channel::{Receiver, unbounded};
+use lost_worker::{Connection, Counts, Replier, worker_loop};
+use std::alloc::{AllocError, Global};
+use std::collections::VecDeque;
+use std::io;
+use std::io::Write;
+use std::sync::Wait;
+use std::thread::{Threads, join_mut};
+use std::time::Clock;
+use test_fakes::Meeting;
+
+/// What goes over the channel: a stream in memory, and where its replies go.
+type InMemory = Connection<VecDeque<u8>, Vec<u8>>;
+
+/// What the thread of a worker has.
+#[derive(Drop)]
+struct Working<'a, P, R: Clock> {
+    seat: Seat<'a, P, R>,
+    connections: Receiver<InMemory>,
+}
+
+/// Serves a stream twice, by two workers that take connections from one channel: whichever line is asked for first waits
+/// until the other was answered. Prints the sum of their counts.
+pub(crate) fn serve_two<R: Threads + Wait + Clock + Sync + Print + AllocGlobal, P: Replier + Send>(
+    rt: &R,
+    first: &mut P,
+    second: &mut P,
+    setting: &Setting,
+    stream: &Stream,
+) -> io::Result<()> {
+    let connections = twice(rt, stream)?;
+    let gate = Holding::First(Meeting::new(rt));
+    let mut one = Working {
+        seat: Seat {
+            alloc: rt.alloc(),
+            replier: first,
+            setting,
+            gate: &gate,
+            stream,
+        },
+        connections: connections.clone()?,
+    };
+    let mut other = Working {
+        seat: Seat {
+            alloc: rt.alloc(),
+            replier: second,
+            setting,
+            gate: &gate,
+            stream,
+        },
+        connections,
+    };
+    let (counts, more) = in_two_threads(rt, &mut one, &mut other);
+    tell_counts(rt, counts.plus(more))
+}
+
+/// A channel that gives the bytes of a stream twice, and has ended.
+fn twice<R: Wait + AllocGlobal>(rt: &R, stream: &Stream) -> io::Result<Receiver<InMemory>> {
+    let Ok((sender, connections)) = unbounded::<InMemory, Global>(rt.alloc()) else {
+        return Err(AllocError.into());
+    };
+    for _ in 0..2u8 {
+        if sender.send(rt, connection(rt.alloc(), stream)?).is_err() {
+            return Err(AllocError.into());
+        }
+    }
+    Ok(connections)
+}
+
+/// A connection in memory that gives the bytes of a stream.
+fn connection(alloc: Global, stream: &Stream) -> io::Result<InMemory> {
+    let mut input = VecDeque::new(alloc);
+    input.write_all(stream.bytes.as_slice())?;
+    Ok(Connection {
+        input,
+        output: Vec::new(alloc),
+    })
+}
+
+/// Has both work, each in a thread of its own.
+fn in_two_threads<R: Threads + Wait + Clock + Sync, P: Replier + Send>(
+    rt: &R,
+    one: &mut Working<P, R>,
+    other: &mut Working<P, R>,
+) -> (Counts, Counts) {
+    join_mut(
+        rt,
+        &mut || -> Counts
+            requires { IsSync R.row }
+        { work(rt, one) },
+        &mut || -> Counts
+            requires { IsSync R.row }
+        { work(rt, other) },
+    )
+}
+
+/// Serves connections until there are no more.
+fn work<R: Wait + Clock, P: Replier>(rt: &R, working: &mut Working<P, R>) -> Counts {
+    let seat = &mut working.seat;
+    let mut moments = seat.setting.moments();
+    worker_loop(
+        rt,
+        seat.alloc,
+        &working.connections,
+        seat.replier,
+        &seat.setting.name,
+        &mut moments,
+        seat.gate,
+        seat.stream.turns,
+    )
+}

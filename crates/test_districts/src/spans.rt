@@ -1,0 +1,73 @@
+//! Spans of time, what stands at a place among them, and what they are of each other.
+
+use std::alloc::{AllocError, Global};
+use std::time::Duration;
+
+/// Spans in nanoseconds, in rising order.
+#[derive(Drop)]
+pub struct Spans {
+    spans: Vec<u64>,
+}
+
+impl Spans {
+    /// These spans, in order.
+    pub fn of(mut spans: Vec<u64>) -> Spans {
+        spans.sort_unstable();
+        Spans { spans }
+    }
+
+    /// A copy of these spans, in order.
+    ///
+    /// # Errors
+    /// `AllocError` where memory runs out.
+    pub fn copied(alloc: Global, spans: &[u64]) -> Result<Spans, AllocError> {
+        let mut copy = Vec::new(alloc);
+        copy.extend_from_slice(spans)?;
+        Ok(Spans::of(copy))
+    }
+
+    /// The span that so many of a hundred are not longer than, in nanoseconds; 0 where there are none.
+    pub fn at(&self, percent: usize) -> u64 {
+        let place = self.spans.len().saturating_mul(percent) / 100;
+        let last = self.spans.len().saturating_sub(1);
+        self.spans.get(place.min(last)).copied().unwrap_or(0)
+    }
+
+    /// The mean of all spans but the tenth that are longest, in nanoseconds; 0 where there are none.
+    pub fn trimmed_mean(&self) -> u64 {
+        let count = self.spans.len().saturating_sub(self.spans.len() / 10);
+        let mut whole: u64 = 0;
+        for span in self.spans.iter().take(count) {
+            whole = whole.saturating_add(*span);
+        }
+        whole.checked_div(count as u64).unwrap_or(0)
+    }
+
+    /// The longest span, in nanoseconds; 0 where there are none.
+    pub fn longest(&self) -> u64 {
+        self.spans.last().copied().unwrap_or(0)
+    }
+}
+
+/// A span in nanoseconds.
+pub fn nanoseconds(span: Duration) -> u64 {
+    u64::try_from(span.as_nanos()).unwrap_or(u64::MAX)
+}
+
+/// So many nanoseconds for each of so many; 0 where there are none.
+pub fn mean(spent: u64, count: u32) -> u64 {
+    spent.checked_div(u64::from(count)).unwrap_or(0)
+}
+
+/// So many of a hundred; 0 where the whole is.
+pub fn share(part: u64, whole: u64) -> u64 {
+    part.saturating_mul(100).checked_div(whole).unwrap_or(0)
+}
+
+/// How many a second, where so many took so many nanoseconds; 0 where they took less than a microsecond.
+pub fn a_second(count: u64, nanoseconds: u64) -> u64 {
+    count
+        .saturating_mul(1_000_000)
+        .checked_div(nanoseconds / 1_000)
+        .unwrap_or(0)
+}
