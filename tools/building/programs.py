@@ -6,10 +6,8 @@ import os
 import sys
 from typing import NoReturn, Optional, Sequence
 
-from building.build import build, stop_on_signals
 from building.faults import Fault
 from building.files import sum_of_bytes, sum_of_file, write_file
-from building.kit import find_kit
 from building.machine import PORTABLE, quickest
 from building.package import package_of
 from building.sources import PROGRAM, sum_of_program
@@ -18,12 +16,11 @@ BUILT = f"crates/{PROGRAM}/out/{PROGRAM}"
 RECORD = f"{BUILT}.json"
 
 
-def build_for_use(top: str, jobs: Optional[int], processor: str) -> str:
-    """Builds the program into its place, with a record of what it was built from, and gives its path."""
-    made = build(top, jobs, processor)
+def keep_built(top: str, program: bytes, sources: str, processor: str) -> str:
+    """Puts a program that was built into its place, with a record of what it was built from, and gives its path."""
     path = f"{top}/{BUILT}"
-    record = {"sources": made.sources, "processor": processor, "sha256": sum_of_bytes(made.program)}
-    write_file(path, made.program)
+    record = {"sources": sources, "processor": processor, "sha256": sum_of_bytes(program)}
+    write_file(path, program)
     write_file(f"{top}/{RECORD}", json.dumps(record).encode(), 0o644)
     return path
 
@@ -52,18 +49,6 @@ def at_hand(top: str) -> Optional[str]:
         return path
     package = package_of(top)
     return package.unpack() if package is not None and package.fits() else None
-
-
-def build_anew(top: str) -> str:
-    """Builds the program, and says why; a fault where it cannot be built."""
-    why = "the sources have changed since the packaged program was made" if package_of(top) else "there is no packaged program"
-    try:
-        find_kit()
-    except Fault as fault:
-        raise Fault(f"{why}, and {fault}") from None
-    print(f"lostd: {why}: proving and building it from the sources, up to half an hour, as ./build does", file=sys.stderr)
-    stop_on_signals()
-    return build_for_use(top, None, quickest())
 
 
 def execute(path: str, words: Sequence[str]) -> NoReturn:
