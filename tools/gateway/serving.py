@@ -1,0 +1,89 @@
+"""One process of the gateway, from its start to its end."""
+from __future__ import annotations
+
+import argparse
+import asyncio
+import os
+import resource
+import signal
+import sys
+from typing import Dict
+
+from aiohttp import web
+
+from gateway import requests
+from gateway.answering import Answering, Manner
+from gateway.http_side import Handler, Side
+from gateway.journal import Journal
+from gateway.metrics import Metrics
+from gateway.pool import Pool, Settings
+from gateway.processes import Place, Work
+
+BACKLOG = 4096
+LOOK_AGAIN = 0.5
+KEEP_ALIVE = 75.0
+
+
+def allow_many_files() -> None:
+    """Lets the process have as many connections open as the system allows it."""
+    _, most = resource.getrlimit(resource.RLIMIT_NOFILE)
+    resource.setrlimit(resource.RLIMIT_NOFILE, (most, most))
+
+
+def side_of(options: argparse.Namespace) -> Side:
+    """What the HTTP side works with, as the command line says."""
+    pool = Pool(options.lostd, Settings(options.pool, options.timeout))
+    reading = requests.Manner(options.area == "centre", options.alias)
+    answering = Answering(pool, Manner(reading, not options.no_made_up_names, options.name))
+    return Side(answering, Metrics(), Journal(options.log) if options.log else None)
+
+
+async def tell_servers(side: Side, speaks: bool) -> None:
+    """Keeps the count of servers that are up, and says on standard error what changes, until it is cancelled."""
+    told: Dict[str, bool] = {}
+    while True:
+        await asyncio.sleep(LOOK_AGAIN)
+        states = side.answering.pool.states()
+        side.metrics.tell_servers(states)
+        for server, is_up in states:
+            if speaks and is_up != told.get(server, True):
+                print(f"lost-gateway: {server} {'answers again' if is_up else 'does not answer'}", file=sys.stderr, flush=True)
+            told[server] = is_up
+
+
+def stopping(life: int) -> asyncio.Event:
+    """What is set once the process is to end: by a signal, or since the first process is gone."""
+    loop, event = asyncio.get_running_loop(), asyncio.Event()
+    for number in (signal.SIGTERM, signal.SIGINT):
+        loop.add_signal_handler(number, event.set)
+    loop.add_reader(life, event.set)
+    return event
+
+
+async def serve(options: argparse.Namespace, place: Place) -> None:
+    """Serves a socket until the process is told to end, and then answers what it has."""
+    loop, is_over = asyncio.get_running_loop(), stopping(place.life)
+    side = side_of(options)
+    handler = Handler(side)
+    side.answering.pool.start()
+    server = web.Server(handler, access_log=None, auto_decompress=False, keepalive_timeout=KEEP_ALIVE)
+    listening = await loop.create_server(server, sock=place.listener, backlog=BACKLOG)
+    telling = loop.create_task(tell_servers(side, place.is_first))
+    os.write(place.ready, b".")
+    await is_over.wait()
+    loop.remove_reader(place.life)
+    listening.close()
+    await handler.finish(2 * options.timeout + 1)
+    await server.shutdown(1.0)
+    telling.cancel()
+    await side.answering.pool.end()
+
+
+def work(options: argparse.Namespace) -> Work:
+    """What each process does."""
+
+    def run(place: Place) -> None:
+        allow_many_files()
+        asyncio.run(serve(options, place))
+
+    return run
