@@ -82,12 +82,12 @@ class StandIn:
 
     def end(self) -> None:
         """Closes all, as a server that is killed does."""
-        self.listener.close()
-        for connection in self.connections:
+        for one in [self.listener, *self.connections]:
             try:
-                connection.shutdown(socket.SHUT_RDWR)
+                one.shutdown(socket.SHUT_RDWR)
             except OSError:
                 pass
+        self.listener.close()
 
     def __enter__(self) -> StandIn:
         return self
@@ -146,6 +146,11 @@ class Gateway:
         answer = self.ask("POST", "/lost", given, {"Content-Type": MEDIA_TYPE, **headers})
         Gateway.seen.append(answer.body)
         return answer
+
+    def await_first(self, server: StandIn) -> None:
+        """Waits until questions go to this server."""
+        address = server.address.encode()
+        assert wait_until(lambda: self.ask("GET", "/health").body.startswith(address))
 
     def end(self, number: int = signal.SIGTERM) -> Tuple[int, bytes]:
         """Ends the gateway; its status, and what it said on standard error."""
