@@ -26,7 +26,7 @@ class Closed(Unanswered):
 
 
 class Connection(asyncio.Protocol):
-    """Many lines of many clients may wait on it at a time. Where the oldest waits for too long, the connection is given up."""
+    """Many lines of many clients may wait on it at a time. Where nothing comes for too long, the connection is given up."""
 
     def __init__(self, timeout: float, on_end: Callable[[Connection], None]) -> None:
         self.loop = asyncio.get_running_loop()
@@ -45,7 +45,7 @@ class Connection(asyncio.Protocol):
     def ask(self, line: bytes) -> asyncio.Future[bytes]:
         """Sends a line, with its newline; the reply comes without one."""
         future: asyncio.Future[bytes] = self.loop.create_future()
-        self.waiting.append((future, self.loop.time() + self.timeout))
+        self.waiting.append((future, self.loop.time()))
         self.asked += 1
         if not self.to_send:
             self.loop.call_soon(self.flush)
@@ -61,11 +61,11 @@ class Connection(asyncio.Protocol):
         self.to_send.clear()
 
     def look(self) -> None:
-        """Gives the connection up where its oldest line waits for too long, and else looks again in time."""
+        """Gives the connection up where a line waits and nothing came for too long, and else looks again in time."""
         self.watch = None
         if not self.waiting:
             return
-        left = self.waiting[0][1] - self.loop.time()
+        left = max(self.waiting[0][1], self.last_heard) + self.timeout - self.loop.time()
         if left <= 0:
             self.give_up(Silent(f"no reply in {self.timeout:g} seconds"))
         else:

@@ -14,6 +14,7 @@ DEEPEST_LEVEL = 100
 PIECE = 32_768
 
 BYTE_ORDER_MARKS = ((b"\xef\xbb\xbf", "utf-8"), (b"\xff\xfe", "utf-16-le"), (b"\xfe\xff", "utf-16-be"))
+MARKS_BEGIN = b"\xef\xff\xfe"
 DECLARED = re.compile(rb"""<\?xml[ \t\r\n][^>]*?encoding[ \t\r\n]*=[ \t\r\n]*["']([A-Za-z0-9._-]+)["']""")
 ENCODINGS = {"utf-8": "utf-8", "utf8": "utf-8", "us-ascii": "ascii", "ascii": "ascii", "iso-8859-1": "latin-1"}
 
@@ -24,11 +25,13 @@ class NoDocument(Exception):
 
 def text_of(body: bytes) -> bytes:
     """The document in UTF-8, without a byte order mark."""
-    for mark, encoding in BYTE_ORDER_MARKS:
+    for mark, encoding in BYTE_ORDER_MARKS if body[:1] in MARKS_BEGIN else ():
         if body.startswith(mark):
             return recoded(body[len(mark):], encoding)
     declared = DECLARED.match(body)
-    name = declared[1].decode().lower() if declared else "utf-8"
+    if declared is None:
+        return body
+    name = declared[1].decode().lower()
     if name not in ENCODINGS:
         raise NoDocument(f"the encoding {name} is not read")
     return recoded(body, ENCODINGS[name])
@@ -57,6 +60,8 @@ def after_misc(text: bytes, place: int) -> int:
 
 def has_dtd(text: bytes) -> bool:
     """Whether a document type declaration follows the declaration, comments and processing instructions at the front."""
+    if b"<!DOCTYPE" not in text:
+        return False
     place, before = 0, -1
     while place != before:
         before, place = place, after_misc(text, place)
@@ -87,6 +92,6 @@ def read_document(body: bytes) -> ElementTree.Element:
         root = parser.close()
     except (ElementTree.ParseError, ValueError) as error:
         raise NoDocument(f"the body is no XML: {error}") from None
-    if is_deeper(root, DEEPEST_LEVEL):
+    if text.count(b"<") > DEEPEST_LEVEL and is_deeper(root, DEEPEST_LEVEL):
         raise NoDocument(f"elements lie more than {DEEPEST_LEVEL} levels deep")
     return root

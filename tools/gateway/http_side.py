@@ -33,6 +33,12 @@ class Side(NamedTuple):
     journal: Optional[Journal]
 
 
+def is_lost(request: web.BaseRequest) -> bool:
+    """Whether the body is said to be of LoST and is not compressed. (aiohttp's own reader of types takes as long as all else.)"""
+    said = request.headers.get("Content-Type", "").partition(";")[0].strip().lower()
+    return said == MEDIA_TYPE and request.headers.get("Content-Encoding", "identity") == "identity"
+
+
 async def rest_of_body(request: web.BaseRequest) -> bytes:
     """A body that has not come whole yet."""
     if request.headers.get("Expect", "").lower() == "100-continue":
@@ -66,21 +72,19 @@ class Handler:
         self.idle = asyncio.Event()
 
     async def __call__(self, request: web.BaseRequest) -> web.StreamResponse:
-        """The response to a request."""
+        """The response to a request: a question to LoST is posted, to any path; two paths are there to be looked at."""
         self.running += 1
         try:
-            response = await self.respond(request)
+            response = await (self.post(request) if request.method == "POST" else self.look(request))
         finally:
             self.running -= 1
-            self.idle.set()
         if self.is_stopping:
             response.force_close()
+            self.idle.set()
         return response
 
-    async def respond(self, request: web.BaseRequest) -> web.StreamResponse:
-        """A question to LoST is posted, to any path; two paths are there to be looked at."""
-        if request.method == "POST":
-            return await self.post(request)
+    async def look(self, request: web.BaseRequest) -> web.Response:
+        """The response to what is not posted."""
         if request.method in ("GET", "HEAD") and request.path == "/health":
             return await self.health()
         if request.method in ("GET", "HEAD") and request.path == "/metrics":
@@ -98,7 +102,7 @@ class Handler:
     async def post(self, request: web.BaseRequest) -> web.Response:
         """The answer to a question, counted and written down."""
         begun = time.monotonic()
-        if request.content_type != MEDIA_TYPE or request.headers.get("Content-Encoding", "identity") != "identity":
+        if not is_lost(request):
             return lost_response(self.side.answering.refused("badRequest", NOT_LOST), 415)
         body, is_whole = b"", True
         try:

@@ -45,7 +45,7 @@ class Server:
     """A server behind, and its connections that answer."""
 
     def __init__(self, address: Address, settings: Settings) -> None:
-        self.address, self.settings = address, settings
+        self.address, self.settings, self.label = address, settings, str(address)
         self.name: Optional[str] = None
         self.connections: List[Connection] = []
         self.attempt: Optional[asyncio.Task[None]] = None
@@ -109,18 +109,25 @@ class Server:
         self.name = name
         self.connections.append(connection)
 
-    async def ask(self, line: bytes) -> Reply:
-        """The reply to a line, over the connection on which the fewest lines wait; Unanswered where there is none."""
-        if not self.connections:
-            await self.try_to_open()
-        if not self.connections:
-            raise Closed(f"{self.address} closed the connection")
-        connection = min(self.connections, key=lambda one: len(one.waiting))
+    def send(self, line: bytes) -> asyncio.Future[bytes]:
+        """Sends a line over the connection on which the fewest lines wait; its reply."""
+        connection = self.connections[0]
+        for other in self.connections:
+            if len(other.waiting) < len(connection.waiting):
+                connection = other
         future = connection.ask(line)
         if connection.is_spent():
             self.lose(connection)
             connection.leave()
-        return Reply(await future, str(self.address))
+        return future
+
+    async def ask(self, line: bytes) -> bytes:
+        """The reply to a line; Unanswered where there is none."""
+        if not self.connections:
+            await self.try_to_open()
+        if not self.connections:
+            raise Closed(f"{self.address} closed the connection")
+        return await self.send(line)
 
     async def end(self) -> None:
         """Ends all connections."""
@@ -141,24 +148,31 @@ class Pool:
         for server in self.servers:
             server.start()
 
-    def two_to_ask(self) -> List[Server]:
-        """The server that is asked, and the next one: those that are up come first."""
-        return sorted(self.servers, key=lambda server: not server.is_up())[:2]
+    def in_turn(self) -> List[Server]:
+        """All servers, those that are up first."""
+        return sorted(self.servers, key=lambda server: not server.is_up())
 
     async def ask(self, line: bytes) -> Reply:
-        """The reply to a line, after one try at the next server where the first gives none.
+        """The reply to a line, after one try at the next server where the first gives none."""
+        first, *others = self.servers if self.servers[0].connections else self.in_turn()
+        try:
+            return Reply(await (first.send(line) if first.connections else first.ask(line)), first.label)
+        except Unanswered as error:
+            return await self.ask_next(line, first, others, error)
+
+    async def ask_next(self, line: bytes, first: Server, others: List[Server], why: Unanswered) -> Reply:
+        """The reply of the next server.
 
         One server alone is tried again over another connection, but not where it was silent or could not be reached.
         """
-        first, *others = self.two_to_ask()
-        try:
-            return await first.ask(line)
-        except Closed:
-            return await (others[0] if others else first).ask(line)
-        except Unanswered:
-            if not others:
-                raise
-            return await others[0].ask(line)
+        if not others and not isinstance(why, Closed):
+            raise why
+        second = self.next_to(first, others)
+        return Reply(await second.ask(line), second.label)
+
+    def next_to(self, first: Server, others: List[Server]) -> Server:
+        """The next server: one that is up, if there is one."""
+        return next((server for server in others if server.is_up()), others[0] if others else first)
 
     def name(self) -> Optional[str]:
         """The own name of a server behind; None where none has answered yet."""
@@ -166,7 +180,7 @@ class Pool:
 
     def states(self) -> List[Tuple[str, bool]]:
         """Each server, and whether it answers."""
-        return [(str(server.address), server.is_up()) for server in self.servers]
+        return [(server.label, server.is_up()) for server in self.servers]
 
     async def end(self) -> None:
         """Ends all connections."""

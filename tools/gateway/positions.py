@@ -14,10 +14,12 @@ from maptools.units import rounded_units
 Point = Tuple[int, int]
 
 # A number of degrees: no exponent, no NaN, at most 3 digits before the point and 30 after it.
-NUMBER = re.compile(r"[+-]?(?:[0-9]{1,3}(?:\.[0-9]{0,30})?|\.[0-9]{1,30})")
-LENGTH = re.compile(r"[0-9]{1,9}(?:\.[0-9]{0,30})?")
+NUMBER = re.compile(rb"[+-]?(?:[0-9]{1,3}(?:\.[0-9]{0,30})?|\.[0-9]{1,30})")
+LENGTH = re.compile(rb"[0-9]{1,9}(?:\.[0-9]{0,30})?")
 WHITE_SPACE = " \t\r\n"
 SPACE = re.compile(r"[ \t\r\n]+")
+POS = named(GML, "pos")
+DIGITS = 7
 EARTH_RADIUS = 6_371_008.8
 UNITS_A_DEGREE = 10_000_000
 
@@ -26,19 +28,26 @@ class Unreadable(Exception):
     """A shape that is no readable location."""
 
 
-def words_of(element: Optional[ElementTree.Element]) -> List[str]:
-    """The words of the text of an element that has no elements in it."""
+def words_of(element: Optional[ElementTree.Element]) -> List[bytes]:
+    """The words of the text of an element that has no elements in it. (Bytes are split at the spaces of ASCII alone.)"""
     if element is None or len(element):
         raise Unreadable("an element is missing, or has others in it")
-    return [word for word in SPACE.split(element.text or "") if word]
+    return (element.text or "").encode().split()
+
+
+def units_of(word: bytes) -> int:
+    """A number of degrees in whole units: what lies between goes to the nearest, a half to the even one."""
+    if not NUMBER.fullmatch(word):
+        raise Unreadable("a number is none of degrees")
+    whole, _, fraction = word.partition(b".")
+    if len(fraction) <= DIGITS:
+        return int(whole + fraction.ljust(DIGITS, b"0"))
+    return rounded_units(Decimal(word.decode()))
 
 
 def numbers_of(element: Optional[ElementTree.Element]) -> List[int]:
-    """The numbers of degrees in an element, in whole units: what lies between goes to the nearest, a half to the even one."""
-    words = words_of(element)
-    if not all(NUMBER.fullmatch(word) for word in words):
-        raise Unreadable("a number is none of degrees")
-    return [rounded_units(Decimal(word)) for word in words]
+    """The numbers of degrees in an element, in whole units."""
+    return [units_of(word) for word in words_of(element)]
 
 
 def position_of(element: Optional[ElementTree.Element]) -> Point:
@@ -51,7 +60,7 @@ def position_of(element: Optional[ElementTree.Element]) -> Point:
 
 def place_of(shape: ElementTree.Element) -> Point:
     """The gml:pos of a point, a circle or an ellipse."""
-    return position_of(shape.find(named(GML, "pos")))
+    return position_of(shape.find(POS))
 
 
 def measure_of(shape: ElementTree.Element, name: str, unit: str) -> float:
@@ -94,7 +103,7 @@ def ring_of(shape: ElementTree.Element) -> List[Point]:
         numbers = numbers_of(listed)
         points = list(zip(numbers[::2], numbers[1::2])) if len(numbers) % 2 == 0 else []
     else:
-        points = [position_of(element) for element in ring.findall(named(GML, "pos"))]
+        points = [position_of(element) for element in ring.findall(POS)]
     if len(points) < 4 or points[0] != points[-1]:
         raise Unreadable("a ring is not closed, or too short")
     return points
@@ -134,5 +143,5 @@ def shape_of(location: ElementTree.Element) -> ElementTree.Element:
 
 def system_of(shape: ElementTree.Element) -> Optional[str]:
     """The reference system that a shape names, or else its position."""
-    position = shape.find(named(GML, "pos"))
-    return shape.get("srsName") or (position.get("srsName") if position is not None else None)
+    named_by = [element.get("srsName") for element in (shape, shape.find(POS)) if element is not None]
+    return next((system for system in named_by if system is not None), None)

@@ -20,6 +20,7 @@ from maptools.refusals import ERRORS as ERROR_TEXTS
 from maptools.refusals import WARNINGS as WARNING_TEXTS
 from maptools.units import degrees_of
 
+IN_LOST = f"{{{LOST}}}"
 RESPONSES = {f"{kind}Response": kind for kind in (FIND, SERVICES, SERVICES_BY_LOCATION, BOUNDARY)}
 LANGUAGE = re.compile(r"[A-Za-z]{1,8}(?:-[A-Za-z0-9]{1,8})*")
 UNKNOWN_LANGUAGE = "und"
@@ -50,8 +51,9 @@ class Asked(NamedTuple):
 
 def add(parent: Any, name: str, text: Optional[str] = None, **attributes: str) -> Any:
     """A new last element of LoST in another."""
-    element = etree.SubElement(parent, named(LOST, name), attributes)
-    element.text = text
+    element = etree.SubElement(parent, IN_LOST + name, attributes)
+    if text:
+        element.text = text
     return element
 
 
@@ -138,7 +140,7 @@ def add_validation(root: Any, validation: Dict[str, List[str]]) -> None:
     """What became of each element of the address."""
     prefixes = prefixes_of([name for names in validation.values() for name in names])
     spaces = {prefix: space for space, prefix in prefixes.items()}
-    element = etree.SubElement(root, named(LOST, "locationValidation"), nsmap=spaces)
+    element = etree.SubElement(root, IN_LOST + "locationValidation", nsmap=spaces)
     for kind in ("valid", "invalid", "unchecked"):
         add(element, kind, " ".join(qualified(name, prefixes) for name in validation[kind]))
 
@@ -177,23 +179,28 @@ def add_content(root: Any, kind: str, value: Dict[str, Any], asked: Asked, manne
         add(root, "serviceList", " ".join(told_as(service, asked.alias) for service in value["serviceList"]))
 
 
-def response(name: str, value: Dict[str, Any], asked: Asked, manner: Manner) -> bytes:
-    """A response as XML."""
+def response(name: str, value: Dict[str, Any], asked: Asked, manner: Manner) -> Any:
+    """The outermost element of a response. Where it says which location was used, its last element does."""
     kind = RESPONSES[name]
-    root = etree.Element(named(LOST, name), nsmap={None: LOST})
+    root = etree.Element(IN_LOST + name, nsmap={None: LOST})
     add_content(root, kind, value, asked, manner)
     is_located = kind in (FIND, SERVICES_BY_LOCATION)
     add_warnings(root, value.get("warnings", []), asked.area if is_located else None, manner.source)
     add_path(root, value["path"])
     if is_located:
         add(root, "locationUsed", id=value["locationUsed"])
-    return etree.tostring(root, encoding="UTF-8", xml_declaration=False)
+    return root
 
 
-def errors(name: str, text: str, source: str) -> bytes:
-    """An error as XML."""
-    root = etree.Element(named(LOST, "errors"), {"source": source}, nsmap={None: LOST})
+def errors(name: str, text: str, source: str) -> Any:
+    """The outermost element of an error."""
+    root = etree.Element(IN_LOST + "errors", {"source": source}, nsmap={None: LOST})
     add_message(add(root, name), text)
+    return root
+
+
+def xml_of(root: Any) -> bytes:
+    """An element as a document: in UTF-8, without a declaration, on one line."""
     return etree.tostring(root, encoding="UTF-8", xml_declaration=False)
 
 
@@ -206,8 +213,8 @@ def writable(value: Any) -> Any:
     return {name: writable(item) for name, item in value.items()} if isinstance(value, dict) else value
 
 
-def write_reply(name: str, value: Dict[str, Any], asked: Asked, manner: Manner) -> bytes:
-    """The XML of a reply of the server behind; NoReply where it is none that this gateway knows."""
+def reply(name: str, value: Dict[str, Any], asked: Asked, manner: Manner) -> Any:
+    """The outermost element of a reply of the server behind; NoReply where it is none that this gateway knows."""
     if name == "errors" and value.get("error") in ERROR_TEXTS:
         return errors(value["error"], ERROR_TEXTS[value["error"]], manner.source)
     if name not in RESPONSES:
@@ -218,8 +225,8 @@ def write_reply(name: str, value: Dict[str, Any], asked: Asked, manner: Manner) 
         raise NoReply(f"the reply is of another shape: {error!r}") from None
 
 
-def writable_response(name: str, value: Dict[str, Any], asked: Asked, manner: Manner) -> bytes:
-    """A response as XML; where it has characters that XML cannot write, they are replaced."""
+def writable_response(name: str, value: Dict[str, Any], asked: Asked, manner: Manner) -> Any:
+    """A response; where it has characters that XML cannot write, they are replaced."""
     try:
         return response(name, value, asked, manner)
     except ValueError:

@@ -6,17 +6,36 @@ sent without its content, so that the server's own order of errors holds.
 from __future__ import annotations
 
 import xml.etree.ElementTree as ElementTree
-from typing import Any, Dict, List, NamedTuple, Optional
+from typing import Any, Dict, List, NamedTuple, Optional, Tuple
 
 from gateway.positions import CENTRES, POINT, SPACE, WHITE_SPACE, Unreadable, place_of, shape_of, system_of
 from gateway.services import Alias, asked_as
 from gateway.vocabulary import (
-    BOUNDARY, CIVIC, CIVIC_ADDRESS, FIND, GEODETIC, LOST, REQUESTS, SERVICES, SERVICES_BY_LOCATION, named,
+    BOUNDARY, CIVIC, CIVIC_ADDRESS, FIND, GEODETIC, LOST, SERVICES, SERVICES_BY_LOCATION, named,
 )  # fmt: skip
 
 BOOLEANS = {"true": True, "1": True, "false": False, "0": False}
 IN_LOST = f"{{{LOST}}}"
 IN_CIVIC = f"{{{CIVIC_ADDRESS}}}"
+
+Names = Dict[str, str]
+Parts = Dict[str, List[ElementTree.Element]]
+Used = Tuple[Optional[str], Optional[str]]
+
+
+def in_lost(*names: str) -> Names:
+    """Names by the tags that elements of LoST have."""
+    return {IN_LOST + name: name for name in names}
+
+
+NONE, IN_PATH = in_lost(), in_lost("via")
+# The requests, and the elements that each may have.
+KINDS = {
+    IN_LOST + FIND: (FIND, in_lost("location", "service", "path")),
+    IN_LOST + SERVICES_BY_LOCATION: (SERVICES_BY_LOCATION, in_lost("location", "service", "path")),
+    IN_LOST + SERVICES: (SERVICES, in_lost("service", "path")),
+    IN_LOST + BOUNDARY: (BOUNDARY, in_lost("path")),
+}
 
 
 class NoRequest(Exception):
@@ -31,17 +50,18 @@ class Manner(NamedTuple):
 
 
 class Request(NamedTuple):
-    """A request as a line, the alias of its service, and the shape whose centre stands for it in the location used."""
+    """A request as a line, the alias of its service, the location used, and the shape whose centre stands for it."""
 
     kind: str
     members: Dict[str, Any]
     alias: Optional[Alias] = None
+    used: Optional[str] = None
     area: Optional[str] = None
 
 
 def collapsed(text: str) -> str:
     """A text as a token of XML: no white space at its ends, and one space for each run inside."""
-    return SPACE.sub(" ", text).strip(" ")
+    return SPACE.sub(" ", text.strip(WHITE_SPACE))
 
 
 def plain_text(element: ElementTree.Element) -> str:
@@ -56,21 +76,26 @@ def local(tag: str) -> str:
     return tag.rpartition("}")[2]
 
 
-def children(element: ElementTree.Element, *names: str) -> List[ElementTree.Element]:
-    """The elements of LoST in an element, which have these names; those of other namespaces are extensions, and ignored."""
-    found = [child for child in element if child.tag.startswith(IN_LOST)]
-    for child in found:
-        if child.tag[len(IN_LOST):] not in names:
+def children(element: ElementTree.Element, names: Names) -> Parts:
+    """The elements of LoST in an element, by their names; those of other namespaces are extensions, and ignored."""
+    found: Parts = {}
+    for child in element:
+        name = names.get(child.tag)
+        if name is not None:
+            found.setdefault(name, []).append(child)
+        elif child.tag.startswith(IN_LOST):
             raise NoRequest(f"{local(child.tag)} has no place in {local(element.tag)}")
     return found
 
 
-def at_most_one(elements: List[ElementTree.Element], name: str) -> Optional[ElementTree.Element]:
+def at_most_one(parts: Parts, name: str) -> Optional[ElementTree.Element]:
     """The element of a name, where there is one."""
-    found = [element for element in elements if element.tag == IN_LOST + name]
+    found = parts.get(name)
+    if found is None:
+        return None
     if len(found) > 1:
         raise NoRequest(f"{name} stands there more than once")
-    return found[0] if found else None
+    return found[0]
 
 
 def attribute(element: ElementTree.Element, name: str) -> str:
@@ -83,7 +108,7 @@ def attribute(element: ElementTree.Element, name: str) -> str:
 
 def read_path(path: ElementTree.Element) -> List[str]:
     """The servers that the request passed through."""
-    return [attribute(via, "source") for via in children(path, "via")]
+    return [attribute(via, "source") for via in children(path, IN_PATH).get("via", [])]
 
 
 def read_address(location: ElementTree.Element) -> Dict[str, str]:
@@ -115,7 +140,7 @@ def read_point(location: ElementTree.Element, item: Dict[str, Any], takes_centre
 
 def read_location(location: ElementTree.Element, takes_centres: bool) -> Any:
     """A location's item, and the name of the area that it is; content that is not readable is left out."""
-    children(location)
+    children(location, NONE)
     item: Dict[str, Any] = {"id": attribute(location, "id"), "profile": attribute(location, "profile").strip(WHITE_SPACE)}
     area = None
     try:
@@ -128,12 +153,11 @@ def read_location(location: ElementTree.Element, takes_centres: bool) -> Any:
     return item, area
 
 
-def read_locations(elements: List[ElementTree.Element], members: Dict[str, Any], takes_centres: bool) -> Optional[str]:
-    """Puts the locations of a request into its members, in their order; the area of the location used."""
-    read = [read_location(one, takes_centres) for one in elements if one.tag == named(LOST, "location")]
+def read_locations(parts: Parts, members: Dict[str, Any], takes_centres: bool) -> Used:
+    """Puts the locations of a request into its members, in their order; the id and the area of the location used."""
+    read = [read_location(one, takes_centres) for one in parts.get("location", [])]
     members["location"] = [item for item, _ in read]
-    used = [area for item, area in read if item["profile"] in (GEODETIC, CIVIC)]
-    return used[0] if used else None
+    return next(((item["id"], area) for item, area in read if item["profile"] in (GEODETIC, CIVIC)), (None, None))
 
 
 def read_wishes(root: ElementTree.Element, members: Dict[str, Any]) -> None:
@@ -148,31 +172,23 @@ def read_wishes(root: ElementTree.Element, members: Dict[str, Any]) -> None:
         members["serviceBoundary"] = boundary.strip(WHITE_SPACE)
 
 
-CHILDREN = {
-    FIND: ("location", "service", "path"),
-    SERVICES_BY_LOCATION: ("location", "service", "path"),
-    SERVICES: ("service", "path"),
-    BOUNDARY: ("path",),
-}
-
-
 def read_request(root: ElementTree.Element, manner: Manner) -> Request:
     """The request of a document; NoRequest where it is none of the four."""
-    kind = root.tag[len(IN_LOST):] if root.tag.startswith(IN_LOST) else ""
-    if kind not in REQUESTS:
+    kind, names = KINDS.get(root.tag, ("", NONE))
+    if not kind:
         raise NoRequest(f"{local(root.tag)} is no request of {LOST}")
-    elements = children(root, *CHILDREN[kind])
+    parts = children(root, names)
     members: Dict[str, Any] = {}
-    alias = area = None
-    service, path = at_most_one(elements, "service"), at_most_one(elements, "path")
+    alias = used = area = None
+    service, path = at_most_one(parts, "service"), at_most_one(parts, "path")
     if service is not None:
         members["service"], alias = asked_as(collapsed(plain_text(service)), manner.aliases)
     if path is not None:
         members["path"] = read_path(path)
-    if "location" in CHILDREN[kind]:
-        area = read_locations(elements, members, manner.takes_centres)
+    if kind in (FIND, SERVICES_BY_LOCATION):
+        used, area = read_locations(parts, members, manner.takes_centres)
     if kind == FIND:
         read_wishes(root, members)
     if kind == BOUNDARY:
         members["key"] = attribute(root, "key")
-    return Request(kind, members, alias, area)
+    return Request(kind, members, alias, used, area)

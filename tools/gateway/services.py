@@ -23,6 +23,8 @@ def alias_of(text: str) -> Alias:
 
 def asked_as(service: str, aliases: List[Alias]) -> Tuple[str, Optional[Alias]]:
     """The name of a service behind, and the alias that gave it: the longest that fits, in any case of letters."""
+    if not aliases:
+        return service, None
     fitting = [alias for alias in aliases if lowered(service).startswith(lowered(alias.theirs))]
     if not fitting:
         return service, None

@@ -7,7 +7,7 @@ import os
 import resource
 import signal
 import sys
-from typing import Dict
+from typing import Awaitable, Callable, Dict
 
 from aiohttp import web
 
@@ -22,6 +22,8 @@ from gateway.processes import Place, Work
 BACKLOG = 4096
 LOOK_AGAIN = 0.5
 KEEP_ALIVE = 75.0
+
+Answerer = Callable[[web.BaseRequest], Awaitable[web.StreamResponse]]
 
 
 def allow_many_files() -> None:
@@ -60,30 +62,31 @@ def stopping(life: int) -> asyncio.Event:
     return event
 
 
-async def serve(options: argparse.Namespace, place: Place) -> None:
-    """Serves a socket until the process is told to end, and then answers what it has."""
+async def listen(handler: Answerer, place: Place, finish: Callable[[], Awaitable[None]]) -> None:
+    """Serves a socket by a handler until the process is told to end, and then waits for what is to be finished."""
     loop, is_over = asyncio.get_running_loop(), stopping(place.life)
-    side = side_of(options)
-    handler = Handler(side)
-    side.answering.pool.start()
     server = web.Server(handler, access_log=None, auto_decompress=False, keepalive_timeout=KEEP_ALIVE)
     listening = await loop.create_server(server, sock=place.listener, backlog=BACKLOG)
-    telling = loop.create_task(tell_servers(side, place.is_first))
     os.write(place.ready, b".")
     await is_over.wait()
     loop.remove_reader(place.life)
     listening.close()
-    await handler.finish(2 * options.timeout + 1)
+    await finish()
     await server.shutdown(1.0)
+
+
+async def serve(options: argparse.Namespace, place: Place) -> None:
+    """Serves a socket until the process is told to end, and then answers what it has."""
+    allow_many_files()
+    side = side_of(options)
+    handler, pool = Handler(side), side.answering.pool
+    pool.start()
+    telling = asyncio.get_running_loop().create_task(tell_servers(side, place.is_first))
+    await listen(handler, place, lambda: handler.finish(2 * options.timeout + 1))
     telling.cancel()
-    await side.answering.pool.end()
+    await pool.end()
 
 
 def work(options: argparse.Namespace) -> Work:
     """What each process does."""
-
-    def run(place: Place) -> None:
-        allow_many_files()
-        asyncio.run(serve(options, place))
-
-    return run
+    return lambda place: asyncio.run(serve(options, place))

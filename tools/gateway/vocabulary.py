@@ -17,11 +17,6 @@ METRE = "urn:ogc:def:uom:EPSG::9001"
 DEGREE = "urn:ogc:def:uom:EPSG::9102"
 
 FIND, SERVICES, SERVICES_BY_LOCATION, BOUNDARY = "findService", "listServices", "listServicesByLocation", "getServiceBoundary"
-REQUESTS = (FIND, SERVICES, SERVICES_BY_LOCATION, BOUNDARY)
-ERRORS = (
-    "badRequest", "forbidden", "internalError", "locationInvalid", "locationProfileUnrecognized", "loop", "notFound",
-    "serverError", "serverTimeout", "serviceNotImplemented", "SRSInvalid",
-)  # fmt: skip
 WARNINGS = ("serviceSubstitution", "defaultMappingReturned", "locationValidationUnavailable")
 
 # The elements of an address in the order of RFC 5139.
