@@ -1,8 +1,10 @@
 """Calls through Kamailio, HAProxy with TLS, the gateway and lostd: each must go where the map says."""
 import json
+import subprocess
+import tempfile
 
 from kamailio import FALLBACK, Kamailio, header
-from processes import Gateway, Haproxy
+from processes import TOP, Gateway, Haproxy
 from server import Server
 
 SQUARE = [[0, 0], [0, 100_000_000], [100_000_000, 100_000_000], [100_000_000, 0], [0, 0]]
@@ -64,15 +66,54 @@ def wrong_call(kamailio, call):
     return [] if got == wanted else [f"{service} at {place}: {got} and not {wanted}"]
 
 
-def calls(program):
-    """calls through Kamailio, HAProxy with TLS, the gateway and lostd"""
+def failed_calls(kamailio, calls):
+    """What is wrong with calls, and with Kamailio after them."""
+    wrong = [text for call in calls for text in wrong_call(kamailio, call)]
+    return wrong + ([] if kamailio.is_alive() else [f"Kamailio is gone: {kamailio.texts()[-500:]}"])
+
+
+def through_all(program):
+    """calls through Kamailio, HAProxy with TLS, the gateway and lostd go where the map says, and Kamailio lives"""
     with Server(program, 4, 1000) as server:
-        desk = server.desk()
-        desk.ask_all(MAP)
+        server.desk().ask_all(MAP)
         with Gateway([server.queries]) as gateway, Haproxy(gateway.port) as haproxy:
-            certificate = f"{haproxy.folder}/certificate.pem"
-            with Kamailio(f"https://127.0.0.1:{haproxy.port}/lost", certificate) as kamailio:
-                wrong = [text for call in wanted_calls() * 3 for text in wrong_call(kamailio, call)]
-                wrong += [] if kamailio.is_alive() else [f"Kamailio is gone: {kamailio.texts()[-500:]}"]
-            # The gateway goes away: Kamailio must live on, and go on when it is back.
-    return wrong
+            with Kamailio(f"https://127.0.0.1:{haproxy.port}/lost", haproxy.certificate) as kamailio:
+                return failed_calls(kamailio, wanted_calls() * 3)
+
+
+def servers_gone(program):
+    """where lostd is gone, and then the gateway too, calls go to Kamailio's own fallback, and Kamailio lives"""
+    police = ("urn:service:sos.police", "a point", LOCATIONS["a point"])
+    with Server(program, 4, 1000) as server:
+        server.desk().ask_all(MAP)
+        with Gateway([server.queries], "--timeout", "0.5") as gateway, Haproxy(gateway.port) as haproxy:
+            with Kamailio(f"https://127.0.0.1:{haproxy.port}/lost", haproxy.certificate) as kamailio:
+                wrong = failed_calls(kamailio, [(*police, "sips:police@psap.example", "200  Police of Leonia")])
+                server.stop()
+                wrong += failed_calls(kamailio, [(*police, FALLBACK, "500 serverTimeout")])
+                gateway.end()
+                return wrong + failed_calls(kamailio, [(*police, FALLBACK, "400")])
+
+
+def documents_of(log):
+    """The requests and the answers of a log of the gateway."""
+    with open(log, encoding="utf-8") as file:
+        lines = [json.loads(line) for line in file]
+    return [line[name] for line in lines for name in ("request", "reply")]
+
+
+def valid_answers(program):
+    """what Kamailio asks and what it is answered is valid by lost.rnc, says jing"""
+    with tempfile.TemporaryDirectory() as folder, Server(program, 4, 1000) as server:
+        server.desk().ask_all(MAP)
+        log = f"{folder}/log"
+        with Gateway([server.queries], "--log", log) as gateway:
+            with Kamailio(f"http://127.0.0.1:{gateway.port}/lost", "") as kamailio:
+                wrong = failed_calls(kamailio, [call for call in wanted_calls() if call[1] != "no place"])
+        files = []
+        for number, document in enumerate(documents_of(log)):
+            files.append(f"{folder}/{number}.xml")
+            with open(files[-1], "w", encoding="utf-8") as file:
+                file.write(document)
+        ran = subprocess.run(["jing", "-c", f"{TOP}/tools/gateway/lost.rnc", *files[2:]], capture_output=True, timeout=120)
+        return wrong + ran.stdout.decode().splitlines()[:5] + ([] if len(files) > 30 else [f"{len(files)} documents"])

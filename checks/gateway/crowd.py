@@ -3,6 +3,7 @@ import asyncio
 import json
 import os
 import random
+import resource
 import signal
 import threading
 import time
@@ -219,3 +220,56 @@ def stopped_and_gone(program, seed=3):
             if (len(crowd.told), statuses, len(failed)) != (20, {200}, 20 if wanted else 0):
                 wrong.append(f"{name}: {len(crowd.told)} answers of status {statuses}, {len(failed)} of no server")
     return wrong
+
+
+def ten_thousand(program, seed=4):
+    """10,000 connections are open at once, and each asks three times: all are answered, and the slowest within 20 seconds"""
+    soft, hard = resource.getrlimit(resource.RLIMIT_NOFILE)
+    if hard < 10_500:
+        return [f"{hard} open files are allowed to a process, which are too few"]
+    resource.setrlimit(resource.RLIMIT_NOFILE, (hard, hard))
+    requests, first, _ = drawn_history(seed)
+    with Server(program, 4, 1000) as server, Gateway([server.queries], "--processes", "2") as gateway:
+        desk = server.desk()
+        lines = list(zip(first, desk.ask_all(first)))
+        crowd = Patient(gateway.port, requests, 10_000, 3, seed)
+        asyncio.run(crowd.run())
+    resource.setrlimit(resource.RLIMIT_NOFILE, (soft, hard))
+    print(f"    the slowest of {len(crowd.told)} answers took {crowd.slowest:.1f} seconds")
+    late = [] if crowd.slowest < 20 else [f"an answer took {crowd.slowest:.1f} seconds"]
+    return (wrong_answers(crowd, lines) + missing(crowd, 30_000) + late)[:MOST_SHOWN]
+
+
+class Patient(Crowd):
+    """A crowd all of whose connections stay open until each client has asked; a client asks again a second later."""
+
+    slowest = 0.0
+
+    async def open_all(self):
+        """All connections, a few hundred at a time."""
+        opened = []
+        for first in range(0, self.connections, 200):
+            count = min(200, self.connections - first)
+            opened += await asyncio.gather(*(asyncio.open_connection("127.0.0.1", self.port) for _ in range(count)))
+        return opened
+
+    async def ask_on(self, reader, writer):
+        """Asks over one connection."""
+        for _ in range(self.each):
+            await asyncio.sleep(self.dice.random() * 5)
+            asked, begun = self.dice.choice(self.requests), time.monotonic()
+            writer.write(asked.posted)
+            try:
+                status, edition, xml = await asyncio.wait_for(read_response(reader), 60)
+            except (OSError, EOFError, asyncio.TimeoutError) as error:
+                self.failed.append(f"a client: {error!r}")
+                return
+            self.slowest = max(self.slowest, time.monotonic() - begun)
+            self.told.append(Told(asked, status, edition, xml, 0))
+
+    async def run(self):
+        """All clients, once all connections are open."""
+        opened = await self.open_all()
+        await asyncio.gather(*(self.ask_on(reader, writer) for reader, writer in opened))
+        for _, writer in opened:
+            writer.close()

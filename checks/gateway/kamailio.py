@@ -30,6 +30,7 @@ modparam("http_client", "keep_connections", 1)
 modparam("http_client", "httpcon", "lost=>{url}")
 request_route {{
     if (!is_method("INVITE")) {{ exit; }}
+    $var(uri) = ""; $var(name) = ""; $var(error) = "";
     $var(answer) = lost_query("lost", "$var(uri)", "$var(name)", "$var(error)");
     if ($var(answer) != 200) {{ $var(uri) = "{fallback}"; }}
     append_to_reply("Contact: <$var(uri)>\\r\\n");

@@ -124,7 +124,8 @@ class Haproxy(Program):
 
     def __init__(self, gateway):
         self.folder, self.port = tempfile.mkdtemp(prefix="check-gateway-"), free_port()
-        files = ["-keyout", f"{self.folder}/key.pem", "-out", f"{self.folder}/certificate.pem"]
+        self.certificate = f"{self.folder}/certificate.pem"
+        files = ["-keyout", f"{self.folder}/key.pem", "-out", self.certificate]
         subprocess.run([*CERTIFICATE, "-addext", "subjectAltName=IP:127.0.0.1", *files], check=True, capture_output=True)
         with open(f"{self.folder}/both.pem", "wb") as both:
             for name in ("certificate", "key"):
