@@ -51,7 +51,7 @@ class Answering:
 
     def name(self) -> str:
         """The source of errors and warnings."""
-        return self.manner.name or self.pool.name() or UNNAMED
+        return self.manner.name or self.pool.name or UNNAMED
 
     def refused(self, error: str, text: str, kind: str = "unreadable") -> Answer:
         """An error of this gateway itself."""

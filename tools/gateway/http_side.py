@@ -53,13 +53,13 @@ async def rest_of_body(request: web.BaseRequest) -> bytes:
 
 async def body_of(request: web.BaseRequest) -> bytes:
     """The body of a request; TooLong where it is not read to its end, asyncio.TimeoutError where it doesn't come."""
-    if (request.content_length or 0) > LONGEST_BODY:
-        raise TooLong
     if request.content.is_eof():
         body = request.content.read_nowait(-1)
         if len(body) > LONGEST_BODY:
             raise TooLong
         return body
+    if (request.content_length or 0) > LONGEST_BODY:
+        raise TooLong
     return await asyncio.wait_for(rest_of_body(request), BODY_SECONDS)
 
 
@@ -71,11 +71,13 @@ class Handler:
         self.running, self.is_stopping = 0, False
         self.idle = asyncio.Event()
 
-    async def __call__(self, request: web.BaseRequest) -> web.StreamResponse:
+    async def __call__(self, request: web.BaseRequest) -> web.Response:
         """The response to a request: a question to LoST is posted, to any path; two paths are there to be looked at."""
+        if request.method != "POST":
+            return await self.look(request)
         self.running += 1
         try:
-            response = await (self.post(request) if request.method == "POST" else self.look(request))
+            response = await self.post(request)
         finally:
             self.running -= 1
         if self.is_stopping:

@@ -1,6 +1,7 @@
 """What is counted, for Prometheus."""
 from __future__ import annotations
 
+from collections import Counter
 from typing import Any, Dict, List, Tuple
 
 SECONDS = (0.0005, 0.001, 0.0025, 0.005, 0.01, 0.025, 0.05, 0.1, 0.25, 0.5, 1, 2, 4)
@@ -23,18 +24,22 @@ class Metrics:
         self.seconds = prometheus_client.Histogram("lost_request_seconds", "Seconds a request took.", buckets=SECONDS, **shared)
         shared["multiprocess_mode"] = "livemin"
         self.up = prometheus_client.Gauge("lost_server_up", "Whether the server answers each process.", ["server"], **shared)
-        self.counters: Dict[Tuple[str, str], Any] = {}
+        self.counts: Counter[Tuple[str, str]] = Counter()
+        self.times: List[float] = []
 
     def count(self, kind: str, outcome: str, seconds: float) -> None:
-        """One more request."""
-        counter = self.counters.get((kind, outcome))
-        if counter is None:
-            counter = self.counters[kind, outcome] = self.requests.labels(kind, outcome)
-        counter.inc()
-        self.seconds.observe(seconds)
+        """One more request. It is told to the library with others: that takes as long as to answer it."""
+        self.counts[kind, outcome] += 1
+        self.times.append(seconds)
 
-    def tell_servers(self, states: List[Tuple[str, bool]]) -> None:
-        """Which servers answer."""
+    def tell(self, states: List[Tuple[str, bool]]) -> None:
+        """Tells the library what was counted, and which servers answer."""
+        counts, self.counts = self.counts, Counter()
+        times, self.times = self.times, []
+        for (kind, outcome), count in counts.items():
+            self.requests.labels(kind, outcome).inc(count)
+        for seconds in times:
+            self.seconds.observe(seconds)
         for server, is_up in states:
             self.up.labels(server).set(is_up)
 

@@ -8,7 +8,7 @@ from __future__ import annotations
 
 import asyncio
 import json
-from typing import List, NamedTuple, Optional, Tuple
+from typing import Callable, List, NamedTuple, Optional, Tuple
 
 from gateway.connection import Closed, Connection, Unanswered, Unreachable
 from maptools.connection import Server as Address
@@ -19,10 +19,11 @@ PAUSE, QUIET = 1.0, 5.0
 
 
 class Settings(NamedTuple):
-    """How many connections each server gets, and how many seconds a reply is waited for."""
+    """How many connections each server gets, how many seconds a reply is waited for, and who is told a server's own name."""
 
     size: int
     timeout: float
+    on_name: Callable[[str], None]
 
 
 class Reply(NamedTuple):
@@ -46,7 +47,6 @@ class Server:
 
     def __init__(self, address: Address, settings: Settings) -> None:
         self.address, self.settings, self.label = address, settings, str(address)
-        self.name: Optional[str] = None
         self.connections: List[Connection] = []
         self.attempt: Optional[asyncio.Task[None]] = None
         self.wanted = asyncio.Event()
@@ -106,7 +106,7 @@ class Server:
         if name is None:
             connection.give_up(Closed("it is no server of these lines"))
             raise Closed(f"{self.address} gave no reply that this gateway knows")
-        self.name = name
+        settings.on_name(name)
         self.connections.append(connection)
 
     def send(self, line: bytes) -> asyncio.Future[bytes]:
@@ -140,8 +140,14 @@ class Server:
 class Pool:
     """All servers, in the order in which they are preferred."""
 
-    def __init__(self, addresses: List[Address], settings: Settings) -> None:
+    def __init__(self, addresses: List[Address], size: int, timeout: float) -> None:
+        self.name: Optional[str] = None
+        settings = Settings(size, timeout, self.learn_name)
         self.servers = [Server(address, settings) for address in addresses]
+
+    def learn_name(self, name: str) -> None:
+        """The own name of the servers, which is the same for all of them."""
+        self.name = name
 
     def start(self) -> None:
         """Begins to keep connections to all servers."""
@@ -173,10 +179,6 @@ class Pool:
     def next_to(self, first: Server, others: List[Server]) -> Server:
         """The next server: one that is up, if there is one."""
         return next((server for server in others if server.is_up()), others[0] if others else first)
-
-    def name(self) -> Optional[str]:
-        """The own name of a server behind; None where none has answered yet."""
-        return next((server.name for server in self.servers if server.name), None)
 
     def states(self) -> List[Tuple[str, bool]]:
         """Each server, and whether it answers."""

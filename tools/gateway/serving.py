@@ -3,6 +3,7 @@ from __future__ import annotations
 
 import argparse
 import asyncio
+import gc
 import os
 import resource
 import signal
@@ -16,11 +17,11 @@ from gateway.answering import Answering, Manner
 from gateway.http_side import Handler, Side
 from gateway.journal import Journal
 from gateway.metrics import Metrics
-from gateway.pool import Pool, Settings
+from gateway.pool import Pool
 from gateway.processes import Place, Work
 
 BACKLOG = 4096
-LOOK_AGAIN = 0.5
+TELL_AGAIN = 0.25
 KEEP_ALIVE = 75.0
 
 Answerer = Callable[[web.BaseRequest], Awaitable[web.StreamResponse]]
@@ -34,19 +35,19 @@ def allow_many_files() -> None:
 
 def side_of(options: argparse.Namespace) -> Side:
     """What the HTTP side works with, as the command line says."""
-    pool = Pool(options.lostd, Settings(options.pool, options.timeout))
+    pool = Pool(options.lostd, options.pool, options.timeout)
     reading = requests.Manner(options.area == "centre", options.alias)
     answering = Answering(pool, Manner(reading, not options.no_made_up_names, options.name))
     return Side(answering, Metrics(), Journal(options.log) if options.log else None)
 
 
-async def tell_servers(side: Side, speaks: bool) -> None:
-    """Keeps the count of servers that are up, and says on standard error what changes, until it is cancelled."""
+async def tell_often(side: Side, speaks: bool) -> None:
+    """Tells what was counted and which servers are up, and on standard error what changes, until it is cancelled."""
     told: Dict[str, bool] = {}
     while True:
-        await asyncio.sleep(LOOK_AGAIN)
+        await asyncio.sleep(TELL_AGAIN)
         states = side.answering.pool.states()
-        side.metrics.tell_servers(states)
+        side.metrics.tell(states)
         for server, is_up in states:
             if speaks and is_up != told.get(server, True):
                 print(f"lost-gateway: {server} {'answers again' if is_up else 'does not answer'}", file=sys.stderr, flush=True)
@@ -67,6 +68,7 @@ async def listen(handler: Answerer, place: Place, finish: Callable[[], Awaitable
     loop, is_over = asyncio.get_running_loop(), stopping(place.life)
     server = web.Server(handler, access_log=None, auto_decompress=False, keepalive_timeout=KEEP_ALIVE)
     listening = await loop.create_server(server, sock=place.listener, backlog=BACKLOG)
+    gc.freeze()
     os.write(place.ready, b".")
     await is_over.wait()
     loop.remove_reader(place.life)
@@ -81,7 +83,7 @@ async def serve(options: argparse.Namespace, place: Place) -> None:
     side = side_of(options)
     handler, pool = Handler(side), side.answering.pool
     pool.start()
-    telling = asyncio.get_running_loop().create_task(tell_servers(side, place.is_first))
+    telling = asyncio.get_running_loop().create_task(tell_often(side, place.is_first))
     await listen(handler, place, lambda: handler.finish(2 * options.timeout + 1))
     telling.cancel()
     await pool.end()
