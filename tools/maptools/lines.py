@@ -9,6 +9,7 @@ from maptools.texts import is_unicode
 
 LONGEST_LINE = 1_048_576
 DEEPEST_LINE = 127
+COMPACT = json.JSONEncoder(ensure_ascii=False, separators=(",", ":"), sort_keys=True)
 
 
 def finite_number(text: str) -> float:
@@ -39,7 +40,7 @@ def refuse_constant(name: str) -> Any:
 
 def line_of(value: Any) -> str:
     """A value as one compact line, the members of objects in order of their names, without the newline."""
-    return json.dumps(value, ensure_ascii=False, separators=(",", ":"), sort_keys=True)
+    return COMPACT.encode(value)
 
 
 def read_line(line: bytes) -> Optional[Tuple[str, Any]]:

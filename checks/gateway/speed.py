@@ -1,0 +1,117 @@
+"""How fast the gateway is, as ratios in one run: against the same HTTP server with a fixed body, and by processes.
+
+Clients of several processes ask over connections that they keep; what is compared is asked in turns, and of each the
+middle of several rounds counts.
+"""
+import multiprocessing
+import os
+import select
+import socket
+import statistics
+import time
+
+import calls
+from processes import Gateway
+from server import Server
+
+HERE = os.path.dirname(os.path.realpath(__file__))
+FIXED = f"{HERE}/fixed-server"
+SECONDS, ROUNDS, CLIENTS, CONNECTIONS = 3.0, 5, 2, 32
+LEAST_RATIO = 0.5
+REQUEST = """<?xml version="1.0" encoding="UTF-8"?>
+<findService xmlns="urn:ietf:params:xml:ns:lost1" serviceBoundary="reference" recursive="true">
+<location id="0xO5Lxv9wLeyk5He" profile="geodetic-2d">
+<gml:Point xmlns:gml="http://www.opengis.net/gml" srsName="urn:ogc:def:crs:EPSG::4326"><gml:pos>5.25 6.75</gml:pos></gml:Point>
+</location><service>urn:service:sos.police</service></findService>"""
+HEAD = "POST /lost HTTP/1.1\r\nHost: lost.example\r\nContent-Type: application/lost+xml\r\nContent-Length: {}\r\n\r\n"
+POSTED = (HEAD.format(len(REQUEST)) + REQUEST).encode()
+END = b"</findServiceResponse>"
+FORK = multiprocessing.get_context("fork")
+
+
+def take_turn(connection, begun, told):
+    """Takes what came on a connection; where the response is whole, asks again."""
+    name = connection.fileno()
+    told[name] += connection.recv(65_536)
+    if not told[name].endswith(END):
+        return None
+    seconds = time.perf_counter() - begun[name]
+    told[name], begun[name] = b"", time.perf_counter()
+    connection.sendall(POSTED)
+    return seconds
+
+
+def be_client(port, connections, seconds, line):
+    """Asks over connections that it keeps, one question at a time on each; tells how long each answer took."""
+    opened = {}
+    for _ in range(connections):
+        one = socket.create_connection(("127.0.0.1", port))
+        opened[one.fileno()] = one
+    poll = select.epoll()
+    begun, told, took = {}, {name: b"" for name in opened}, []
+    for name, one in opened.items():
+        poll.register(name, select.EPOLLIN)
+        begun[name] = time.perf_counter()
+        one.sendall(POSTED)
+    end = time.perf_counter() + seconds
+    while time.perf_counter() < end:
+        for name, _ in poll.poll(1):
+            passed = take_turn(opened[name], begun, told)
+            if passed is not None:
+                took.append(passed)
+    for one in opened.values():
+        one.close()
+    line.send(took)
+
+
+def measured(port, clients=CLIENTS, connections=CONNECTIONS):
+    """Answers a second, and the seconds of each."""
+    lines, started = [], []
+    for _ in range(clients):
+        line, other = FORK.Pipe(duplex=False)
+        process = FORK.Process(target=be_client, args=(port, connections // clients, SECONDS, other), daemon=True)
+        process.start()
+        lines.append(line)
+        started.append(process)
+    took = [seconds for line in lines for seconds in line.recv()]
+    for process in started:
+        process.join()
+    return len(took) / SECONDS, took
+
+
+def hundredth(took):
+    """The 99th percentile, in milliseconds."""
+    return 1000 * sorted(took)[len(took) * 99 // 100]
+
+
+def compare(ports, rounds=ROUNDS):
+    """By name: the answers a second, and the 99th percentile, of each round; those of one round are taken in turn."""
+    told = {name: [] for name in ports}
+    for _ in range(rounds):
+        for name, port in ports.items():
+            rate, took = measured(port)
+            told[name].append((rate, hundredth(took)))
+    return told
+
+
+def middle(rounds, other=None):
+    """The middle of the rates of rounds, or of their ratios to those of other rounds."""
+    if other is None:
+        return statistics.median(rate for rate, _ in rounds)
+    return statistics.median(rate / fixed for (rate, _), (fixed, _) in zip(rounds, other))
+
+
+def speed(program):
+    """Prints the ratios; what is wrong with them."""
+    with Server(program, 16, 1000) as server:
+        server.desk().ask_all(calls.MAP)
+        one, four = Gateway([server.queries]), Gateway([server.queries], "--processes", "4")
+        fixed, fixed_four = Gateway([server.queries], program=FIXED), Gateway([server.queries], "--processes", "4", program=FIXED)
+        with one, four, fixed, fixed_four:
+            told = compare({"fixed": fixed.port, "one": one.port, "fixed four": fixed_four.port, "four": four.port})
+    ratio = middle(told["one"], told["fixed"])
+    print(f"one process: {ratio:.2f} of a fixed body's answers a second ({middle(told['one']):.0f} and {middle(told['fixed']):.0f})")
+    print(f"four: {middle(told['four'], told['fixed four']):.2f} of a fixed body's; {middle(told['four'], told['one']):.1f} times one process")
+    for name in ("fixed", "one", "four"):
+        print(f"99 of a hundred answers within {statistics.median(late for _, late in told[name]):.1f} ms: {name}, {CONNECTIONS} connections")
+    return [] if ratio >= LEAST_RATIO else [f"one process answers {ratio:.2f} of a fixed body, and not {LEAST_RATIO}"]

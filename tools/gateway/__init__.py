@@ -1,0 +1,1 @@
+"""The gateway of tools/lost-gateway: LoST in XML over HTTP in front, the lines of docs/PROTOCOL.md behind."""

@@ -1,0 +1,148 @@
+"""The HTTP side: RFC 5222, section 14, and what an operator looks at."""
+from __future__ import annotations
+
+import asyncio
+import time
+from typing import Dict, NamedTuple, Optional
+
+from aiohttp import web
+
+from gateway.answering import Answer, Answering
+from gateway.connection import Unanswered
+from gateway.documents import LONGEST_BODY
+from gateway.journal import Journal
+from gateway.metrics import Metrics
+from gateway.pool import QUESTION
+from gateway.vocabulary import MEDIA_TYPE
+
+BODY_SECONDS = 10.0
+CONTINUE = b"HTTP/1.1 100 Continue\r\n\r\n"
+NOT_POSTED = "POST a request of application/lost+xml"
+NOT_LOST = "the body is not application/lost+xml, or is compressed"
+
+
+class TooLong(Exception):
+    """A body has more bytes than are read."""
+
+
+class Side(NamedTuple):
+    """What the HTTP side works with."""
+
+    answering: Answering
+    metrics: Metrics
+    journal: Optional[Journal]
+
+
+def is_lost(request: web.BaseRequest) -> bool:
+    """Whether the body is said to be of LoST and is not compressed. (aiohttp's own reader of types takes as long as all else.)"""
+    said = request.headers.get("Content-Type", "").partition(";")[0].strip().lower()
+    return said == MEDIA_TYPE and request.headers.get("Content-Encoding", "identity") == "identity"
+
+
+async def rest_of_body(request: web.BaseRequest) -> bytes:
+    """A body that has not come whole yet."""
+    if request.headers.get("Expect", "").lower() == "100-continue":
+        await request.writer.write(CONTINUE)
+    body = bytearray()
+    while not request.content.at_eof():
+        body += await request.content.readany()
+        if len(body) > LONGEST_BODY:
+            raise TooLong
+    return bytes(body)
+
+
+async def body_of(request: web.BaseRequest) -> bytes:
+    """The body of a request; TooLong where it is not read to its end, asyncio.TimeoutError where it doesn't come."""
+    if request.content.is_eof():
+        body = request.content.read_nowait(-1)
+        if len(body) > LONGEST_BODY:
+            raise TooLong
+        return body
+    if (request.content_length or 0) > LONGEST_BODY:
+        raise TooLong
+    return await asyncio.wait_for(rest_of_body(request), BODY_SECONDS)
+
+
+class Handler:
+    """Handles the requests of all connections of a process."""
+
+    def __init__(self, side: Side) -> None:
+        self.side = side
+        self.running, self.is_stopping = 0, False
+        self.idle = asyncio.Event()
+
+    async def __call__(self, request: web.BaseRequest) -> web.Response:
+        """The response to a request: a question to LoST is posted, to any path; two paths are there to be looked at."""
+        if request.method != "POST":
+            return await self.look(request)
+        self.running += 1
+        try:
+            response = await self.post(request)
+        finally:
+            self.running -= 1
+        if self.is_stopping:
+            response.force_close()
+            self.idle.set()
+        return response
+
+    async def look(self, request: web.BaseRequest) -> web.Response:
+        """The response to what is not posted."""
+        if request.method in ("GET", "HEAD") and request.path == "/health":
+            return await self.health()
+        if request.method in ("GET", "HEAD") and request.path == "/metrics":
+            return web.Response(body=self.side.metrics.text(), headers={"Content-Type": self.side.metrics.media_type()})
+        return lost_response(self.side.answering.refused("badRequest", NOT_POSTED), 405, {"Allow": "POST"})
+
+    async def health(self) -> web.Response:
+        """A real question is asked behind: 200 where it is answered, and else 503."""
+        try:
+            reply = await self.side.answering.pool.ask(QUESTION)
+        except Unanswered as error:
+            return web.Response(status=503, text=f"no server answers: {error}\n")
+        return web.Response(text=f"{reply.server} answers\n")
+
+    async def post(self, request: web.BaseRequest) -> web.Response:
+        """The answer to a question, counted and written down."""
+        begun = time.monotonic()
+        if not is_lost(request):
+            return lost_response(self.side.answering.refused("badRequest", NOT_LOST), 415)
+        body, is_whole = b"", True
+        try:
+            body = await body_of(request)
+            answer = await self.side.answering.answer(body)
+        except TooLong:
+            answer, is_whole = self.side.answering.too_long(), False
+        except asyncio.TimeoutError:
+            answer, is_whole = self.side.answering.refused("badRequest", "the body did not come"), False
+        self.note(request, body, answer, time.monotonic() - begun)
+        response = lost_response(answer)
+        if not is_whole:
+            response.force_close()
+        return response
+
+    def note(self, request: web.BaseRequest, body: bytes, answer: Answer, seconds: float) -> None:
+        """Counts a query, and writes it down."""
+        self.side.metrics.count(answer.kind, answer.outcome, seconds)
+        if self.side.journal:
+            peer = request.transport.get_extra_info("peername") if request.transport else None
+            client = f"{peer[0]}:{peer[1]}" if peer else ""
+            self.side.journal.note(client, request.headers.get("X-Forwarded-For"), body, answer, seconds)
+
+    async def finish(self, seconds: float) -> None:
+        """Waits until what is asked is answered, but not for longer than so many seconds."""
+        self.is_stopping = True
+        end = time.monotonic() + seconds
+        while self.running and time.monotonic() < end:
+            self.idle.clear()
+            try:
+                await asyncio.wait_for(self.idle.wait(), max(0.0, end - time.monotonic()))
+            except asyncio.TimeoutError:
+                return
+
+
+def lost_response(answer: Answer, status: int = 200, headers: Optional[Dict[str, str]] = None) -> web.Response:
+    """A response whose body is XML of LoST; 200 for errors of LoST too."""
+    fields = {"Content-Type": MEDIA_TYPE, **(headers or {})}
+    if answer.edition is not None:
+        fields["Edition"] = str(answer.edition)
+    return web.Response(body=answer.xml, status=status, headers=fields)

@@ -1,0 +1,79 @@
+"""The command line of the gateway."""
+from __future__ import annotations
+
+import argparse
+from typing import Any, Callable, List
+
+from gateway.services import alias_of
+from maptools.connection import Server, server_of
+
+PACKAGES = "apt-get install python3-lxml python3-aiohttp python3-prometheus-client"
+EXAMPLE = f"""It needs Debian's packages python3-lxml, python3-aiohttp and python3-prometheus-client:
+  {PACKAGES}
+and is run by Debian's own python3, /usr/bin/python3, which sees them.
+
+example:
+  lost-gateway --listen 127.0.0.1:8080 --lostd 127.0.0.1:5222
+  curl -H 'Content-Type: application/lost+xml' -d @request.xml http://127.0.0.1:8080/
+"""
+
+
+def checked(read: Callable[[str], Any]) -> Callable[[str], Any]:
+    """A reader of an argument whose ValueError is said to the user."""
+
+    def read_argument(text: str) -> Any:
+        try:
+            return read(text)
+        except ValueError as error:
+            raise argparse.ArgumentTypeError(str(error)) from None
+
+    return read_argument
+
+
+def listen_of(text: str) -> Server:
+    """HOST:PORT, where port 0 lets the system choose."""
+    host, _, port = text.rpartition(":")
+    return server_of(f"{host}:1")._replace(port=0) if port == "0" else server_of(text)
+
+
+def servers_of(text: str) -> List[Server]:
+    """HOST:PORT, and more of them after commas."""
+    return [server_of(part) for part in text.split(",")]
+
+
+def number_between(least: float, greatest: float, kind: Callable[[str], Any]) -> Callable[[str], Any]:
+    """A reader of a number in these bounds."""
+
+    def read(text: str) -> Any:
+        try:
+            number = kind(text)
+        except ValueError:
+            number = least - 1
+        if not least <= number <= greatest:
+            raise ValueError(f"{text!r} is no number from {least:g} to {greatest:g}")
+        return number
+
+    return checked(read)
+
+
+def parser(description: str) -> argparse.ArgumentParser:
+    """The command line."""
+    raw = argparse.RawDescriptionHelpFormatter
+    words = argparse.ArgumentParser(prog="lost-gateway", description=description, epilog=EXAMPLE, formatter_class=raw)
+    add = words.add_argument
+    add("--listen", required=True, type=checked(listen_of), metavar="HOST:PORT", help="where clients ask, over HTTP")
+    servers = {"type": checked(servers_of), "metavar": "HOST:PORT[,HOST:PORT..]"}
+    add("--lostd", required=True, help="the addresses for queries of the servers behind, the preferred one first", **servers)
+    pool = {"type": number_between(1, 64, int), "default": 2, "metavar": "N"}
+    add("--pool", help="connections of each process to each server (2): lostd needs as many --workers as all of them", **pool)
+    processes = {"type": number_between(1, 256, int), "default": 1, "metavar": "N"}
+    add("--processes", help="how many processes share the work (1); one for each core is the most that helps", **processes)
+    timeout = {"type": number_between(0.05, 600, float), "default": 2.0, "metavar": "SECONDS"}
+    add("--timeout", help="how long a server may say nothing before the next one is tried (2)", **timeout)
+    add("--area", choices=("centre", "refuse"), default="centre", help="ask for the centre of an area, with a warning (the default), or refuse it as locationInvalid")
+    alias = {"type": checked(alias_of), "default": [], "action": "append", "metavar": "THEIRS=OURS"}
+    add("--alias", help="services that begin with THEIRS in front begin with OURS behind, and back in replies", **alias)
+    add("--no-made-up-names", action="store_true", help="leave displayName out where the map has none; else it is the sourceId")
+    add("--name", metavar="NAME", help="the source of errors and warnings; else the server's own name, from its replies")
+    add("--log", metavar="FILE", help="add one JSON line to FILE for each query")
+    return words

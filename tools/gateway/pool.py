@@ -1,0 +1,190 @@
+"""The servers behind, a few connections to each, and which of them a line goes to.
+
+A connection is used once it has answered a first question: where a server has fewer workers than connections, those that no
+worker has taken stay unused. While nobody asks, each connection is asked now and then, so that the server keeps it, and one
+that has fallen silent is found before a call needs it.
+"""
+from __future__ import annotations
+
+import asyncio
+import json
+from typing import Callable, List, NamedTuple, Optional, Tuple
+
+from gateway.connection import Closed, Connection, Unanswered, Unreachable
+from maptools.connection import Server as Address
+
+QUESTION = b'{"listServices":{}}\n'
+# Seconds: before a server that failed is tried again, and without a reply before a connection is asked.
+PAUSE, QUIET = 1.0, 5.0
+
+
+class Settings(NamedTuple):
+    """How many connections each server gets, how many seconds a reply is waited for, and who is told a server's own name."""
+
+    size: int
+    timeout: float
+    on_name: Callable[[str], None]
+
+
+class Reply(NamedTuple):
+    """A line of reply, and the server that gave it."""
+
+    line: bytes
+    server: str
+
+
+def name_in(line: bytes) -> Optional[str]:
+    """The server's own name, which is the last of the path of a reply; None where the line has no path."""
+    try:
+        ((_, members),) = json.loads(line).items()
+        return str(members["path"][-1])
+    except (ValueError, KeyError, TypeError, AttributeError, IndexError):
+        return None
+
+
+class Server:
+    """A server behind, and its connections that answer."""
+
+    def __init__(self, address: Address, settings: Settings) -> None:
+        self.address, self.settings, self.label = address, settings, str(address)
+        self.connections: List[Connection] = []
+        self.attempt: Optional[asyncio.Task[None]] = None
+        self.wanted = asyncio.Event()
+        self.keeper: Optional[asyncio.Task[None]] = None
+
+    def start(self) -> None:
+        """Begins to keep connections."""
+        self.keeper = asyncio.get_running_loop().create_task(self.keep())
+
+    def is_up(self) -> bool:
+        """Whether some connection answers."""
+        return bool(self.connections)
+
+    def lose(self, connection: Connection) -> None:
+        """A connection is over, or is not to be used any more."""
+        if connection in self.connections:
+            self.connections.remove(connection)
+            self.wanted.set()
+
+    async def keep(self) -> None:
+        """Opens what is missing, and asks what has been quiet for long, again and again until it is cancelled."""
+        while True:
+            self.wanted.clear()
+            try:
+                while len(self.connections) < self.settings.size:
+                    await self.try_to_open()
+            except Unanswered:
+                await asyncio.sleep(PAUSE)
+                continue
+            try:
+                await asyncio.wait_for(self.wanted.wait(), QUIET)
+            except asyncio.TimeoutError:
+                self.ask_the_quiet()
+
+    def ask_the_quiet(self) -> None:
+        """Asks each connection on which nothing waits and nothing came for long; one that is silent gives itself up."""
+        now = asyncio.get_running_loop().time()
+        for connection in self.connections:
+            if not connection.waiting and now - connection.last_heard > QUIET:
+                connection.ask(QUESTION).add_done_callback(lambda future: future.cancelled() or future.exception())
+
+    async def try_to_open(self) -> None:
+        """One more connection; those who want one at the same time share the attempt. Unanswered where there is none."""
+        if self.attempt is None or self.attempt.done():
+            self.attempt = asyncio.get_running_loop().create_task(self.open())
+        await asyncio.shield(self.attempt)
+
+    async def open(self) -> None:
+        """Opens a connection and asks a first question."""
+        loop, settings = asyncio.get_running_loop(), self.settings
+        connecting = loop.create_connection(lambda: Connection(settings.timeout, self.lose), *self.address)
+        try:
+            _, connection = await asyncio.wait_for(connecting, settings.timeout)
+        except (OSError, asyncio.TimeoutError) as error:
+            raise Unreachable(f"no connection to {self.address}: {error or 'it takes too long'}") from None
+        name = name_in(await connection.ask(QUESTION))
+        if name is None:
+            connection.give_up(Closed("it is no server of these lines"))
+            raise Closed(f"{self.address} gave no reply that this gateway knows")
+        settings.on_name(name)
+        self.connections.append(connection)
+
+    def send(self, line: bytes) -> asyncio.Future[bytes]:
+        """Sends a line over the connection on which the fewest lines wait; its reply."""
+        connection = self.connections[0]
+        for other in self.connections:
+            if len(other.waiting) < len(connection.waiting):
+                connection = other
+        future = connection.ask(line)
+        if connection.is_spent():
+            self.lose(connection)
+            connection.leave()
+        return future
+
+    async def ask(self, line: bytes) -> bytes:
+        """The reply to a line; Unanswered where there is none."""
+        if not self.connections:
+            await self.try_to_open()
+        if not self.connections:
+            raise Closed(f"{self.address} closed the connection")
+        return await self.send(line)
+
+    async def end(self) -> None:
+        """Ends all connections."""
+        if self.keeper:
+            self.keeper.cancel()
+        for connection in list(self.connections):
+            connection.leave()
+
+
+class Pool:
+    """All servers, in the order in which they are preferred."""
+
+    def __init__(self, addresses: List[Address], size: int, timeout: float) -> None:
+        self.name: Optional[str] = None
+        settings = Settings(size, timeout, self.learn_name)
+        self.servers = [Server(address, settings) for address in addresses]
+
+    def learn_name(self, name: str) -> None:
+        """The own name of the servers, which is the same for all of them."""
+        self.name = name
+
+    def start(self) -> None:
+        """Begins to keep connections to all servers."""
+        for server in self.servers:
+            server.start()
+
+    def in_turn(self) -> List[Server]:
+        """All servers, those that are up first."""
+        return sorted(self.servers, key=lambda server: not server.is_up())
+
+    async def ask(self, line: bytes) -> Reply:
+        """The reply to a line, after one try at the next server where the first gives none."""
+        first, *others = self.servers if self.servers[0].connections else self.in_turn()
+        try:
+            return Reply(await (first.send(line) if first.connections else first.ask(line)), first.label)
+        except Unanswered as error:
+            return await self.ask_next(line, first, others, error)
+
+    async def ask_next(self, line: bytes, first: Server, others: List[Server], why: Unanswered) -> Reply:
+        """The reply of the next server.
+
+        One server alone is tried again over another connection, but not where it was silent or could not be reached.
+        """
+        if not others and not isinstance(why, Closed):
+            raise why
+        second = self.next_to(first, others)
+        return Reply(await second.ask(line), second.label)
+
+    def next_to(self, first: Server, others: List[Server]) -> Server:
+        """The next server: one that is up, if there is one."""
+        return next((server for server in others if server.is_up()), others[0] if others else first)
+
+    def states(self) -> List[Tuple[str, bool]]:
+        """Each server, and whether it answers."""
+        return [(server.label, server.is_up()) for server in self.servers]
+
+    async def end(self) -> None:
+        """Ends all connections."""
+        for server in self.servers:
+            await server.end()

@@ -1,0 +1,131 @@
+"""Tests what tools/lost-gateway reads and writes, by tables of XML and lines."""
+from __future__ import annotations
+
+import json
+import shutil
+import subprocess
+import tempfile
+import unittest
+import xml.etree.ElementTree as ElementTree
+from typing import Any, Dict
+
+from tests.gateway_running import NOT_FOUND, Answer, Case, Gateway, StandIn, canonical, cases, has_packages, invalid_of
+from tests.running import TOOLS
+
+POINT = """<findService xmlns="urn:ietf:params:xml:ns:lost1"><location id="p" profile="geodetic-2d">
+<gml:Point xmlns:gml="http://www.opengis.net/gml"><gml:pos>1 2</gml:pos></gml:Point></location>
+<service>{service}</service></findService>"""
+LIST = '<listServices xmlns="urn:ietf:params:xml:ns:lost1">{service}</listServices>'
+
+
+def one_line(text: str) -> bytes:
+    """A line of a table, which goes over several, as it is sent."""
+    return "".join(text.splitlines()).encode()
+
+
+def found(service: str, **more: Any) -> Dict[str, Any]:
+    """A reply with one mapping of a service."""
+    mapping = {"expires": "NO-CACHE", "lastUpdated": "2025-12-01T00:00:00Z", "service": service, "source": "map.example"}
+    mapping = {**mapping, "sourceId": "A", "uri": ["sip:a@map.example"], **more}
+    return {"findServiceResponse": {"edition": 1, "locationUsed": "p", "mapping": [mapping], "path": ["lost.example"]}}
+
+
+@unittest.skipUnless(has_packages(), "the packages of Debian that the gateway needs are missing")
+class Messages(unittest.TestCase):
+    """Each case of the tables through a gateway that runs."""
+
+    def setUp(self) -> None:
+        self.server = StandIn()
+        self.addCleanup(self.server.end)
+
+    def gateway(self, *words: str) -> Gateway:
+        gateway = Gateway(self.server.address, *words)
+        self.addCleanup(gateway.end)
+        return gateway
+
+    def answer(self, gateway: Gateway, xml: str, reply: bytes = NOT_FOUND) -> Answer:
+        """The answer to a request whose line gets this reply; what came before is forgotten."""
+        self.server.got.clear()
+        self.server.replier = lambda line: reply
+        return gateway.post(xml)
+
+    def check_shape(self, answer: Answer) -> None:
+        """What every answer is: XML of one type with status 200, without what clients stumble over."""
+        self.assertEqual((answer.status, answer.headers["content-type"]), (200, "application/lost+xml"))
+        for mark in (b"<!--", b"<?", b"\n", b"\r"):
+            self.assertNotIn(mark, answer.body)
+
+    def check_request(self, gateway: Gateway, case: Case) -> None:
+        answer = self.answer(gateway, case.parts["xml"])
+        self.check_shape(answer)
+        wanted = [json.loads(case.parts["line"])] if "line" in case.parts else []
+        self.assertEqual([json.loads(line) for line in self.server.got], wanted)
+        self.assertEqual(answer.outcome(), "notFound" if wanted else "badRequest")
+        self.assertEqual(answer.headers.get("edition"), "7" if wanted else None)
+
+    def check_reply(self, gateway: Gateway, case: Case) -> None:
+        answer = self.answer(gateway, case.parts.get("xml", POINT.format(service="urn:service:sos")), one_line(case.parts["reply"]))
+        self.check_shape(answer)
+        self.assertEqual(canonical(answer.body), canonical(case.parts["answer"]))
+        self.assertEqual(answer.headers.get("edition"), case.parts.get("edition"))
+
+    def test_the_tables(self) -> None:
+        gateway = self.gateway()
+        for table, check in (("requests", self.check_request), ("replies", self.check_reply)):
+            for case in cases(table):
+                with self.subTest(table=table, case=case.name):
+                    check(gateway, case)
+
+    def test_replies_that_nobody_knows_are_a_server_error(self) -> None:
+        gateway = self.gateway()
+        other = found("urn:service:sos")
+        other["findServiceResponse"]["warnings"] = ["other"]
+        for reply in (b"no JSON", b"7", b"{}", b'{"findServiceResponse":{}}', b'{"errors":{"error":"other"}}', b'{"other":{"path":[]}}',
+                      b'{"errors":7}', json.dumps(other).encode()):  # fmt: skip
+            answer = self.answer(gateway, POINT.format(service="urn:service:sos"), reply)
+            self.check_shape(answer)
+            self.assertEqual(answer.outcome(), "serverError", reply)
+
+    def test_no_made_up_names(self) -> None:
+        gateway = self.gateway("--no-made-up-names")
+        reply = json.dumps(found("urn:service:sos")).encode()
+        self.assertNotIn(b"displayName", self.answer(gateway, POINT.format(service="urn:service:sos"), reply).body)
+
+    def test_the_name_of_errors_and_warnings(self) -> None:
+        answer = self.answer(self.gateway("--name", "gw.example"), POINT.format(service="urn:service:sos"))
+        self.assertEqual(ElementTree.fromstring(answer.body).get("source"), "gw.example")
+
+    def test_aliases(self) -> None:
+        words = ["--alias", "urn:emergency:service:=urn:service:", "--alias", "urn:nena:service:sos.police=urn:service:sos.police"]
+        gateway = self.gateway(*words)
+        for asked, behind, told, front in (
+            ("urn:emergency:service:sos.police", "urn:service:sos.police", "urn:service:sos.police", "urn:emergency:service:sos.police"),
+            ("URN:Emergency:service:sos.fire", "urn:service:sos.fire", "urn:service:sos", "urn:emergency:service:sos"),
+            ("urn:nena:service:sos.police", "urn:service:sos.police", "urn:service:sos.police", "urn:nena:service:sos.police"),
+            ("urn:nena:service:sos.police", "urn:service:sos.police", "urn:service:sos", "urn:service:sos"),
+            ("urn:service:sos", "urn:service:sos", "urn:service:sos", "urn:service:sos"),
+        ):
+            answer = self.answer(gateway, POINT.format(service=asked), json.dumps(found(told)).encode())
+            self.assertEqual(json.loads(self.server.got[0])["findService"]["service"], behind)
+            self.assertIn(f"<service>{front}</service>".encode(), answer.body)
+        reply = {"listServicesResponse": {"edition": 1, "path": ["lost.example"], "serviceList": ["urn:service:sos.a", "urn:service:sos.b"]}}
+        asked = LIST.format(service="<service>urn:emergency:service:sos</service>")
+        answer = self.answer(gateway, asked, json.dumps(reply).encode())
+        self.assertIn(b"<serviceList>urn:emergency:service:sos.a urn:emergency:service:sos.b</serviceList>", answer.body)
+
+    @classmethod
+    def tearDownClass(cls) -> None:
+        wrong = invalid_of(Gateway.seen)
+        if wrong:
+            raise AssertionError(f"not valid by lost.rng: {wrong}")
+
+
+class Schema(unittest.TestCase):
+    """The schema in its two spellings."""
+
+    @unittest.skipUnless(shutil.which("trang"), "trang is not there")
+    def test_both_spellings_are_the_same(self) -> None:
+        with tempfile.TemporaryDirectory() as folder:
+            subprocess.run(["trang", f"{TOOLS}/gateway/lost.rnc", f"{folder}/lost.rng"], check=True, timeout=60)
+            with open(f"{folder}/lost.rng", "rb") as made, open(f"{TOOLS}/gateway/lost.rng", "rb") as kept:
+                self.assertEqual(canonical(made.read()), canonical(kept.read()))
