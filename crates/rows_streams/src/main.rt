@@ -20,7 +20,6 @@ mod holding;
 mod hostile;
 mod pair;
 mod script;
-mod seat;
 mod setting;
 mod stream;
 mod streams;

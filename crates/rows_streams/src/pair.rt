@@ -2,11 +2,12 @@
 ghost use Rattle.std.specs.Thread.{IsSync};
 
 use crate::holding::Holding;
-use crate::seat::Seat;
 use crate::setting::Setting;
 use crate::stream::Stream;
 use crate::telling::tell;
-use lost_worker::{Counts, Replier, ServeError, Watched, serve_lines};
+use lost_desk::Reader;
+use lost_worker::{Counts, ServeError, Watched, serve_lines};
+use std::alloc::Global;
 use std::io;
 use std::thread::{Threads, join_mut};
 use std::time::Clock;
@@ -14,55 +15,53 @@ use test_fakes::Answered;
 
 /// What the thread of a connection has, and what it wrote.
 #[derive(Drop)]
-struct Serving<'a, P, R: Clock> {
-    seat: Seat<'a, P, R>,
+struct Serving<'a, R: Clock> {
+    alloc: Global,
+    reader: &'a mut Reader,
+    setting: &'a Setting,
+    gate: &'a Holding<'a, R>,
+    stream: &'a Stream,
     written: Vec<u8>,
 }
 
-/// Serves a stream twice by [`serve_lines`], by two repliers in two threads: the first waits with its first line until the
+/// Serves a stream twice by [`serve_lines`], by two readers in two threads: the first waits with its first line until the
 /// second has answered a line. Prints what each wrote, and how it ended.
-pub(crate) fn serve_pair<R: Threads + Clock + Sync + Print + AllocGlobal, P: Replier + Send>(
+pub(crate) fn serve_pair<R: Threads + Clock + Sync + Print + AllocGlobal>(
     rt: &R,
-    first: &mut P,
-    second: &mut P,
+    first: &mut Reader,
+    second: &mut Reader,
     setting: &Setting,
     stream: &Stream,
 ) -> io::Result<()> {
     let answered = Answered::new(rt);
     let waiting = Holding::Until(&answered);
     let counting = Holding::Counting(&answered);
-    let mut one = seated(rt, first, setting, &waiting, stream);
-    let mut other = seated(rt, second, setting, &counting, stream);
+    let mut one = Serving {
+        alloc: rt.alloc(),
+        reader: first,
+        setting,
+        gate: &waiting,
+        stream,
+        written: Vec::new(rt.alloc()),
+    };
+    let mut other = Serving {
+        alloc: rt.alloc(),
+        reader: second,
+        setting,
+        gate: &counting,
+        stream,
+        written: Vec::new(rt.alloc()),
+    };
     let (result, other_result) = in_two_threads(rt, &mut one, &mut other);
     tell(rt, one.written.as_slice(), result)?;
     tell(rt, other.written.as_slice(), other_result)
 }
 
-/// A thread that has written nothing.
-fn seated<'a, R: Clock + AllocGlobal, P>(
-    rt: &R,
-    replier: &'a mut P,
-    setting: &'a Setting,
-    gate: &'a Holding<'a, R>,
-    stream: &'a Stream,
-) -> Serving<'a, P, R> {
-    Serving {
-        seat: Seat {
-            alloc: rt.alloc(),
-            replier,
-            setting,
-            gate,
-            stream,
-        },
-        written: Vec::new(rt.alloc()),
-    }
-}
-
 /// Has both serve, each in a thread of its own.
-fn in_two_threads<R: Threads + Clock + Sync, P: Replier + Send>(
+fn in_two_threads<R: Threads + Clock + Sync>(
     rt: &R,
-    one: &mut Serving<P, R>,
-    other: &mut Serving<P, R>,
+    one: &mut Serving<R>,
+    other: &mut Serving<R>,
 ) -> (Result<Counts, ServeError>, Result<Counts, ServeError>) {
     join_mut(
         rt,
@@ -76,20 +75,19 @@ fn in_two_threads<R: Threads + Clock + Sync, P: Replier + Send>(
 }
 
 /// Serves the stream.
-fn serve<R: Clock, P: Replier>(serving: &mut Serving<P, R>) -> Result<Counts, ServeError> {
-    let seat = &mut serving.seat;
-    let mut moments = seat.setting.moments();
-    let mut input = Watched::new(seat.stream.bytes.as_slice());
-    let mut output = Watched::new(Vec::new(seat.alloc));
+fn serve<R: Clock>(serving: &mut Serving<R>) -> Result<Counts, ServeError> {
+    let mut moments = serving.setting.moments();
+    let mut input = Watched::new(serving.stream.bytes.as_slice());
+    let mut output = Watched::new(Vec::new(serving.alloc));
     let result = serve_lines(
-        seat.alloc,
+        serving.alloc,
         &mut input,
         &mut output,
-        seat.replier,
-        &seat.setting.name,
+        serving.reader,
+        &serving.setting.name,
         &mut moments,
-        seat.gate,
-        seat.stream.turns,
+        serving.gate,
+        serving.stream.turns,
     );
     serving.written = output.into_inner();
     result

@@ -6,7 +6,7 @@ use crate::setting::{Setting, limits};
 use crate::stream::Stream;
 use crate::telling::tell;
 use crate::workers::serve_two;
-use lost_desk::{Desk, Readers, open_desk};
+use lost_desk::{Desk, Reader, Readers, open_desk};
 use lost_spec::Coded;
 use lost_worker::{Gate, NoGate, Replier, Watched, serve_desk, serve_lines};
 use std::io;
@@ -16,10 +16,10 @@ use std::time::Clock;
 
 /// A desk and two of its readers.
 #[derive(Drop)]
-struct Bench<'d, P> {
+struct Bench<'d> {
     desk: &'d mut Desk,
-    first: &'d mut P,
-    second: &'d mut P,
+    first: &'d mut Reader,
+    second: &'d mut Reader,
     setting: &'d Setting,
 }
 
@@ -58,8 +58,7 @@ fn run_bench<R: Threads + Wait + Clock + Sync + Print + AllocGlobal>(
     run_script(rt, &mut bench, script)
 }
 
-impl<R: Threads + Wait + Clock + Sync + Print + AllocGlobal, P: Replier + Send> Server<R>
-    for Bench<'_, P> {
+impl<R: Threads + Wait + Clock + Sync + Print + AllocGlobal> Server<R> for Bench<'_> {
     fn serve(&mut self, rt: &R, stream: &Stream, command: &str) -> io::Result<()> {
         match command {
             "desk" => serve_by_desk(rt, self.desk, stream),

@@ -2,12 +2,12 @@
 ghost use Rattle.std.specs.Thread.{IsSync};
 
 use crate::holding::Holding;
-use crate::seat::Seat;
 use crate::setting::Setting;
 use crate::stream::Stream;
 use crate::telling::tell_counts;
 use crossbeam_channel::{Receiver, unbounded};
-use lost_worker::{Connection, Counts, Replier, worker_loop};
+use lost_desk::Reader;
+use lost_worker::{Connection, Counts, worker_loop};
 use std::alloc::{AllocError, Global};
 use std::collections::VecDeque;
 use std::io;
@@ -22,41 +22,41 @@ type InMemory = Connection<VecDeque<u8>, Vec<u8>>;
 
 /// What the thread of a worker has.
 #[derive(Drop)]
-struct Working<'a, P, R: Clock> {
-    seat: Seat<'a, P, R>,
+struct Working<'a, R: Clock> {
+    alloc: Global,
+    reader: &'a mut Reader,
+    setting: &'a Setting,
     connections: Receiver<InMemory>,
+    gate: &'a Holding<'a, R>,
+    stream: &'a Stream,
 }
 
 /// Serves a stream twice, by two workers that take connections from one channel: whichever line is asked for first waits
 /// until the other was answered. Prints the sum of their counts.
-pub(crate) fn serve_two<R: Threads + Wait + Clock + Sync + Print + AllocGlobal, P: Replier + Send>(
+pub(crate) fn serve_two<R: Threads + Wait + Clock + Sync + Print + AllocGlobal>(
     rt: &R,
-    first: &mut P,
-    second: &mut P,
+    first: &mut Reader,
+    second: &mut Reader,
     setting: &Setting,
     stream: &Stream,
 ) -> io::Result<()> {
     let connections = twice(rt, stream)?;
     let gate = Holding::First(Meeting::new(rt));
     let mut one = Working {
-        seat: Seat {
-            alloc: rt.alloc(),
-            replier: first,
-            setting,
-            gate: &gate,
-            stream,
-        },
+        alloc: rt.alloc(),
+        reader: first,
+        setting,
         connections: connections.clone()?,
+        gate: &gate,
+        stream,
     };
     let mut other = Working {
-        seat: Seat {
-            alloc: rt.alloc(),
-            replier: second,
-            setting,
-            gate: &gate,
-            stream,
-        },
+        alloc: rt.alloc(),
+        reader: second,
+        setting,
         connections,
+        gate: &gate,
+        stream,
     };
     let (counts, more) = in_two_threads(rt, &mut one, &mut other);
     tell_counts(rt, counts.plus(more))
@@ -86,10 +86,10 @@ fn connection(alloc: Global, stream: &Stream) -> io::Result<InMemory> {
 }
 
 /// Has both work, each in a thread of its own.
-fn in_two_threads<R: Threads + Wait + Clock + Sync, P: Replier + Send>(
+fn in_two_threads<R: Threads + Wait + Clock + Sync>(
     rt: &R,
-    one: &mut Working<P, R>,
-    other: &mut Working<P, R>,
+    one: &mut Working<R>,
+    other: &mut Working<R>,
 ) -> (Counts, Counts) {
     join_mut(
         rt,
@@ -103,17 +103,16 @@ fn in_two_threads<R: Threads + Wait + Clock + Sync, P: Replier + Send>(
 }
 
 /// Serves connections until there are no more.
-fn work<R: Wait + Clock, P: Replier>(rt: &R, working: &mut Working<P, R>) -> Counts {
-    let seat = &mut working.seat;
-    let mut moments = seat.setting.moments();
+fn work<R: Wait + Clock>(rt: &R, working: &mut Working<R>) -> Counts {
+    let mut moments = working.setting.moments();
     worker_loop(
         rt,
-        seat.alloc,
+        working.alloc,
         &working.connections,
-        seat.replier,
-        &seat.setting.name,
+        working.reader,
+        &working.setting.name,
         &mut moments,
-        seat.gate,
-        seat.stream.turns,
+        working.gate,
+        working.stream.turns,
     )
 }
