@@ -1,38 +1,43 @@
 //! The commands of the hostile script.
 use crate::by::By;
 use crate::faults::{tell_faults, tell_marks};
-use crate::script::{Server, no_command, run_script};
 use crate::setting::Setting;
-use crate::stream::Stream;
+use crate::stream::{Stream, no_command};
 use crate::sweeps::{Sweep, reads, spaces, whole, writes};
 use crate::worker::work;
 use std::io;
 use std::sync::Wait;
 
-/// Serves each stream anew.
-#[derive(Drop)]
-struct Anew<'s> {
-    setting: &'s Setting,
-}
-
 /// Runs the script.
 pub(crate) fn run<R: Wait + Print + AllocGlobal>(rt: &R, script: &str) -> io::Result<()> {
     let setting = Setting::new(rt.alloc())?;
-    run_script(rt, &mut Anew { setting: &setting }, script)
+    let mut stream = Stream::new(rt.alloc());
+    for line in script.lines() {
+        let line = line.trim_end();
+        if !stream.is_prepared(line)? {
+            println!(rt; "-- {line}")?;
+            serve(rt, &setting, stream.bytes.as_slice(), line)?;
+            stream = Stream::new(rt.alloc());
+        }
+    }
+    Ok(())
 }
 
-impl<R: Wait + Print + AllocGlobal> Server<R> for Anew<'_> {
-    fn serve(&mut self, rt: &R, stream: &Stream, command: &str) -> io::Result<()> {
-        let bytes = stream.bytes.as_slice();
-        match command {
-            "worker" => work(rt, self.setting, bytes),
-            "faults" => tell_faults(rt),
-            "marks" => tell_marks(rt),
-            _ => match command.split_once(' ') {
-                Some((who, how)) => serve_by(rt, self.setting, bytes, who, how),
-                None => no_command(rt),
-            },
-        }
+/// Serves a stream anew as a command says.
+fn serve<R: Wait + Print + AllocGlobal>(
+    rt: &R,
+    setting: &Setting,
+    bytes: &[u8],
+    command: &str,
+) -> io::Result<()> {
+    match command {
+        "worker" => work(rt, setting, bytes),
+        "faults" => tell_faults(rt),
+        "marks" => tell_marks(rt),
+        _ => match command.split_once(' ') {
+            Some((who, how)) => serve_by(rt, setting, bytes, who, how),
+            None => no_command(rt),
+        },
     }
 }
 

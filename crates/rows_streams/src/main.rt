@@ -19,7 +19,6 @@ mod faults;
 mod holding;
 mod hostile;
 mod pair;
-mod script;
 mod setting;
 mod stream;
 mod streams;

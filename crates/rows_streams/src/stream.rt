@@ -1,6 +1,7 @@
 //! A stream that is prepared.
 use lost_worker::Turns;
 use std::alloc::{AllocError, Global};
+use std::io;
 
 /// The bytes of a stream, how long it is served, and which line the gate refuses.
 #[derive(Drop)]
@@ -64,4 +65,9 @@ impl Stream {
 /// The number that a text spells, or 0.
 fn number(text: &str) -> u64 {
     text.parse::<u64>().unwrap_or(0)
+}
+
+/// Says that a line is no command.
+pub(crate) fn no_command<R: Print>(rt: &R) -> io::Result<()> {
+    println!(rt; "no command")
 }

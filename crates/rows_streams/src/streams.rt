@@ -1,9 +1,8 @@
 //! The commands of the script of streams: what is served, by whom.
 use crate::holding::Holding;
 use crate::pair::serve_pair;
-use crate::script::{Server, no_command, run_script};
 use crate::setting::{Setting, limits};
-use crate::stream::Stream;
+use crate::stream::{Stream, no_command};
 use crate::telling::tell;
 use crate::workers::serve_two;
 use lost_desk::{Desk, Reader, Readers, open_desk};
@@ -55,18 +54,32 @@ fn run_bench<R: Threads + Wait + Clock + Sync + Print + AllocGlobal>(
         second: &mut second,
         setting: &setting,
     };
-    run_script(rt, &mut bench, script)
+    let mut stream = Stream::new(rt.alloc());
+    for line in script.lines() {
+        let line = line.trim_end();
+        if !stream.is_prepared(line)? {
+            println!(rt; "-- {line}")?;
+            serve(rt, &mut bench, &stream, line)?;
+            stream = Stream::new(rt.alloc());
+        }
+    }
+    Ok(())
 }
 
-impl<R: Threads + Wait + Clock + Sync + Print + AllocGlobal> Server<R> for Bench<'_> {
-    fn serve(&mut self, rt: &R, stream: &Stream, command: &str) -> io::Result<()> {
-        match command {
-            "desk" => serve_by_desk(rt, self.desk, stream),
-            "queries" => serve_queries(rt, self.first, self.setting, stream),
-            "pair" => serve_pair(rt, self.first, self.second, self.setting, stream),
-            "workers" => serve_two(rt, self.first, self.second, self.setting, stream),
-            _ => no_command(rt),
-        }
+/// Serves a stream as a command says.
+fn serve<R: Threads + Wait + Clock + Sync + Print + AllocGlobal>(
+    rt: &R,
+    bench: &mut Bench,
+    stream: &Stream,
+    command: &str,
+) -> io::Result<()> {
+    let setting = bench.setting;
+    match command {
+        "desk" => serve_by_desk(rt, bench.desk, stream),
+        "queries" => serve_queries(rt, bench.first, setting, stream),
+        "pair" => serve_pair(rt, bench.first, bench.second, setting, stream),
+        "workers" => serve_two(rt, bench.first, bench.second, setting, stream),
+        _ => no_command(rt),
     }
 }
 
