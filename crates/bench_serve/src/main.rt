@@ -14,14 +14,39 @@ mod measures;
 mod scenes;
 
 use std::io;
+use std::net::{Net, TcpListener, TcpStream};
 use std::process::ExitCode;
+use std::random::RandomSource;
+use std::sync::Wait;
+use std::thread::Threads;
+use std::time::Clock;
 use test_districts::{mistaken, words};
 
 fn main(rt: HostRuntime) -> io::Result<ExitCode> {
     match words(&rt)?.as_str() {
-        "" => measures::print_counts(&rt)?,
-        "measure" => measures::print_costs(&rt)?,
+        "" => run(&rt, false)?,
+        "measure" => run(&rt, true)?,
         _ => return mistaken(&rt, "bench_serve [measure]"),
     }
     Ok(ExitCode::SUCCESS)
+}
+
+/// Measures, or runs the same in a small way.
+fn run<
+    R: Net<Listener = TcpListener, Stream = TcpStream>
+        + Threads
+        + Wait
+        + Clock
+        + Print
+        + Eprint
+        + RandomSource
+        + Clone
+        + Send
+        + Sync
+        + AllocGlobal,
+>(rt: &R, is_measuring: bool) -> io::Result<()> {
+    if is_measuring {
+        return measures::print_costs(rt);
+    }
+    measures::print_counts(rt)
 }
