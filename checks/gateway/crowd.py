@@ -186,6 +186,7 @@ def killed_in_between(program, seed=2):
     with Server(program, 4, 1000) as one, Server(program, 4, 1000) as two:
 
         def kill(crowd):
+            """Kills the preferred server once 2,000 queries are answered."""
             while len(crowd.told) < 2000 and not crowd.failed:
                 time.sleep(0.01)
             one.process.kill()
@@ -208,7 +209,8 @@ def stopped_and_gone(program, seed=3):
         desk.ask_all(first)
         wrong = []
         for name, number, wanted in (
-            ("before", None, False), ("stopped", signal.SIGSTOP, True), ("goes on", signal.SIGCONT, False), ("killed", signal.SIGKILL, True),
+            ("before", None, False), ("stopped", signal.SIGSTOP, True), ("goes on", signal.SIGCONT, False),
+            ("killed", signal.SIGKILL, True),
         ):  # fmt: skip
             if number:
                 os.kill(server.process.pid, number)

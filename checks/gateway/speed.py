@@ -110,8 +110,11 @@ def speed(program):
         with one, four, fixed, fixed_four:
             told = compare({"fixed": fixed.port, "one": one.port, "fixed four": fixed_four.port, "four": four.port})
     ratio = middle(told["one"], told["fixed"])
-    print(f"one process: {ratio:.2f} of a fixed body's answers a second ({middle(told['one']):.0f} and {middle(told['fixed']):.0f})")
-    print(f"four: {middle(told['four'], told['fixed four']):.2f} of a fixed body's; {middle(told['four'], told['one']):.1f} times one process")
+    one, fixed = middle(told["one"]), middle(told["fixed"])
+    print(f"one process: {ratio:.2f} of the answers a second of a fixed body ({one:.0f} and {fixed:.0f})")
+    print(f"four processes: {middle(told['four'], told['fixed four']):.2f} of those of four with a fixed body")
+    print(f"four processes: {middle(told['four'], told['one']):.1f} times one")
     for name in ("fixed", "one", "four"):
-        print(f"99 of a hundred answers within {statistics.median(late for _, late in told[name]):.1f} ms: {name}, {CONNECTIONS} connections")
+        late = statistics.median(milliseconds for _, milliseconds in told[name])
+        print(f"99 of a hundred answers within {late:.1f} ms: {name}, {CONNECTIONS} connections")
     return [] if ratio >= LEAST_RATIO else [f"one process answers {ratio:.2f} of a fixed body, and not {LEAST_RATIO}"]

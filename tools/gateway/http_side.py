@@ -5,7 +5,7 @@ import asyncio
 import time
 from typing import Dict, NamedTuple, Optional
 
-from aiohttp import web
+from aiohttp import hdrs, web
 
 from gateway.answering import Answer, Answering
 from gateway.connection import Unanswered
@@ -35,8 +35,9 @@ class Side(NamedTuple):
 
 def is_lost(request: web.BaseRequest) -> bool:
     """Whether the body is said to be of LoST and is not compressed. (aiohttp's own reader of types takes as long as all else.)"""
-    said = request.headers.get("Content-Type", "").partition(";")[0].strip().lower()
-    return said == MEDIA_TYPE and request.headers.get("Content-Encoding", "identity") == "identity"
+    said = request.headers.get(hdrs.CONTENT_TYPE, "")
+    is_of_lost = said == MEDIA_TYPE or said.partition(";")[0].strip().lower() == MEDIA_TYPE
+    return is_of_lost and request.headers.get(hdrs.CONTENT_ENCODING, "identity") == "identity"
 
 
 async def rest_of_body(request: web.BaseRequest) -> bytes:

@@ -92,7 +92,8 @@ class Http(unittest.TestCase):
         head = f"{CLOSING}Content-Length: {len(body)}\r\n".encode()
         for pieces in (
             [head + b"\r\n" + body], [head + b"\r\n", body[:20], body[20:]], [head + b"Expect: 100-continue\r\n\r\n", body],
-            [f"{CLOSING}Transfer-Encoding: chunked\r\n\r\n5\r\n".encode() + body[:5], b"\r\n%x\r\n" % (len(body) - 5) + body[5:], b"\r\n0\r\n\r\n"],
+            [f"{CLOSING}Transfer-Encoding: chunked\r\n\r\n5\r\n".encode() + body[:5], b"\r\n%x\r\n" % (len(body) - 5),
+             body[5:] + b"\r\n0\r\n\r\n"],
         ):  # fmt: skip
             got = raw(self.gateway.port, *pieces)
             self.assertIn(b"HTTP/1.1 200 OK", got)
@@ -236,8 +237,9 @@ class CommandLine(unittest.TestCase):
     def test_a_missing_package_is_said_in_one_line(self) -> None:
         command = [PYTHON, "-S", f"{TOOLS}/lost-gateway", "--listen", "127.0.0.1:0", "--lostd", "127.0.0.1:1"]
         ran = subprocess.run(command, capture_output=True, timeout=60)
-        said = "the module lxml is missing for /usr/bin/python3: apt-get install python3-lxml python3-aiohttp python3-prometheus-client"
-        self.assertEqual((ran.returncode, ran.stdout, ran.stderr.decode()), (1, b"", f"lost-gateway: {said}\n"))
+        install = "apt-get install python3-lxml python3-aiohttp python3-prometheus-client"
+        said = f"lost-gateway: the module lxml is missing for /usr/bin/python3: {install}\n"
+        self.assertEqual((ran.returncode, ran.stdout, ran.stderr.decode()), (1, b"", said))
 
     @unittest.skipUnless(has_packages(), NEEDS)
     def test_what_cannot_be_used_is_status_1(self) -> None:

@@ -80,8 +80,8 @@ class Messages(unittest.TestCase):
         gateway = self.gateway()
         other = found("urn:service:sos")
         other["findServiceResponse"]["warnings"] = ["other"]
-        for reply in (b"no JSON", b"7", b"{}", b'{"findServiceResponse":{}}', b'{"errors":{"error":"other"}}', b'{"other":{"path":[]}}',
-                      b'{"errors":7}', json.dumps(other).encode()):  # fmt: skip
+        for reply in (b"no JSON", b"7", b"{}", b'{"findServiceResponse":{}}', b'{"errors":{"error":"other"}}', b'{"errors":7}',
+                      b'{"other":{"path":[]}}', json.dumps(other).encode()):  # fmt: skip
             answer = self.answer(gateway, POINT.format(service="urn:service:sos"), reply)
             self.check_shape(answer)
             self.assertEqual(answer.outcome(), "serverError", reply)
@@ -96,10 +96,11 @@ class Messages(unittest.TestCase):
         self.assertEqual(ElementTree.fromstring(answer.body).get("source"), "gw.example")
 
     def test_aliases(self) -> None:
-        words = ["--alias", "urn:emergency:service:=urn:service:", "--alias", "urn:nena:service:sos.police=urn:service:sos.police"]
+        theirs = "urn:emergency:service:"
+        words = ["--alias", f"{theirs}=urn:service:", "--alias", "urn:nena:service:sos.police=urn:service:sos.police"]
         gateway = self.gateway(*words)
         for asked, behind, told, front in (
-            ("urn:emergency:service:sos.police", "urn:service:sos.police", "urn:service:sos.police", "urn:emergency:service:sos.police"),
+            (f"{theirs}sos.police", "urn:service:sos.police", "urn:service:sos.police", f"{theirs}sos.police"),
             ("URN:Emergency:service:sos.fire", "urn:service:sos.fire", "urn:service:sos", "urn:emergency:service:sos"),
             ("urn:nena:service:sos.police", "urn:service:sos.police", "urn:service:sos.police", "urn:nena:service:sos.police"),
             ("urn:nena:service:sos.police", "urn:service:sos.police", "urn:service:sos", "urn:service:sos"),
@@ -108,7 +109,8 @@ class Messages(unittest.TestCase):
             answer = self.answer(gateway, POINT.format(service=asked), json.dumps(found(told)).encode())
             self.assertEqual(json.loads(self.server.got[0])["findService"]["service"], behind)
             self.assertIn(f"<service>{front}</service>".encode(), answer.body)
-        reply = {"listServicesResponse": {"edition": 1, "path": ["lost.example"], "serviceList": ["urn:service:sos.a", "urn:service:sos.b"]}}
+        told = {"edition": 1, "path": ["lost.example"], "serviceList": ["urn:service:sos.a", "urn:service:sos.b"]}
+        reply = {"listServicesResponse": told}
         asked = LIST.format(service="<service>urn:emergency:service:sos</service>")
         answer = self.answer(gateway, asked, json.dumps(reply).encode())
         self.assertIn(b"<serviceList>urn:emergency:service:sos.a urn:emergency:service:sos.b</serviceList>", answer.body)
