@@ -16,12 +16,18 @@ from typing import Any, Dict, List, Tuple
 from tests.gateway_running import (
     MEDIA_TYPE, PATIENCE, PYTHON, Answer, Gateway, StandIn, ask_over, has_packages, invalid_of, wait_until,
 )  # fmt: skip
-from tests.gateway_servers_tests import LIST, QUESTION, echo, slowly
+from tests.gateway_servers_tests import LIST, QUESTION, echo
 from tests.running import TOOLS, run_tool
 
 POST = "POST /lost HTTP/1.1\r\nHost: x\r\nContent-Type: application/lost+xml\r\n"
 CLOSING = f"{POST}Connection: close\r\n"
 NEEDS = "the packages of Debian that the gateway needs are missing"
+
+
+def very_slowly(line: bytes) -> bytes:
+    """A reply after longer than a connection that is idle is waited for."""
+    time.sleep(1.5)
+    return echo(line)
 
 
 def raw(port: int, *pieces: bytes) -> bytes:
@@ -166,7 +172,7 @@ class Processes(unittest.TestCase):
     def test_what_is_asked_is_answered_before_the_end(self) -> None:
         answers: List[Answer] = []
         for processes in ("1", "2"):
-            with StandIn(slowly) as server, Gateway(server.address, "--processes", processes) as gateway:
+            with StandIn(very_slowly) as server, Gateway(server.address, "--processes", processes) as gateway:
                 thread = threading.Thread(target=lambda: answers.append(gateway.post(QUESTION)))
                 thread.start()
                 self.assertTrue(wait_until(lambda: len(server.got) == 1))
