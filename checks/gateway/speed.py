@@ -16,7 +16,7 @@ from server import Server
 
 HERE = os.path.dirname(os.path.realpath(__file__))
 FIXED = f"{HERE}/fixed-server"
-SECONDS, ROUNDS, CLIENTS, CONNECTIONS = 3.0, 5, 2, 32
+SECONDS, ROUNDS, CLIENTS, CONNECTIONS = 0.5, 20, 2, 32
 LEAST_RATIO = 0.5
 REQUEST = """<?xml version="1.0" encoding="UTF-8"?>
 <findService xmlns="urn:ietf:params:xml:ns:lost1" serviceBoundary="reference" recursive="true">
@@ -102,7 +102,7 @@ def middle(rounds, other=None):
 
 
 def speed(program):
-    """Prints the ratios; what is wrong with them."""
+    """one process gives at least half of the answers a second that the same HTTP server gives with a fixed body"""
     with Server(program, 16, 1000) as server:
         server.desk().ask_all(calls.MAP)
         one, four = Gateway([server.queries]), Gateway([server.queries], "--processes", "4")
