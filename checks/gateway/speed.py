@@ -16,7 +16,7 @@ from server import Server
 
 HERE = os.path.dirname(os.path.realpath(__file__))
 FIXED = f"{HERE}/fixed-server"
-SECONDS, ROUNDS, CLIENTS, CONNECTIONS = 3.0, 5, 2, 32
+SECONDS, ROUNDS, CLIENTS, CONNECTIONS = 0.5, 20, 2, 32
 LEAST_RATIO = 0.5
 REQUEST = """<?xml version="1.0" encoding="UTF-8"?>
 <findService xmlns="urn:ietf:params:xml:ns:lost1" serviceBoundary="reference" recursive="true">
@@ -102,7 +102,7 @@ def middle(rounds, other=None):
 
 
 def speed(program):
-    """Prints the ratios; what is wrong with them."""
+    """one process gives at least half of the answers a second that the same HTTP server gives with a fixed body"""
     with Server(program, 16, 1000) as server:
         server.desk().ask_all(calls.MAP)
         one, four = Gateway([server.queries]), Gateway([server.queries], "--processes", "4")
@@ -110,8 +110,11 @@ def speed(program):
         with one, four, fixed, fixed_four:
             told = compare({"fixed": fixed.port, "one": one.port, "fixed four": fixed_four.port, "four": four.port})
     ratio = middle(told["one"], told["fixed"])
-    print(f"one process: {ratio:.2f} of a fixed body's answers a second ({middle(told['one']):.0f} and {middle(told['fixed']):.0f})")
-    print(f"four: {middle(told['four'], told['fixed four']):.2f} of a fixed body's; {middle(told['four'], told['one']):.1f} times one process")
+    one, fixed = middle(told["one"]), middle(told["fixed"])
+    print(f"one process: {ratio:.2f} of the answers a second of a fixed body ({one:.0f} and {fixed:.0f})")
+    print(f"four processes: {middle(told['four'], told['fixed four']):.2f} of those of four with a fixed body")
+    print(f"four processes: {middle(told['four'], told['one']):.1f} times one")
     for name in ("fixed", "one", "four"):
-        print(f"99 of a hundred answers within {statistics.median(late for _, late in told[name]):.1f} ms: {name}, {CONNECTIONS} connections")
+        late = statistics.median(milliseconds for _, milliseconds in told[name])
+        print(f"99 of a hundred answers within {late:.1f} ms: {name}, {CONNECTIONS} connections")
     return [] if ratio >= LEAST_RATIO else [f"one process answers {ratio:.2f} of a fixed body, and not {LEAST_RATIO}"]

@@ -3,7 +3,7 @@ from __future__ import annotations
 
 import asyncio
 from collections import deque
-from typing import Any, Callable, Deque, List, Optional, Tuple
+from typing import Any, Callable, Deque, List, Optional
 
 # lostd answers 1,000,000 lines on a connection, and wants clients to stop before.
 MOST_LINES = 900_000
@@ -32,11 +32,12 @@ class Connection(asyncio.Protocol):
         self.loop = asyncio.get_running_loop()
         self.timeout, self.on_end = timeout, on_end
         self.transport: Any = None
-        self.waiting: Deque[Tuple[asyncio.Future[bytes], float]] = deque()
+        self.waiting: Deque[asyncio.Future[bytes]] = deque()
         self.to_send: List[bytes] = []
         self.pieces: List[bytes] = []
         self.watch: Optional[asyncio.TimerHandle] = None
-        self.asked, self.last_heard, self.is_leaving = 0, self.loop.time(), False
+        # Since when a reply is due and nothing came; from when the line was really sent, since this process may be late itself.
+        self.asked, self.quiet_since, self.is_leaving = 0, self.loop.time(), False
 
     def connection_made(self, transport: Any) -> None:
         """The connection stands."""
@@ -45,19 +46,21 @@ class Connection(asyncio.Protocol):
     def ask(self, line: bytes) -> asyncio.Future[bytes]:
         """Sends a line, with its newline; the reply comes without one."""
         future: asyncio.Future[bytes] = self.loop.create_future()
-        self.waiting.append((future, self.loop.time()))
+        self.waiting.append(future)
         self.asked += 1
         if not self.to_send:
             self.loop.call_soon(self.flush)
         self.to_send.append(line)
-        if self.watch is None:
-            self.watch = self.loop.call_later(self.timeout, self.look)
         return future
 
     def flush(self) -> None:
         """Sends all lines of this turn of the loop in one piece."""
         if not self.transport.is_closing():
             self.transport.write(b"".join(self.to_send))
+            if len(self.waiting) == len(self.to_send):
+                self.quiet_since = self.loop.time()
+            if self.watch is None:
+                self.watch = self.loop.call_later(self.timeout, self.look)
         self.to_send.clear()
 
     def look(self) -> None:
@@ -65,7 +68,7 @@ class Connection(asyncio.Protocol):
         self.watch = None
         if not self.waiting:
             return
-        left = max(self.waiting[0][1], self.last_heard) + self.timeout - self.loop.time()
+        left = self.quiet_since + self.timeout - self.loop.time()
         if left <= 0:
             self.give_up(Silent(f"no reply in {self.timeout:g} seconds"))
         else:
@@ -73,7 +76,7 @@ class Connection(asyncio.Protocol):
 
     def data_received(self, data: bytes) -> None:
         """Gives each whole reply to the line that it is to."""
-        self.last_heard = self.loop.time()
+        self.quiet_since = self.loop.time()
         *lines, rest = data.split(b"\n")
         if lines and self.pieces:
             lines[0] = b"".join(self.pieces) + lines[0]
@@ -83,7 +86,7 @@ class Connection(asyncio.Protocol):
         for line in lines:
             if not self.waiting:
                 return self.give_up(Closed("a reply came to no line"))
-            future = self.waiting.popleft()[0]
+            future = self.waiting.popleft()
             if not future.done():
                 future.set_result(line)
         if self.is_leaving and not self.waiting:
@@ -97,7 +100,7 @@ class Connection(asyncio.Protocol):
         """Ends the connection at once, and says why to all lines that wait."""
         self.transport.abort()
         waiting, self.waiting = self.waiting, deque()
-        for future, _ in waiting:
+        for future in waiting:
             if not future.done():
                 future.set_exception(why)
         if self.watch:

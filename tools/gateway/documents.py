@@ -14,7 +14,6 @@ DEEPEST_LEVEL = 100
 PIECE = 32_768
 
 BYTE_ORDER_MARKS = ((b"\xef\xbb\xbf", "utf-8"), (b"\xff\xfe", "utf-16-le"), (b"\xfe\xff", "utf-16-be"))
-MARKS_BEGIN = b"\xef\xff\xfe"
 DECLARED = re.compile(rb"""<\?xml[ \t\r\n][^>]*?encoding[ \t\r\n]*=[ \t\r\n]*["']([A-Za-z0-9._-]+)["']""")
 ENCODINGS = {"utf-8": "utf-8", "utf8": "utf-8", "us-ascii": "ascii", "ascii": "ascii", "iso-8859-1": "latin-1"}
 
@@ -25,9 +24,10 @@ class NoDocument(Exception):
 
 def text_of(body: bytes) -> bytes:
     """The document in UTF-8, without a byte order mark."""
-    for mark, encoding in BYTE_ORDER_MARKS if body[:1] in MARKS_BEGIN else ():
-        if body.startswith(mark):
-            return recoded(body[len(mark):], encoding)
+    if not body.startswith(b"<"):
+        for mark, encoding in BYTE_ORDER_MARKS:
+            if body.startswith(mark):
+                return recoded(body[len(mark):], encoding)
     declared = DECLARED.match(body)
     if declared is None:
         return body

@@ -3,9 +3,10 @@ from __future__ import annotations
 
 import asyncio
 import time
+import traceback
 from typing import Dict, NamedTuple, Optional
 
-from aiohttp import web
+from aiohttp import hdrs, web
 
 from gateway.answering import Answer, Answering
 from gateway.connection import Unanswered
@@ -16,7 +17,6 @@ from gateway.pool import QUESTION
 from gateway.vocabulary import MEDIA_TYPE
 
 BODY_SECONDS = 10.0
-CONTINUE = b"HTTP/1.1 100 Continue\r\n\r\n"
 NOT_POSTED = "POST a request of application/lost+xml"
 NOT_LOST = "the body is not application/lost+xml, or is compressed"
 
@@ -33,16 +33,15 @@ class Side(NamedTuple):
     journal: Optional[Journal]
 
 
-def is_lost(request: web.BaseRequest) -> bool:
+def is_lost(request: web.Request) -> bool:
     """Whether the body is said to be of LoST and is not compressed. (aiohttp's own reader of types takes as long as all else.)"""
-    said = request.headers.get("Content-Type", "").partition(";")[0].strip().lower()
-    return said == MEDIA_TYPE and request.headers.get("Content-Encoding", "identity") == "identity"
+    said = request.headers.get(hdrs.CONTENT_TYPE, "")
+    is_of_lost = said == MEDIA_TYPE or said.partition(";")[0].strip().lower() == MEDIA_TYPE
+    return is_of_lost and request.headers.get(hdrs.CONTENT_ENCODING, "identity") == "identity"
 
 
-async def rest_of_body(request: web.BaseRequest) -> bytes:
+async def rest_of_body(request: web.Request) -> bytes:
     """A body that has not come whole yet."""
-    if request.headers.get("Expect", "").lower() == "100-continue":
-        await request.writer.write(CONTINUE)
     body = bytearray()
     while not request.content.at_eof():
         body += await request.content.readany()
@@ -51,7 +50,7 @@ async def rest_of_body(request: web.BaseRequest) -> bytes:
     return bytes(body)
 
 
-async def body_of(request: web.BaseRequest) -> bytes:
+async def body_of(request: web.Request) -> bytes:
     """The body of a request; TooLong where it is not read to its end, asyncio.TimeoutError where it doesn't come."""
     if request.content.is_eof():
         body = request.content.read_nowait(-1)
@@ -68,40 +67,9 @@ class Handler:
 
     def __init__(self, side: Side) -> None:
         self.side = side
-        self.running, self.is_stopping = 0, False
-        self.idle = asyncio.Event()
+        self.is_stopping = False
 
-    async def __call__(self, request: web.BaseRequest) -> web.Response:
-        """The response to a request: a question to LoST is posted, to any path; two paths are there to be looked at."""
-        if request.method != "POST":
-            return await self.look(request)
-        self.running += 1
-        try:
-            response = await self.post(request)
-        finally:
-            self.running -= 1
-        if self.is_stopping:
-            response.force_close()
-            self.idle.set()
-        return response
-
-    async def look(self, request: web.BaseRequest) -> web.Response:
-        """The response to what is not posted."""
-        if request.method in ("GET", "HEAD") and request.path == "/health":
-            return await self.health()
-        if request.method in ("GET", "HEAD") and request.path == "/metrics":
-            return web.Response(body=self.side.metrics.text(), headers={"Content-Type": self.side.metrics.media_type()})
-        return lost_response(self.side.answering.refused("badRequest", NOT_POSTED), 405, {"Allow": "POST"})
-
-    async def health(self) -> web.Response:
-        """A real question is asked behind: 200 where it is answered, and else 503."""
-        try:
-            reply = await self.side.answering.pool.ask(QUESTION)
-        except Unanswered as error:
-            return web.Response(status=503, text=f"no server answers: {error}\n")
-        return web.Response(text=f"{reply.server} answers\n")
-
-    async def post(self, request: web.BaseRequest) -> web.Response:
+    async def post(self, request: web.Request) -> web.Response:
         """The answer to a question, counted and written down."""
         begun = time.monotonic()
         if not is_lost(request):
@@ -114,13 +82,16 @@ class Handler:
             answer, is_whole = self.side.answering.too_long(), False
         except asyncio.TimeoutError:
             answer, is_whole = self.side.answering.refused("badRequest", "the body did not come"), False
+        except Exception:  # pylint: disable=broad-except
+            traceback.print_exc()
+            answer = self.side.answering.refused("internalError", "the gateway failed, and says why on standard error")
         self.note(request, body, answer, time.monotonic() - begun)
         response = lost_response(answer)
-        if not is_whole:
+        if self.is_stopping or not is_whole:
             response.force_close()
         return response
 
-    def note(self, request: web.BaseRequest, body: bytes, answer: Answer, seconds: float) -> None:
+    def note(self, request: web.Request, body: bytes, answer: Answer, seconds: float) -> None:
         """Counts a query, and writes it down."""
         self.side.metrics.count(answer.kind, answer.outcome, seconds)
         if self.side.journal:
@@ -128,16 +99,36 @@ class Handler:
             client = f"{peer[0]}:{peer[1]}" if peer else ""
             self.side.journal.note(client, request.headers.get("X-Forwarded-For"), body, answer, seconds)
 
-    async def finish(self, seconds: float) -> None:
-        """Waits until what is asked is answered, but not for longer than so many seconds."""
+    async def health(self, _: web.Request) -> web.Response:
+        """A real question is asked behind: 200 where it is answered, and else 503."""
+        try:
+            reply = await self.side.answering.pool.ask(QUESTION)
+        except Unanswered as error:
+            return web.Response(status=503, text=f"no server answers: {error}\n")
+        return web.Response(text=f"{reply.server} answers\n")
+
+    async def metrics(self, _: web.Request) -> web.Response:
+        """What is counted."""
+        return web.Response(body=self.side.metrics.text(), headers={"Content-Type": self.side.metrics.media_type()})
+
+    async def refuse(self, _: web.Request) -> web.Response:
+        """The response to what is neither posted nor there to be looked at."""
+        return lost_response(self.side.answering.refused("badRequest", NOT_POSTED), 405, {"Allow": "POST"})
+
+    async def stop(self, _: web.Application) -> None:
+        """From now on each response is the last of its connection."""
         self.is_stopping = True
-        end = time.monotonic() + seconds
-        while self.running and time.monotonic() < end:
-            self.idle.clear()
-            try:
-                await asyncio.wait_for(self.idle.wait(), max(0.0, end - time.monotonic()))
-            except asyncio.TimeoutError:
-                return
+
+
+def application(handler: Handler) -> web.Application:
+    """Questions are posted to any path; two paths are there to be looked at."""
+    made = web.Application()
+    made.router.add_post("/{path:.*}", handler.post)
+    made.router.add_get("/health", handler.health)
+    made.router.add_get("/metrics", handler.metrics)
+    made.router.add_route("*", "/{path:.*}", handler.refuse)
+    made.on_shutdown.append(handler.stop)
+    return made
 
 
 def lost_response(answer: Answer, status: int = 200, headers: Optional[Dict[str, str]] = None) -> web.Response:

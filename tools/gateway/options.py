@@ -22,6 +22,7 @@ def checked(read: Callable[[str], Any]) -> Callable[[str], Any]:
     """A reader of an argument whose ValueError is said to the user."""
 
     def read_argument(text: str) -> Any:
+        """The value of an argument."""
         try:
             return read(text)
         except ValueError as error:
@@ -45,6 +46,7 @@ def number_between(least: float, greatest: float, kind: Callable[[str], Any]) ->
     """A reader of a number in these bounds."""
 
     def read(text: str) -> Any:
+        """The number of a text."""
         try:
             number = kind(text)
         except ValueError:
@@ -70,7 +72,8 @@ def parser(description: str) -> argparse.ArgumentParser:
     add("--processes", help="how many processes share the work (1); one for each core is the most that helps", **processes)
     timeout = {"type": number_between(0.05, 600, float), "default": 2.0, "metavar": "SECONDS"}
     add("--timeout", help="how long a server may say nothing before the next one is tried (2)", **timeout)
-    add("--area", choices=("centre", "refuse"), default="centre", help="ask for the centre of an area, with a warning (the default), or refuse it as locationInvalid")
+    area = {"choices": ("centre", "refuse"), "default": "centre"}
+    add("--area", help="ask for the centre of an area, with a warning (the default), or refuse it as locationInvalid", **area)
     alias = {"type": checked(alias_of), "default": [], "action": "append", "metavar": "THEIRS=OURS"}
     add("--alias", help="services that begin with THEIRS in front begin with OURS behind, and back in replies", **alias)
     add("--no-made-up-names", action="store_true", help="leave displayName out where the map has none; else it is the sourceId")

@@ -85,7 +85,7 @@ class Server:
         """Asks each connection on which nothing waits and nothing came for long; one that is silent gives itself up."""
         now = asyncio.get_running_loop().time()
         for connection in self.connections:
-            if not connection.waiting and now - connection.last_heard > QUIET:
+            if not connection.waiting and now - connection.quiet_since > QUIET:
                 connection.ask(QUESTION).add_done_callback(lambda future: future.cancelled() or future.exception())
 
     async def try_to_open(self) -> None:

@@ -143,5 +143,8 @@ def shape_of(location: ElementTree.Element) -> ElementTree.Element:
 
 def system_of(shape: ElementTree.Element) -> Optional[str]:
     """The reference system that a shape names, or else its position."""
-    named_by = [element.get("srsName") for element in (shape, shape.find(POS)) if element is not None]
-    return next((system for system in named_by if system is not None), None)
+    system = shape.get("srsName")
+    if system is None:
+        position = shape.find(POS)
+        system = position.get("srsName") if position is not None else None
+    return system

@@ -28,6 +28,7 @@ def in_lost(*names: str) -> Names:
     return {IN_LOST + name: name for name in names}
 
 
+PROFILES = (GEODETIC, CIVIC)
 NONE, IN_PATH = in_lost(), in_lost("via")
 # The requests, and the elements that each may have.
 KINDS = {
@@ -155,9 +156,14 @@ def read_location(location: ElementTree.Element, takes_centres: bool) -> Any:
 
 def read_locations(parts: Parts, members: Dict[str, Any], takes_centres: bool) -> Used:
     """Puts the locations of a request into its members, in their order; the id and the area of the location used."""
-    read = [read_location(one, takes_centres) for one in parts.get("location", [])]
-    members["location"] = [item for item, _ in read]
-    return next(((item["id"], area) for item, area in read if item["profile"] in (GEODETIC, CIVIC)), (None, None))
+    used: Used = (None, None)
+    items = members["location"] = []
+    for location in parts.get("location", ()):
+        item, area = read_location(location, takes_centres)
+        items.append(item)
+        if used[0] is None and item["profile"] in PROFILES:
+            used = (item["id"], area)
+    return used
 
 
 def read_wishes(root: ElementTree.Element, members: Dict[str, Any]) -> None:

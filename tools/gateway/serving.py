@@ -8,13 +8,13 @@ import os
 import resource
 import signal
 import sys
-from typing import Awaitable, Callable, Dict
+from typing import Dict
 
 from aiohttp import web
 
 from gateway import requests
 from gateway.answering import Answering, Manner
-from gateway.http_side import Handler, Side
+from gateway.http_side import Handler, Side, application
 from gateway.journal import Journal
 from gateway.metrics import Metrics
 from gateway.pool import Pool
@@ -23,8 +23,6 @@ from gateway.processes import Place, Work
 BACKLOG = 4096
 TELL_AGAIN = 0.25
 KEEP_ALIVE = 75.0
-
-Answerer = Callable[[web.BaseRequest], Awaitable[web.StreamResponse]]
 
 
 def allow_many_files() -> None:
@@ -63,28 +61,28 @@ def stopping(life: int) -> asyncio.Event:
     return event
 
 
-async def listen(handler: Answerer, place: Place, finish: Callable[[], Awaitable[None]]) -> None:
-    """Serves a socket by a handler until the process is told to end, and then waits for what is to be finished."""
-    loop, is_over = asyncio.get_running_loop(), stopping(place.life)
-    server = web.Server(handler, access_log=None, auto_decompress=False, keepalive_timeout=KEEP_ALIVE)
-    listening = await loop.create_server(server, sock=place.listener, backlog=BACKLOG)
+async def listen(handler: Handler, place: Place, patience: float) -> None:
+    """Serves a socket until the process is told to end, and then answers what it has, for at most so many seconds."""
+    is_over = stopping(place.life)
+    runner = web.AppRunner(application(handler), access_log=None, auto_decompress=False, keepalive_timeout=KEEP_ALIVE)
+    await runner.setup()
+    site = web.SockSite(runner, place.listener, backlog=BACKLOG, shutdown_timeout=patience)
+    await site.start()
     gc.freeze()
     os.write(place.ready, b".")
     await is_over.wait()
-    loop.remove_reader(place.life)
-    listening.close()
-    await finish()
-    await server.shutdown(1.0)
+    asyncio.get_running_loop().remove_reader(place.life)
+    await runner.cleanup()
 
 
 async def serve(options: argparse.Namespace, place: Place) -> None:
-    """Serves a socket until the process is told to end, and then answers what it has."""
+    """Serves a socket until the process is told to end."""
     allow_many_files()
     side = side_of(options)
-    handler, pool = Handler(side), side.answering.pool
+    pool = side.answering.pool
     pool.start()
     telling = asyncio.get_running_loop().create_task(tell_often(side, place.is_first))
-    await listen(handler, place, lambda: handler.finish(2 * options.timeout + 1))
+    await listen(Handler(side), place, 2 * options.timeout + 1)
     telling.cancel()
     await pool.end()
 

@@ -37,7 +37,8 @@ def refused(port: int) -> List[Tuple[str, bytes]]:
     utf16 = b'<?xml version="1.0" encoding="UTF-16"?>' + with_entity(b'<!ENTITY e "x">')
     names = " ".join(f"xmlns:n{number}='x'" for number in range(20_000))
     return [
-        ("nothing", b""), ("white space", b" \n"), ("no XML", b"findService"), ("JSON", b'{"listServices":{}}'), ("half", LIST[:-5]),
+        ("nothing", b""), ("white space", b" \n"), ("no XML", b"findService"), ("JSON", b'{"listServices":{}}'),
+        ("half", LIST[:-5]),
         ("two outermost elements", LIST + LIST), ("text behind", LIST + b"x"), ("a control character", LIST + b"\0"),
         ("a prefix that nothing declares", b"<l:listServices/>"), ("an attribute twice", b'<listServices key="a" key="b"/>'),
         ("not UTF-8", LIST.replace(b"a.b", b"\xff")), ("half a surrogate pair", LIST.replace(b"a.b", b"&#xD800;")),

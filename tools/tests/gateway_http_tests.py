@@ -16,12 +16,18 @@ from typing import Any, Dict, List, Tuple
 from tests.gateway_running import (
     MEDIA_TYPE, PATIENCE, PYTHON, Answer, Gateway, StandIn, ask_over, has_packages, invalid_of, wait_until,
 )  # fmt: skip
-from tests.gateway_servers_tests import LIST, QUESTION, echo, slowly
+from tests.gateway_servers_tests import LIST, QUESTION, echo
 from tests.running import TOOLS, run_tool
 
 POST = "POST /lost HTTP/1.1\r\nHost: x\r\nContent-Type: application/lost+xml\r\n"
 CLOSING = f"{POST}Connection: close\r\n"
 NEEDS = "the packages of Debian that the gateway needs are missing"
+
+
+def very_slowly(line: bytes) -> bytes:
+    """A reply after longer than a connection that is idle is waited for."""
+    time.sleep(1.5)
+    return echo(line)
 
 
 def raw(port: int, *pieces: bytes) -> bytes:
@@ -92,7 +98,8 @@ class Http(unittest.TestCase):
         head = f"{CLOSING}Content-Length: {len(body)}\r\n".encode()
         for pieces in (
             [head + b"\r\n" + body], [head + b"\r\n", body[:20], body[20:]], [head + b"Expect: 100-continue\r\n\r\n", body],
-            [f"{CLOSING}Transfer-Encoding: chunked\r\n\r\n5\r\n".encode() + body[:5], b"\r\n%x\r\n" % (len(body) - 5) + body[5:], b"\r\n0\r\n\r\n"],
+            [f"{CLOSING}Transfer-Encoding: chunked\r\n\r\n5\r\n".encode() + body[:5], b"\r\n%x\r\n" % (len(body) - 5),
+             body[5:] + b"\r\n0\r\n\r\n"],
         ):  # fmt: skip
             got = raw(self.gateway.port, *pieces)
             self.assertIn(b"HTTP/1.1 200 OK", got)
@@ -165,7 +172,7 @@ class Processes(unittest.TestCase):
     def test_what_is_asked_is_answered_before_the_end(self) -> None:
         answers: List[Answer] = []
         for processes in ("1", "2"):
-            with StandIn(slowly) as server, Gateway(server.address, "--processes", processes) as gateway:
+            with StandIn(very_slowly) as server, Gateway(server.address, "--processes", processes) as gateway:
                 thread = threading.Thread(target=lambda: answers.append(gateway.post(QUESTION)))
                 thread.start()
                 self.assertTrue(wait_until(lambda: len(server.got) == 1))
@@ -236,8 +243,9 @@ class CommandLine(unittest.TestCase):
     def test_a_missing_package_is_said_in_one_line(self) -> None:
         command = [PYTHON, "-S", f"{TOOLS}/lost-gateway", "--listen", "127.0.0.1:0", "--lostd", "127.0.0.1:1"]
         ran = subprocess.run(command, capture_output=True, timeout=60)
-        said = "the module lxml is missing for /usr/bin/python3: apt-get install python3-lxml python3-aiohttp python3-prometheus-client"
-        self.assertEqual((ran.returncode, ran.stdout, ran.stderr.decode()), (1, b"", f"lost-gateway: {said}\n"))
+        install = "apt-get install python3-lxml python3-aiohttp python3-prometheus-client"
+        said = f"lost-gateway: the module lxml is missing for /usr/bin/python3: {install}\n"
+        self.assertEqual((ran.returncode, ran.stdout, ran.stderr.decode()), (1, b"", said))
 
     @unittest.skipUnless(has_packages(), NEEDS)
     def test_what_cannot_be_used_is_status_1(self) -> None:

@@ -8,6 +8,7 @@ import tempfile
 import unittest
 import xml.etree.ElementTree as ElementTree
 from typing import Any, Dict
+from xml.sax.saxutils import quoteattr
 
 from tests.gateway_running import NOT_FOUND, Answer, Case, Gateway, StandIn, canonical, cases, has_packages, invalid_of
 from tests.running import TOOLS
@@ -80,8 +81,8 @@ class Messages(unittest.TestCase):
         gateway = self.gateway()
         other = found("urn:service:sos")
         other["findServiceResponse"]["warnings"] = ["other"]
-        for reply in (b"no JSON", b"7", b"{}", b'{"findServiceResponse":{}}', b'{"errors":{"error":"other"}}', b'{"other":{"path":[]}}',
-                      b'{"errors":7}', json.dumps(other).encode()):  # fmt: skip
+        for reply in (b"no JSON", b"7", b"{}", b'{"findServiceResponse":{}}', b'{"errors":{"error":"other"}}', b'{"errors":7}',
+                      b'{"other":{"path":[]}}', json.dumps(other).encode()):  # fmt: skip
             answer = self.answer(gateway, POINT.format(service="urn:service:sos"), reply)
             self.check_shape(answer)
             self.assertEqual(answer.outcome(), "serverError", reply)
@@ -96,22 +97,44 @@ class Messages(unittest.TestCase):
         self.assertEqual(ElementTree.fromstring(answer.body).get("source"), "gw.example")
 
     def test_aliases(self) -> None:
-        words = ["--alias", "urn:emergency:service:=urn:service:", "--alias", "urn:nena:service:sos.police=urn:service:sos.police"]
-        gateway = self.gateway(*words)
+        theirs = "urn:emergency:service:"
+        words = ["--alias", f"{theirs}=urn:service:", "--alias", "urn:nena:service:sos.police=urn:service:sos.police"]
+        gateway = self.gateway(*words, "--alias", f"{theirs}sos.marine=urn:service:sos.rescue")
         for asked, behind, told, front in (
-            ("urn:emergency:service:sos.police", "urn:service:sos.police", "urn:service:sos.police", "urn:emergency:service:sos.police"),
+            (f"{theirs}sos.police", "urn:service:sos.police", "urn:service:sos.police", f"{theirs}sos.police"),
             ("URN:Emergency:service:sos.fire", "urn:service:sos.fire", "urn:service:sos", "urn:emergency:service:sos"),
             ("urn:nena:service:sos.police", "urn:service:sos.police", "urn:service:sos.police", "urn:nena:service:sos.police"),
             ("urn:nena:service:sos.police", "urn:service:sos.police", "urn:service:sos", "urn:service:sos"),
             ("urn:service:sos", "urn:service:sos", "urn:service:sos", "urn:service:sos"),
+            (f"{theirs}sos.marine.x", "urn:service:sos.rescue.x", "urn:service:sos.rescue", f"{theirs}sos.marine"),
         ):
             answer = self.answer(gateway, POINT.format(service=asked), json.dumps(found(told)).encode())
             self.assertEqual(json.loads(self.server.got[0])["findService"]["service"], behind)
             self.assertIn(f"<service>{front}</service>".encode(), answer.body)
-        reply = {"listServicesResponse": {"edition": 1, "path": ["lost.example"], "serviceList": ["urn:service:sos.a", "urn:service:sos.b"]}}
+        told = {"edition": 1, "path": ["lost.example"], "serviceList": ["urn:service:sos.a", "urn:service:sos.b"]}
+        reply = {"listServicesResponse": told}
         asked = LIST.format(service="<service>urn:emergency:service:sos</service>")
         answer = self.answer(gateway, asked, json.dumps(reply).encode())
         self.assertIn(b"<serviceList>urn:emergency:service:sos.a urn:emergency:service:sos.b</serviceList>", answer.body)
+
+    def test_the_same_reply_again_names_the_location_of_each_request(self) -> None:
+        gateway = self.gateway("--alias", "urn:x:=urn:service:")
+        reply = found("urn:service:sos.police")
+        circle = POINT.replace("gml:Point", "gs:Circle").replace("xmlns:gml", 'xmlns:gs="http://www.opengis.net/pidflo/1.0" xmlns:gml')
+        circle = circle.replace("<gml:pos", '<gml:pos xmlns:gml="http://www.opengis.net/gml"')
+        for name, form, service in (
+            ("p", POINT, "urn:service:sos"), ("q", POINT, "urn:service:sos"), ("a\"\\\t\u00e9", POINT, "urn:service:sos"),
+            ("", POINT, "urn:service:sos"), ("r", POINT, "urn:x:sos"), ("s", circle, "urn:service:sos"), ("p", POINT, "urn:service:sos"),
+        ):  # fmt: skip
+            reply["findServiceResponse"]["locationUsed"] = name
+            line = json.dumps(reply, ensure_ascii=False, separators=(",", ":"), sort_keys=True).encode()
+            answer = self.answer(gateway, form.format(service=service).replace('"p"', quoteattr(name, {"\t": "&#9;"})), line)
+            root = ElementTree.fromstring(answer.body)
+            used = root.find("{urn:ietf:params:xml:ns:lost1}locationUsed")
+            self.assertEqual(used.get("id") if used is not None else None, name)
+            wanted = "urn:x:sos.police" if service.startswith("urn:x") else "urn:service:sos.police"
+            self.assertEqual(root.findtext("*/{urn:ietf:params:xml:ns:lost1}service"), wanted)
+            self.assertEqual(b"centreOfArea" in answer.body, form is circle)
 
     @classmethod
     def tearDownClass(cls) -> None:

@@ -129,7 +129,8 @@ class Places(unittest.TestCase):
                 (". 0", None), ("- 0", None), ("--1 0", None), ("1 " + "0." + "1" * 31, None), ("1\u00a02", None),
             ):  # fmt: skip
                 self.assertEqual(self.asked(gateway, f"<gml:Point><gml:pos>{text}</gml:pos></gml:Point>"), wanted, text)
-            self.assertEqual(self.asked(gateway, f"<gml:Point><gml:pos>1 {'0.' + '1' * 30}</gml:pos></gml:Point>"), [10000000, 1111111])
+            longest = f"<gml:Point><gml:pos>1 {'0.' + '1' * 30}</gml:pos></gml:Point>"
+            self.assertEqual(self.asked(gateway, longest), [10000000, 1111111])
             for shape in ("", "<gml:Point/>", "<gml:Point><gml:pos>1 <b/>2</gml:pos></gml:Point>", "<gs:Sphere/>",
                           "<gml:Envelope/>", "<gml:Point><gml:coordinates>1,2</gml:coordinates></gml:Point>"):  # fmt: skip
                 self.assertIsNone(self.asked(gateway, shape), shape)
@@ -141,9 +142,11 @@ class Places(unittest.TestCase):
         found = json.dumps({"findServiceResponse": {**reply, "mapping": [mapping], "warnings": ["serviceSubstitution"]}})
         self.server.replier = lambda line: found.encode()
         with Gateway(self.server.address) as gateway:
-            for shape in (circle("1 2"), ellipse("1 2"), band("1 2", "0", "0", "0", "0"), polygon(["0 1", "0 3", "2 3", "2 1", "0 1"])):
+            square = polygon(["0 1", "0 3", "2 3", "2 1", "0 1"])
+            for shape in (circle("1 2"), ellipse("1 2"), band("1 2", "0", "0", "0", "0"), square):
                 self.assertEqual(self.asked(gateway, shape), [10000000, 20000000])
-                warnings = ElementTree.fromstring(gateway.post(located(shape)).body).findall("{urn:ietf:params:xml:ns:lost1}warnings/*")
+                answer = ElementTree.fromstring(gateway.post(located(shape)).body)
+                warnings = answer.findall("{urn:ietf:params:xml:ns:lost1}warnings/*")
                 own = {name: warnings[1].get(name) for name in ("shape", "message")}
                 self.assertEqual([one.tag.rpartition("}")[2] for one in warnings], ["serviceSubstitution", "centreOfArea"])
                 self.assertEqual(own["shape"], shape.partition(" ")[0].partition(":")[2])

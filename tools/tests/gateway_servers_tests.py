@@ -53,6 +53,23 @@ class Servers(unittest.TestCase):
             self.assertGreaterEqual(time.monotonic() - begun, 0.3)
             self.assertEqual(len(server.got), 1)
 
+    def test_silence_is_counted_from_the_line_and_not_from_an_earlier_one(self) -> None:
+        with StandIn(echo) as server, Gateway(server.address, "--timeout", "1", "--pool", "1") as gateway:
+            for _ in range(3):
+                server.replier = echo
+                self.assertEqual(self.outcome(gateway), "listServicesResponse")
+                time.sleep(0.75)
+                server.replier = slowly
+                self.assertEqual(self.outcome(gateway), "listServicesResponse")
+
+    def test_a_reply_that_comes_in_pieces(self) -> None:
+        ring = [[number, number * 7 % 1000] for number in range(30_000)]
+        regions = [{"polygon": [*ring, ring[0]], "profile": "geodetic-2d"}]
+        reply = {"getServiceBoundaryResponse": {"edition": 1, "path": ["lost.example"], "serviceBoundary": regions}}
+        with StandIn(lambda line: json.dumps(reply).encode()) as server, Gateway(server.address) as gateway:
+            answer = gateway.post('<getServiceBoundary xmlns="urn:ietf:params:xml:ns:lost1" key="k"/>')
+            self.assertEqual(answer.body.count(b"<gml:pos>"), 30_001)
+
     def test_a_server_that_listens_and_takes_nobody(self) -> None:
         with socket.create_server(("127.0.0.1", 0)) as listener:
             with Gateway("127.0.0.1:{}".format(listener.getsockname()[1]), "--timeout", "0.3") as gateway:
