@@ -2,7 +2,7 @@
 
 use crate::answering::ask;
 use crate::layout::Layout;
-use crate::map::{Map, Work, next_reader, with_map};
+use crate::map::{Work, next_reader, with_readers};
 use crate::questions::Questions;
 use crate::stacks::Stacks;
 use lost_desk::{Reader, Readers};
@@ -11,7 +11,6 @@ use std::alloc::Global;
 use std::io;
 use std::rt::Clock;
 use std::sync::Wait;
-use std::thread::Threads;
 use test_districts::{Spans, share};
 
 /// How many places a cache keeps.
@@ -93,27 +92,23 @@ const PLANS: [Plan; 4] = [
 ];
 
 /// Asks a small map twice, and prints how many mappings were found, and how often the cache had the place.
-pub(crate) fn print_counts<R: Print + Clock + Threads + Wait + Sync + AllocGlobal>(
-    rt: &R,
-) -> io::Result<()> {
-    with_map(rt, Layout::Stacks(FEW), &Counting)
+pub(crate) fn print_counts<R: Print + Clock + Wait + AllocGlobal>(rt: &R) -> io::Result<()> {
+    with_readers(rt, Layout::Stacks(FEW), &Counting)
 }
 
 /// Asks places that never repeat, by a reader that keeps places or by a plain one, and prints how many mappings were
 /// found.
-pub(crate) fn print_found<R: Print + Clock + Threads + Wait + Sync + AllocGlobal>(
+pub(crate) fn print_found<R: Print + Clock + Wait + AllocGlobal>(
     rt: &R,
     keeps: bool,
 ) -> io::Result<()> {
-    with_map(rt, Layout::Stacks(SQUARES), &Finding { keeps })
+    with_readers(rt, Layout::Stacks(SQUARES), &Finding { keeps })
 }
 
 /// Measures, and prints the costs.
-pub(crate) fn print_costs<R: Print + Clock + Threads + Wait + Sync + AllocGlobal>(
-    rt: &R,
-) -> io::Result<()> {
+pub(crate) fn print_costs<R: Print + Clock + Wait + AllocGlobal>(rt: &R) -> io::Result<()> {
     for plan in PLANS {
-        with_map(rt, Layout::Stacks(plan.stacks), &plan)?;
+        with_readers(rt, Layout::Stacks(plan.stacks), &plan)?;
     }
     Ok(())
 }
@@ -130,10 +125,9 @@ fn keeping(alloc: Global, readers: &mut Readers) -> io::Result<CachedReader> {
 struct Counting;
 
 impl Work for Counting {
-    fn run<R: Print + Clock + Threads + Wait + Sync + AllocGlobal>(
+    fn run<R: Print + Clock + Wait + AllocGlobal>(
         &self,
         rt: &R,
-        _map: &mut Map,
         readers: &mut Readers,
     ) -> io::Result<()> {
         let alloc = rt.alloc();
@@ -155,10 +149,9 @@ struct Finding {
 }
 
 impl Work for Finding {
-    fn run<R: Print + Clock + Threads + Wait + Sync + AllocGlobal>(
+    fn run<R: Print + Clock + Wait + AllocGlobal>(
         &self,
         rt: &R,
-        _map: &mut Map,
         readers: &mut Readers,
     ) -> io::Result<()> {
         let alloc = rt.alloc();
@@ -187,10 +180,9 @@ impl Work for Finding {
 }
 
 impl Work for Plan {
-    fn run<R: Print + Clock + Threads + Wait + Sync + AllocGlobal>(
+    fn run<R: Print + Clock + Wait + AllocGlobal>(
         &self,
         rt: &R,
-        _map: &mut Map,
         readers: &mut Readers,
     ) -> io::Result<()> {
         let alloc = rt.alloc();

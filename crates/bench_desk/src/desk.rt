@@ -4,7 +4,7 @@ use crate::answering::{Answered, ByTokens, ByTree, ask};
 use crate::changes::{Rounds, change, print_growth};
 use crate::crowd::Crowd;
 use crate::layout::Layout;
-use crate::map::{Map, Work, book_of, next_reader, with_map};
+use crate::map::{Map, book_of, next_reader};
 use crate::questions::Questions;
 use lost_desk::{Reader, Readers};
 use lost_routing::Routing;
@@ -46,41 +46,41 @@ const COLD: Rounds = Rounds {
 pub(crate) fn print_counts<R: Print + Clock + Threads + Wait + Sync + AllocGlobal>(
     rt: &R,
 ) -> io::Result<()> {
-    with_map(rt, Layout::Districts(TINY), &Counting)
+    let (mut map, mut readers) = Map::open(rt, Layout::Districts(TINY))?;
+    let result = count_all(rt, &mut map, &mut readers);
+    map.close(rt);
+    result
 }
 
 /// Measures, and prints the costs.
 pub(crate) fn print_costs<R: Print + Clock + Threads + Wait + Sync + AllocGlobal>(
     rt: &R,
 ) -> io::Result<()> {
-    with_map(rt, Layout::Districts(SMALL), &Measuring)
+    let (mut map, mut readers) = Map::open(rt, Layout::Districts(SMALL))?;
+    let result = measure_all(rt, &mut map, &mut readers);
+    map.close(rt);
+    result
 }
 
 /// Counts the questions that are answered by a mapping.
-#[derive(Clone, Copy, Drop)]
-struct Counting;
-
-impl Work for Counting {
-    fn run<R: Print + Clock + Threads + Wait + Sync + AllocGlobal>(
-        &self,
-        rt: &R,
-        map: &mut Map,
-        readers: &mut Readers,
-    ) -> io::Result<()> {
-        let alloc = rt.alloc();
-        let questions = Arc::new(alloc, Questions::middles(alloc, TINY)?)?;
-        let alone = ask_alone(rt, TINY, readers, &questions, 16)?;
-        println!(rt;
-            "16 districts: {} found by a reader, {} by tokens, {} by trees",
-            alone.by_reader.found, alone.by_tokens.found, alone.by_trees.found
-        )?;
-        count_crowd(rt, map, &mut Crowd::new(alloc, readers, &questions)?)?;
-        change(rt, map, 2, &mut None)?;
-        println!(rt;
-            "2 publishes, replacements and withdrawals: edition {}",
-            map.edition()
-        )
-    }
+fn count_all<R: Print + Clock + Threads + Wait + Sync + AllocGlobal>(
+    rt: &R,
+    map: &mut Map,
+    readers: &mut Readers,
+) -> io::Result<()> {
+    let alloc = rt.alloc();
+    let questions = Arc::new(alloc, Questions::middles(alloc, TINY)?)?;
+    let alone = ask_alone(rt, TINY, readers, &questions, 16)?;
+    println!(rt;
+        "16 districts: {} found by a reader, {} by tokens, {} by trees",
+        alone.by_reader.found, alone.by_tokens.found, alone.by_trees.found
+    )?;
+    count_crowd(rt, map, &mut Crowd::new(alloc, readers, &questions)?)?;
+    change(rt, map, 2, &mut None)?;
+    println!(rt;
+        "2 publishes, replacements and withdrawals: edition {}",
+        map.edition()
+    )
 }
 
 /// Asks by readers in threads of their own, also while the desk commits.
@@ -104,25 +104,19 @@ fn count_crowd<R: Print + Clock + Threads + Wait + Sync + AllocGlobal>(
 }
 
 /// Measures readers over the small map, and edits of both maps.
-#[derive(Clone, Copy, Drop)]
-struct Measuring;
-
-impl Work for Measuring {
-    fn run<R: Print + Clock + Threads + Wait + Sync + AllocGlobal>(
-        &self,
-        rt: &R,
-        map: &mut Map,
-        readers: &mut Readers,
-    ) -> io::Result<()> {
-        let alloc = rt.alloc();
-        let questions = Arc::new(alloc, Questions::all_over(alloc, SMALL, POINTS)?)?;
-        print_alone(rt, ask_alone(rt, SMALL, readers, &questions, ASKED)?)?;
-        print_crowd(rt, map, &mut Crowd::new(alloc, readers, &questions)?)?;
-        let (mut large, _readers) = Map::open(rt, Layout::Districts(LARGE))?;
-        let result = print_changes(rt, map, &mut large);
-        large.close(rt);
-        result
-    }
+fn measure_all<R: Print + Clock + Threads + Wait + Sync + AllocGlobal>(
+    rt: &R,
+    map: &mut Map,
+    readers: &mut Readers,
+) -> io::Result<()> {
+    let alloc = rt.alloc();
+    let questions = Arc::new(alloc, Questions::all_over(alloc, SMALL, POINTS)?)?;
+    print_alone(rt, ask_alone(rt, SMALL, readers, &questions, ASKED)?)?;
+    print_crowd(rt, map, &mut Crowd::new(alloc, readers, &questions)?)?;
+    let (mut large, _readers) = Map::open(rt, Layout::Districts(LARGE))?;
+    let result = print_changes(rt, map, &mut large);
+    large.close(rt);
+    result
 }
 
 /// What came of the same questions by a reader, and by a book alone that reads them by tokens or by trees.

@@ -8,7 +8,6 @@ use std::alloc::Global;
 use std::io;
 use std::rt::Clock;
 use std::sync::Wait;
-use std::thread::Threads;
 use std::time::Instant;
 use test_districts::nanoseconds;
 
@@ -26,25 +25,24 @@ pub(crate) struct Map {
     pub(crate) commits: u32,
 }
 
-/// What is done with a map.
+/// What is done with the readers of a map.
 pub(crate) trait Work {
-    /// Does it, with the desk and its readers.
-    fn run<R: Print + Clock + Threads + Wait + Sync + AllocGlobal>(
+    /// Does it.
+    fn run<R: Print + Clock + Wait + AllocGlobal>(
         &self,
         rt: &R,
-        map: &mut Map,
         readers: &mut Readers,
     ) -> io::Result<()>;
 }
 
-/// Opens a map, does what is to be done with it, and ends it.
-pub(crate) fn with_map<W: Work, R: Print + Clock + Threads + Wait + Sync + AllocGlobal>(
+/// Opens a map, does what is to be done with its readers, and ends it.
+pub(crate) fn with_readers<W: Work, R: Print + Clock + Wait + AllocGlobal>(
     rt: &R,
     layout: Layout,
     work: &W,
 ) -> io::Result<()> {
-    let (mut map, mut readers) = Map::open(rt, layout)?;
-    let result = work.run(rt, &mut map, &mut readers);
+    let (map, mut readers) = Map::open(rt, layout)?;
+    let result = work.run(rt, &mut readers);
     map.close(rt);
     result
 }
