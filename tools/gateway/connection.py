@@ -7,6 +7,8 @@ from typing import Any, Callable, Deque, List, Optional
 
 # lostd answers 1,000,000 lines on a connection, and wants clients to stop before.
 MOST_LINES = 900_000
+# lostd writes its replies once it has answered all lines that it has read: so many at most are on their way, lest it seem silent.
+MOST_ON_THEIR_WAY = 64
 
 
 class Unanswered(Exception):
@@ -48,20 +50,23 @@ class Connection(asyncio.Protocol):
         future: asyncio.Future[bytes] = self.loop.create_future()
         self.waiting.append(future)
         self.asked += 1
-        if not self.to_send:
-            self.loop.call_soon(self.flush)
         self.to_send.append(line)
+        if len(self.to_send) == 1:
+            self.loop.call_soon(self.flush)
         return future
 
     def flush(self) -> None:
-        """Sends all lines of this turn of the loop in one piece."""
-        if not self.transport.is_closing():
-            self.transport.write(b"".join(self.to_send))
-            if len(self.waiting) == len(self.to_send):
-                self.quiet_since = self.loop.time()
-            if self.watch is None:
-                self.watch = self.loop.call_later(self.timeout, self.look)
-        self.to_send.clear()
+        """Sends the lines of this turn of the loop in one piece, as many as may be on their way."""
+        on_their_way = len(self.waiting) - len(self.to_send)
+        count = MOST_ON_THEIR_WAY - on_their_way
+        if count <= 0 or not self.to_send or self.transport.is_closing():
+            return
+        self.transport.write(b"".join(self.to_send[:count]))
+        del self.to_send[:count]
+        if not on_their_way:
+            self.quiet_since = self.loop.time()
+        if self.watch is None:
+            self.watch = self.loop.call_later(self.timeout, self.look)
 
     def look(self) -> None:
         """Gives the connection up where a line waits and nothing came for too long, and else looks again in time."""
@@ -89,6 +94,8 @@ class Connection(asyncio.Protocol):
             future = self.waiting.popleft()
             if not future.done():
                 future.set_result(line)
+        if self.to_send:
+            self.flush()
         if self.is_leaving and not self.waiting:
             self.transport.close()
 
@@ -100,6 +107,7 @@ class Connection(asyncio.Protocol):
         """Ends the connection at once, and says why to all lines that wait."""
         self.transport.abort()
         waiting, self.waiting = self.waiting, deque()
+        self.to_send.clear()
         for future in waiting:
             if not future.done():
                 future.set_exception(why)

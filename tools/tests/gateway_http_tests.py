@@ -219,6 +219,7 @@ class Processes(unittest.TestCase):
             self.assertTrue(wait_until(lambda: not any(os.path.exists(f"/proc/{child}") for child in children)))
 
 
+@unittest.skipUnless(os.access(PYTHON, os.X_OK), f"there is no {PYTHON}")
 class CommandLine(unittest.TestCase):
     """Mistakes, and what is missing."""
 

@@ -1,6 +1,7 @@
 """Tests what becomes of requests when the servers behind are slow, silent or gone, and that many share few connections."""
 from __future__ import annotations
 
+import asyncio
 import json
 import socket
 import threading
@@ -8,6 +9,7 @@ import time
 import unittest
 from typing import List, Optional
 
+from gateway.connection import Connection
 from tests.gateway_running import MEDIA_TYPE, NAMED, SILENCE, Gateway, StandIn, ask_over, has_packages, invalid_of, wait_until
 from tests.lost_client_tests import free_address
 
@@ -25,6 +27,43 @@ def slowly(line: bytes) -> bytes:
     """The same, after a while."""
     time.sleep(0.5)
     return echo(line)
+
+
+class Transport:
+    """Keeps what is sent."""
+
+    def __init__(self) -> None:
+        self.sent = b""
+
+    def write(self, data: bytes) -> None:
+        """Sends."""
+        self.sent += data
+
+    def is_closing(self) -> bool:
+        """It stays open."""
+        return False
+
+
+class Lines(unittest.TestCase):
+    """One connection to a server behind, without a network."""
+
+    async def send_a_hundred(self) -> List[int]:
+        """How many lines were sent at first, after one reply, and after ten more."""
+        transport, connection = Transport(), Connection(2, lambda one: None)
+        connection.connection_made(transport)
+        replies = [connection.ask(b"%d\n" % number) for number in range(100)]
+        counts, told = [], 0
+        for count in (0, 1, 10, 89):
+            connection.data_received(b"".join(b"%d\n" % number for number in range(told, told + count)))
+            await asyncio.sleep(0)
+            told += count
+            counts.append(transport.sent.count(b"\n"))
+        self.assertEqual([await one for one in replies], [b"%d" % number for number in range(100)])
+        self.assertEqual(transport.sent, b"".join(b"%d\n" % number for number in range(100)))
+        return counts
+
+    def test_64_lines_at_most_are_on_their_way(self) -> None:
+        self.assertEqual(asyncio.run(self.send_a_hundred()), [64, 65, 75, 100])
 
 
 @unittest.skipUnless(has_packages(), "the packages of Debian that the gateway needs are missing")
