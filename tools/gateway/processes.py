@@ -1,17 +1,21 @@
 """The processes of the gateway: they share a port, and the first one looks after the others."""
 from __future__ import annotations
 
+import contextlib
 import os
 import select
 import signal
 import socket
 import sys
 import time
-from typing import Callable, Dict, NamedTuple
+from typing import Callable, Dict, NamedTuple, NoReturn
 
 from maptools.connection import Server
 
 PAUSE, LOOK_AGAIN = 1.0, 0.1
+
+# The signals that tell the processes to end.
+ENDING = (signal.SIGTERM, signal.SIGINT)
 
 
 class Place(NamedTuple):
@@ -49,17 +53,25 @@ class Family:
         self.life_there, self.life_here = os.pipe()
 
     def start_child(self) -> None:
-        """Starts one more process; the first of those that run speaks for all."""
-        is_first = not self.children
-        child = os.fork()
-        if child:
+        """Starts one more process, unless all are to end. A signal to end waits until the process is known here: or else
+        nobody would tell it, or it would take the signal for one to this process."""
+        signal.pthread_sigmask(signal.SIG_BLOCK, ENDING)
+        if not self.is_ending:
+            is_first = not self.children
+            child = os.fork()
+            if not child:
+                self.be_child(is_first)
             self.children[child] = time.monotonic()
-            return
+        signal.pthread_sigmask(signal.SIG_UNBLOCK, ENDING)
+
+    def be_child(self, is_first: bool) -> NoReturn:
+        """Does the work, and ends; the first of those that run speaks for all."""
         status = 1
         try:
             os.close(self.life_here)
-            for number in (signal.SIGTERM, signal.SIGINT):
+            for number in ENDING:
                 signal.signal(number, signal.SIG_DFL)
+            signal.pthread_sigmask(signal.SIG_UNBLOCK, ENDING)
             self.work(Place(listening_socket(self.address), self.ready_there, self.life_there, is_first))
             status = 0
         except BaseException as error:  # pylint: disable=broad-except
@@ -70,19 +82,20 @@ class Family:
         """Tells all processes to end once they have answered what they have."""
         self.is_ending = True
         for child in self.children:
-            os.kill(child, signal.SIGTERM)
+            with contextlib.suppress(ProcessLookupError):
+                os.kill(child, signal.SIGTERM)
 
     def await_ready(self) -> bool:
         """Waits until all processes listen; False where one ended before."""
         told = 0
-        while told < self.count:
+        while told < self.count and self.children:
             if select.select([self.ready_here], [], [], LOOK_AGAIN)[0]:
                 told += len(os.read(self.ready_here, self.count))
             child, _ = os.waitpid(-1, os.WNOHANG)
             if child:
                 self.children.pop(child, None)
                 return False
-        return True
+        return told >= self.count
 
     def bury(self) -> None:
         """Takes note of a process that ended; another takes its place, unless all are to end."""
@@ -96,8 +109,8 @@ class Family:
 
     def run(self) -> int:
         """Runs all processes until they are told to end; the status."""
-        signal.signal(signal.SIGTERM, self.end)
-        signal.signal(signal.SIGINT, self.end)
+        for number in ENDING:
+            signal.signal(number, self.end)
         for _ in range(self.count):
             self.start_child()
         is_ready = self.await_ready()
