@@ -2,10 +2,10 @@
 
 use super::lengths::{Outcome, assert_fault, assert_served, run};
 use crate::{ServeError, Turns};
-use test_fakes::{Feed, Sink};
 use std::alloc::{AllocError, Global};
 use std::io;
 use std::test::Fail;
+use test_fakes::{Feed, Sink};
 
 /// Three lines, the last without byte 10. At a byte a read that is six reads, and a seventh at the end; the lines are
 /// answered after the third, the fifth and the seventh.

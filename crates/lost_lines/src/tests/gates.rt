@@ -4,9 +4,9 @@ ghost use Rattle.std.specs.Prelude.{ℕ, Bool};
 
 use super::lengths::{assert_fault, assert_served, run_through};
 use crate::{Gate, NoGate, ServeError, Turns};
-use test_fakes::{Feed, Sink};
 use std::alloc::{AllocError, Global};
 use std::test::Fail;
+use test_fakes::{Feed, Sink};
 
 /// Refuses the line with a number, and all after it.
 #[derive(Drop)]

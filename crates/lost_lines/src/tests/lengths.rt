@@ -3,11 +3,11 @@
 ghost use Rattle.lost_lines.specs.Run.{Cut, Reply};
 
 use crate::{Answer, Answerer, Counts, Gate, NoGate, ServeError, Text, Turns, Watched, run_lines};
-use test_fakes::Sink;
 use lost_text::DeskText;
 use std::alloc::{AllocError, Global};
 use std::io::Read;
 use std::process::Abort;
+use test_fakes::Sink;
 
 /// Answers a line by its length.
 #[derive(Drop)]

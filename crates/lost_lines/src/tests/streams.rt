@@ -2,9 +2,9 @@
 
 use super::lengths::{Outcome, assert_served, run};
 use crate::Turns;
-use test_fakes::{Feed, Sink};
 use std::alloc::{AllocError, Global};
 use std::test::Fail;
+use test_fakes::{Feed, Sink};
 
 /// Serves a text that is read, and answered, in pieces of at most so many bytes.
 fn served(alloc: Global, text: &[u8], most: usize) -> Result<Outcome, AllocError> {

@@ -2,8 +2,8 @@
 
 use super::lengths::{assert_fault, assert_served, run};
 use crate::{ServeError, Turns};
-use test_fakes::{Feed, Sink, Spaces};
 use std::test::Fail;
+use test_fakes::{Feed, Sink, Spaces};
 
 #[test]
 fn turns_are_spent(rt: HostRuntime) -> Result<(), Fail> {
