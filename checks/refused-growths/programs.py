@@ -223,6 +223,45 @@ class Cache(Lines):
         return f"a {kind} answered memory ran out"
 
 
+class Streams(Program):
+    """The command lines of the program rows_streams, over a stream of two lines, which marks the line of a refused growth."""
+
+    LINES = rb"text aaaaaaaaaaaa\nb\n" + b"\nserve pieces=1\n"
+    # What is answered, and then the growths that were refused and the bytes that were written.
+    ANSWERS = (([b"12", b"1"], 0, 5), ([b"refused", b"1"], 1, 10), ([b"12", b"refused"], 1, 11))
+
+    def __init__(self, library):
+        super().__init__("rows_streams", library, "lines")
+        usual, *self.marked = map(self.output, self.ANSWERS)
+        self.wanted = b"".join(line + b"\n" for line in usual)
+
+    def output(self, answer):
+        """The lines that are printed at such answers."""
+        texts, memory, count = answer
+        end = b"lines 2 long 0 memory %d faults 0; 16 reads, %d bytes, input ended" % (memory, count)
+        return [b"== lines", b"-- serve pieces=1", *texts, end]
+
+    def call(self, refused, **further):
+        """Runs the command over the stream."""
+        with tempfile.TemporaryDirectory() as folder:
+            with open(f"{folder}/lines.lines", "wb") as file:
+                file.write(self.LINES)
+            return call(self.words, self.library, refused, folder=folder, **further)
+
+    def judge(self, refused):
+        """In which way the program ends where this growth is refused."""
+        ran = self.call(refused)
+        if ran.returncode == 0 and lines_of(ran.stdout) in self.marked:
+            return "a line answered refused"
+        return super().judge(refused)
+
+    def sweep(self):
+        made, ways = super().sweep()
+        if not ways["a line answered refused"]:
+            raise Wrong("no growth is answered refused")
+        return made, ways
+
+
 class Index(Program):
     """The rows of an index of the program rows_index, which tells of a refused call and makes it again."""
 

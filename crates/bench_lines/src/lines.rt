@@ -110,33 +110,40 @@ pub(crate) fn filled(mut line: String) -> Result<String, AllocError> {
 
 /// A publish line of 1 MiB that is crowded with URIs, no two of one scheme.
 pub(crate) fn many_uris(alloc: Global) -> Result<String, AllocError> {
-    let mut line = String::from_str(
+    crowded(
         alloc,
         "{\"publish\":{\"expires\":\"NO-EXPIRATION\",\"key\":\"K\",\"lastUpdated\":\"2025-12-01T00:00:00Z\",\"service\":\"urn:service:sos\",\"source\":\"map.example\",\"sourceId\":\"M\",\"uri\":[",
-    )?;
-    for number in 0..u32::MAX {
-        if line.len() > ENOUGH {
-            break;
-        }
-        write!(line, "\"s{number}:m\",")?;
-    }
-    line.push_str("\"s:m\"]}}")?;
-    filled(line)
+        ("\"s", ":m\","),
+        "\"s:m\"]}}",
+    )
 }
 
 /// A request of 1 MiB that is crowded with locations, no two of one profile.
 pub(crate) fn many_locations(alloc: Global) -> Result<String, AllocError> {
-    let mut line = String::from_str(
+    crowded(
         alloc,
         "{\"findService\":{\"service\":\"urn:service:sos\",\"location\":[",
-    )?;
+        ("{\"id\":\"p\",\"profile\":\"f", "\"},"),
+        "{\"id\":\"p\",\"profile\":\"f\"}]}}",
+    )
+}
+
+/// A line of 1 MiB that is crowded with things, each with a number between its two parts.
+fn crowded(
+    alloc: Global,
+    begin: &str,
+    thing: (&str, &str),
+    end: &str,
+) -> Result<String, AllocError> {
+    let (before, after) = thing;
+    let mut line = String::from_str(alloc, begin)?;
     for number in 0..u32::MAX {
         if line.len() > ENOUGH {
             break;
         }
-        write!(line, "{{\"id\":\"p\",\"profile\":\"f{number}\"}},")?;
+        write!(line, "{before}{number}{after}")?;
     }
-    line.push_str("{\"id\":\"p\",\"profile\":\"f\"}]}}")?;
+    line.push_str(end)?;
     filled(line)
 }
 

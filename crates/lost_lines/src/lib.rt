@@ -22,6 +22,3 @@ pub use gate::{Gate, NoGate};
 pub use lines::run_lines;
 pub use turns::{Turns, law_usual_turns};
 pub use watched::Watched;
-
-#[cfg(test)]
-mod tests;

@@ -3,7 +3,6 @@
 
 use crate::counting::Counting;
 use crate::orders::{is_ordered, print_reply};
-use crate::setting::{Setting, limits};
 use lost_desk::{Desk, Reader, Readers, open_desk};
 use lost_spec::Coded;
 use lost_worker::CachedReader;
@@ -11,6 +10,7 @@ use std::alloc::AllocError;
 use std::rt::Files;
 use std::sync::Wait;
 use std::{fs, io};
+use test_rows::{Setting, limits};
 
 /// What parts the sessions of the file.
 const NEXT: &str = "next\n";

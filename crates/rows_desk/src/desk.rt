@@ -2,12 +2,12 @@
 ghost use Rattle.std.specs.Prelude.{◌≡◌};
 
 use crate::orders::{is_ordered, print_reply};
-use crate::setting::{Setting, limits};
 use lost_desk::{Desk, Reader, Readers, open_desk};
 use lost_spec::Coded;
 use std::rt::Files;
 use std::sync::Wait;
 use std::{fs, io};
+use test_rows::{Setting, limits};
 
 /// Refuses desks of too few and too many workers, and then runs the lines of `desk.lines`.
 pub(crate) fn run<R: Files + Wait + Print + AllocGlobal>(rt: &R) -> io::Result<()> {

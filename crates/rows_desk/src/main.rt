@@ -14,35 +14,21 @@ mod cache;
 mod counting;
 mod desk;
 mod orders;
-mod setting;
 mod threads;
 
+use std::io;
 use std::process::ExitCode;
-use std::rt::{Env, Files};
+use std::rt::Files;
 use std::sync::Wait;
 use std::thread::Threads;
-use std::{env, io};
-
-/// The commands.
-const COMMANDS: [&str; 3] = ["desk", "cache", "threads"];
-
-/// The status where no command is given, or one that is unknown.
-const COMMAND_LINE: u8 = 2;
+use test_rows::given;
 
 fn main(rt: HostRuntime) -> io::Result<ExitCode> {
-    let mut is_known = false;
-    for word in env::args(&rt)?.skip(1) {
-        is_known = COMMANDS.contains(&word.as_str());
-        if !is_known {
-            break;
-        }
+    let (words, end) = given(&rt, "rows_desk", &["desk", "cache", "threads"])?;
+    for word in &words {
         run(&rt, word.as_str())?;
     }
-    if is_known {
-        return Ok(ExitCode::SUCCESS);
-    }
-    eprintln!(rt; "rows_desk: give one or more of the words desk, cache, threads")?;
-    Ok(ExitCode::from(COMMAND_LINE))
+    end.status(&rt)
 }
 
 /// Runs a command.

@@ -11,7 +11,6 @@ mod posting;
 ghost use Rattle.std.specs.Prelude.{◌≡◌};
 ghost use Rattle.std.specs.Thread.{IsSync};
 
-use crate::setting::Setting;
 use answering::{Answering, answer_all};
 use crossbeam_channel::unbounded;
 use fault::Fault;
@@ -24,6 +23,7 @@ use std::io;
 use std::marker::Brand;
 use std::sync::Wait;
 use std::thread::{Threads, join_mut};
+use test_rows::Setting;
 
 /// How often the desk commits and the reader answers.
 const ROUNDS: u64 = 1_000;

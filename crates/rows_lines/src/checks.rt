@@ -4,10 +4,10 @@ mod checked;
 mod large;
 
 use crate::rows::{Row, names};
-use crate::setting::Setting;
 use checked::check;
 use std::io;
 use std::rt::Files;
+use test_rows::Setting;
 
 /// The folder of the rows.
 const FOLDER: &str = "checks";

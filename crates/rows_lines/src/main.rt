@@ -15,37 +15,20 @@
 mod checks;
 mod rows;
 mod sessions;
-mod setting;
 mod worlds;
 
+use std::io;
 use std::process::ExitCode;
-use std::rt::{Env, Files};
+use std::rt::Files;
 use std::sync::Wait;
-use std::{env, io};
-
-/// The commands.
-const COMMANDS: [&str; 3] = ["sessions", "checks", "worlds"];
-
-/// The status where no command is given, or one that is unknown.
-const COMMAND_LINE: u8 = 2;
+use test_rows::given;
 
 fn main(rt: HostRuntime) -> io::Result<ExitCode> {
-    let mut is_known = false;
-    let mut status = ExitCode::SUCCESS;
-    for word in env::args(&rt)?.skip(1) {
-        is_known = COMMANDS.contains(&word.as_str());
-        if !is_known {
-            break;
-        }
-        if !run(&rt, word.as_str())? {
-            status = ExitCode::FAILURE;
-        }
+    let (words, mut end) = given(&rt, "rows_lines", &["sessions", "checks", "worlds"])?;
+    for word in &words {
+        end.note(run(&rt, word.as_str())?);
     }
-    if is_known {
-        return Ok(status);
-    }
-    eprintln!(rt; "rows_lines: give one or more of the words sessions, checks, worlds")?;
-    Ok(ExitCode::from(COMMAND_LINE))
+    end.status(&rt)
 }
 
 /// Runs a command. Says whether all is as expected.

@@ -5,11 +5,11 @@ mod limits;
 mod replayed;
 
 use crate::rows::{Row, names};
-use crate::setting::Setting;
 use lost_book::Limits;
 use std::io;
 use std::rt::Files;
 use std::sync::Wait;
+use test_rows::Setting;
 
 /// The folder of the sessions.
 const FOLDER: &str = "sessions";

@@ -3,11 +3,11 @@
 mod script;
 mod shown;
 
-use crate::setting::Setting;
 use lost_book::Limits;
 use lost_core::{Step, World};
 use script::Line;
 use std::io;
+use test_rows::Setting;
 
 /// The limits of the books of every world: so few that a list of steps meets them.
 const MAPPINGS: u32 = 1;

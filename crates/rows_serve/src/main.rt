@@ -11,32 +11,18 @@
 mod command;
 mod serve;
 
+use std::io;
 use std::process::ExitCode;
-use std::{env, io};
-
-/// The commands.
-const COMMANDS: [&str; 2] = ["command", "serve"];
-
-/// The status where no command is given, or one that is unknown.
-const COMMAND_LINE: u8 = 2;
+use test_rows::given;
 
 fn main(rt: HostRuntime) -> io::Result<ExitCode> {
-    let mut is_known = false;
-    for word in env::args(&rt)?.skip(1) {
-        is_known = COMMANDS.contains(&word.as_str());
-        if !is_known {
-            break;
-        }
+    let (words, end) = given(&rt, "rows_serve", &["command", "serve"])?;
+    for word in &words {
         println!(rt; "== {word}")?;
-        if word.as_str() == "serve" {
-            serve::run(&rt)?;
-        } else {
-            command::run(&rt)?;
+        match word.as_str() {
+            "serve" => serve::run(&rt)?,
+            _ => command::run(&rt)?,
         }
     }
-    if is_known {
-        return Ok(ExitCode::SUCCESS);
-    }
-    eprintln!(rt; "rows_serve: give one or more of the words command, serve")?;
-    Ok(ExitCode::from(COMMAND_LINE))
+    end.status(&rt)
 }

@@ -1,5 +1,5 @@
 //! What serves a stream.
-use crate::setting::Setting;
+use crate::always::always;
 use lost_book::Limits;
 use lost_desk::{Desk, Readers, open_desk};
 use lost_replay::replay;
@@ -8,6 +8,7 @@ use std::alloc::Global;
 use std::io::Read;
 use std::sync::Wait;
 use test_fakes::Sink;
+use test_rows::Setting;
 
 /// What serves a stream.
 #[derive(Clone, Copy, Drop)]
@@ -124,7 +125,7 @@ fn by_reader<R: Read + Drop>(
 ) -> Option<Outcome> {
     let (mut input, mut output) = (Watched::new(reader), Watched::new(writer));
     let mut replier = readers.take()?;
-    let mut moments = setting.moments();
+    let mut moments = always(setting);
     let served = serve_lines(
         alloc,
         &mut input,

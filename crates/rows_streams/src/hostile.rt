@@ -1,12 +1,12 @@
 //! The commands of the hostile script.
 use crate::by::By;
 use crate::faults::{tell_faults, tell_marks};
-use crate::setting::Setting;
 use crate::stream::{Stream, no_command};
 use crate::sweeps::{Sweep, reads, spaces, whole, writes};
 use crate::worker::work;
 use std::io;
 use std::sync::Wait;
+use test_rows::Setting;
 
 /// Runs the script.
 pub(crate) fn run<R: Wait + Print + AllocGlobal>(rt: &R, script: &str) -> io::Result<()> {

@@ -8,18 +8,23 @@
 //!   `reads NUMBER`, in pieces of so many bytes, once for each read, which fails; `writes`, once for each write, which fails
 //!   or takes no byte; `spaces`, where spaces come for ever. `worker` has one worker serve it twice, first where the first
 //!   read fails. `faults` prints the texts of all faults, and `marks` the answers where memory is refused.
+//! - `lines`: the script `lines.lines`, whose lines are answered by their lengths. [`lines`] says how it is written.
 //!
-//! Other lines of a script prepare the next stream: `line TEXT`, `last TEXT` (without byte 10), `long NUMBER` (so many
-//! bytes), `byte NUMBER` and `filled NUMBER TEXT` (with spaces behind it, so many bytes in all) add to it; `turns LINES` says
-//! how many lines are answered at most; `refuse LINE` has the gate refuse a line.
+//! Other lines of the first two scripts prepare the next stream: `line TEXT`, `last TEXT` (without byte 10), `long NUMBER` (so
+//! many bytes), `byte NUMBER` and `filled NUMBER TEXT` (with spaces behind it, so many bytes in all) add to it; `turns LINES`
+//! says how many lines are answered at most; `refuse LINE` has the gate refuse a line.
 #![tactic(auto)]
 
+mod always;
 mod by;
 mod faults;
 mod holding;
 mod hostile;
+mod lengths;
+mod lines;
+mod noting;
 mod pair;
-mod setting;
+mod plan;
 mod stream;
 mod streams;
 mod sweeps;
@@ -28,32 +33,19 @@ mod worker;
 mod workers;
 
 use std::process::ExitCode;
-use std::rt::{Env, Files};
+use std::rt::Files;
 use std::sync::Wait;
 use std::thread::Threads;
 use std::time::Clock;
-use std::{env, fs, io};
-
-/// The commands.
-const COMMANDS: [&str; 2] = ["streams", "hostile"];
-
-/// The status where no command is given, or one that is unknown.
-const COMMAND_LINE: u8 = 2;
+use std::{fs, io};
+use test_rows::given;
 
 fn main(rt: HostRuntime) -> io::Result<ExitCode> {
-    let mut is_known = false;
-    for word in env::args(&rt)?.skip(1) {
-        is_known = COMMANDS.contains(&word.as_str());
-        if !is_known {
-            break;
-        }
+    let (words, end) = given(&rt, "rows_streams", &["streams", "hostile", "lines"])?;
+    for word in &words {
         run(&rt, word.as_str())?;
     }
-    if is_known {
-        return Ok(ExitCode::SUCCESS);
-    }
-    eprintln!(rt; "rows_streams: give one or more of the words streams, hostile")?;
-    Ok(ExitCode::from(COMMAND_LINE))
+    end.status(&rt)
 }
 
 /// Runs the script of a command.
@@ -65,6 +57,7 @@ fn run<R: Files + Threads + Wait + Clock + Sync + Print + AllocGlobal>(
     let script = fs::read_to_string(rt, format!(in rt.alloc(); "{command}.lines")?.as_str())?;
     match command {
         "streams" => streams::run(rt, script.as_str()),
-        _ => hostile::run(rt, script.as_str()),
+        "hostile" => hostile::run(rt, script.as_str()),
+        _ => lines::run(rt, script.as_str()),
     }
 }

@@ -1,8 +1,8 @@
 //! Two connections at once, each served by a thread of its own.
 ghost use Rattle.std.specs.Thread.{IsSync};
 
+use crate::always::always;
 use crate::holding::Holding;
-use crate::setting::Setting;
 use crate::stream::Stream;
 use crate::telling::tell;
 use lost_desk::Reader;
@@ -12,6 +12,7 @@ use std::io;
 use std::thread::{Threads, join_mut};
 use std::time::Clock;
 use test_fakes::Answered;
+use test_rows::Setting;
 
 /// What the thread of a connection has, and what it wrote.
 #[derive(Drop)]
@@ -76,7 +77,7 @@ fn in_two_threads<R: Threads + Clock + Sync>(
 
 /// Serves the stream.
 fn serve<R: Clock>(serving: &mut Serving<R>) -> Result<Counts, ServeError> {
-    let mut moments = serving.setting.moments();
+    let mut moments = always(serving.setting);
     let mut input = Watched::new(serving.stream.bytes.as_slice());
     let mut output = Watched::new(Vec::new(serving.alloc));
     let result = serve_lines(

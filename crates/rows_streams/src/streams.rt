@@ -1,7 +1,7 @@
 //! The commands of the script of streams: what is served, by whom.
+use crate::always::always;
 use crate::holding::Holding;
 use crate::pair::serve_pair;
-use crate::setting::{Setting, limits};
 use crate::stream::{Stream, no_command};
 use crate::telling::tell;
 use crate::workers::serve_two;
@@ -12,6 +12,7 @@ use std::io;
 use std::sync::Wait;
 use std::thread::Threads;
 use std::time::Clock;
+use test_rows::{Setting, limits};
 
 /// A desk and two of its readers.
 #[derive(Drop)]
@@ -124,7 +125,7 @@ fn serve_through<R: Print + AllocGlobal, P: Replier, G: Gate>(
     let alloc = rt.alloc();
     let mut input = Watched::new(stream.bytes.as_slice());
     let mut output = Watched::new(Vec::new(alloc));
-    let mut moments = setting.moments();
+    let mut moments = always(setting);
     let name = &setting.name;
     let result = serve_lines(
         alloc,

@@ -1,6 +1,5 @@
 //! A stream over each reader and writer that fails.
 use crate::by::{By, Outcome, served};
-use crate::setting::Setting;
 use crate::telling::{tell_counts, tell_text};
 use lost_spec::Coded;
 use lost_worker::{ServeError, Turns};
@@ -8,6 +7,7 @@ use std::alloc::AllocError;
 use std::io;
 use std::sync::Wait;
 use test_fakes::{Feed, NEVER, Sink, Spaces};
+use test_rows::Setting;
 
 /// Who serves a stream, and its bytes.
 #[derive(Drop)]

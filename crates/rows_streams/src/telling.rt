@@ -2,6 +2,7 @@
 use lost_spec::Coded;
 use lost_worker::{Counts, ServeError};
 use std::io;
+use test_fakes::Event;
 
 /// Prints what was written, and how it ended.
 pub(crate) fn tell<R: Print>(
@@ -30,4 +31,45 @@ pub(crate) fn tell_counts<R: Print>(rt: &R, counts: Counts) -> io::Result<()> {
         "lines {} long {} memory {} faults {}",
         counts.lines, counts.long_lines, counts.memory, counts.faults
     )
+}
+
+/// Prints what was written, with a line that comes several times in a row once, and how often.
+pub(crate) fn tell_folded<R: Print>(rt: &R, written: &[u8]) -> io::Result<()> {
+    let Ok(text) = std::str::from_utf8(written) else {
+        return Ok(());
+    };
+    let mut last = "";
+    let mut count = 0u64;
+    for line in text.lines() {
+        if line != last {
+            tell_repeated(rt, last, count)?;
+            last = line;
+            count = 0;
+        }
+        count = count.saturating_add(1);
+    }
+    tell_repeated(rt, last, count)
+}
+
+/// Prints a line that comes so many times in a row.
+fn tell_repeated<R: Print>(rt: &R, line: &str, count: u64) -> io::Result<()> {
+    match count {
+        0 => Ok(()),
+        1 => println!(rt; "{line}"),
+        _ => println!(rt; "{line} ({count} times)"),
+    }
+}
+
+/// Prints what happened, in order, on one line.
+pub(crate) fn tell_events<R: Print>(rt: &R, events: &[Event]) -> io::Result<()> {
+    print!(rt; "events:")?;
+    for event in events {
+        match event {
+            Event::Read => print!(rt; " read")?,
+            Event::Sent(bytes) => print!(rt; " sent-{bytes}")?,
+            Event::Asked(line) => print!(rt; " asked-{line}")?,
+            Event::Told(line) => print!(rt; " told-{line}")?,
+        }
+    }
+    println!(rt)
 }

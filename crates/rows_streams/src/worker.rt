@@ -1,5 +1,5 @@
 //! A worker with a connection that fails and a good one.
-use crate::setting::Setting;
+use crate::always::always;
 use crate::telling::tell_counts;
 use crossbeam_channel::{Receiver, unbounded};
 use lost_book::Limits;
@@ -11,6 +11,7 @@ use std::io;
 use std::io::{Read, Write};
 use std::sync::atomic::{AtomicU64, Ordering};
 use std::sync::{Arc, Wait};
+use test_rows::Setting;
 
 /// Gives bytes, or fails at once.
 #[derive(Drop)]
@@ -105,7 +106,7 @@ fn serve_both<R: Wait + Print + AllocGlobal>(
         &connections,
         reader,
         &setting.name,
-        &mut setting.moments(),
+        &mut always(setting),
         &NoGate,
         Turns::USUAL,
     );

@@ -1,8 +1,8 @@
 //! Two workers, each in a thread of its own.
 ghost use Rattle.std.specs.Thread.{IsSync};
 
+use crate::always::always;
 use crate::holding::Holding;
-use crate::setting::Setting;
 use crate::stream::Stream;
 use crate::telling::tell_counts;
 use crossbeam_channel::{Receiver, unbounded};
@@ -16,6 +16,7 @@ use std::sync::Wait;
 use std::thread::{Threads, join_mut};
 use std::time::Clock;
 use test_fakes::Meeting;
+use test_rows::Setting;
 
 /// What goes over the channel: a stream in memory, and where its replies go.
 type InMemory = Connection<VecDeque<u8>, Vec<u8>>;
@@ -104,7 +105,7 @@ fn in_two_threads<R: Threads + Wait + Clock + Sync>(
 
 /// Serves connections until there are no more.
 fn work<R: Wait + Clock>(rt: &R, working: &mut Working<R>) -> Counts {
-    let mut moments = working.setting.moments();
+    let mut moments = always(working.setting);
     worker_loop(
         rt,
         working.alloc,

@@ -5,12 +5,12 @@ use super::beside::Beside;
 use super::fault::Fault;
 use super::letter::{Letter, Naming};
 use super::{QUESTION, ROUNDS};
-use crate::setting::Setting;
 use crossbeam_channel::Receiver;
 use lost_book::Limits;
 use lost_desk::{Reader, Told};
 use std::alloc::Global;
 use std::sync::Wait;
+use test_rows::Setting;
 
 /// What the thread of the reader has.
 #[derive(Drop)]

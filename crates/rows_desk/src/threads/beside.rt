@@ -1,10 +1,10 @@
 //! The book beside, to which the reader's thread applies the same edits.
 use super::QUESTION;
 use super::fault::Fault;
-use crate::setting::Setting;
 use lost_book::{Book, Edit, Limits};
 use lost_json::{DeskLine, read_desk, reply_line};
 use std::alloc::Global;
+use test_rows::Setting;
 
 /// The edit of each even round.
 const PUBLISH: &[u8] =

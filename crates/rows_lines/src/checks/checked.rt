@@ -1,8 +1,8 @@
 //! The check of one row.
-use crate::setting::Setting;
 use lost_check::{Findings, check_lines};
 use lost_replay::{Counts, NoGate, Turns, Watched};
 use std::alloc::Global;
+use test_rows::Setting;
 
 /// What a check came to.
 #[derive(Drop)]

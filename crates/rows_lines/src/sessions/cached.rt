@@ -1,5 +1,4 @@
 //! One session through a desk and a reader that keeps places.
-use crate::setting::Setting;
 use lost_book::{Edit, Limits};
 use lost_desk::{Desk, Reader, open_desk};
 use lost_json::{
@@ -11,6 +10,7 @@ use lost_spec::Coded;
 use lost_worker::CachedReader;
 use std::alloc::Global;
 use std::sync::Wait;
+use test_rows::Setting;
 
 /// What answers the lines of a session: desk lines by the desk, and other lines by the reader.
 #[derive(Drop)]

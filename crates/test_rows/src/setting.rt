@@ -1,18 +1,20 @@
-//! What every row knows.
+//! The server of every row.
 use lost_book::Limits;
 use lost_mapping::{Moment, Source, Stamp};
 use std::alloc::{AllocError, Global};
 
 /// The server's name, and the moment of every answer.
 #[derive(Drop)]
-pub(crate) struct Setting {
-    pub(crate) name: Source,
-    pub(crate) moment: Moment,
+pub struct Setting {
+    /// `lost.example`.
+    pub name: Source,
+    /// The first moment of 2026.
+    pub moment: Moment,
 }
 
 impl Setting {
-    /// The server of every row, at its moment.
-    pub(crate) fn new(alloc: Global) -> Result<Setting, AllocError> {
+    /// The server of every row, at its moment, or want of memory.
+    pub fn new(alloc: Global) -> Result<Setting, AllocError> {
         let Ok(name) = Source::parse(alloc, b"lost.example") else {
             return Err(AllocError);
         };
@@ -26,7 +28,7 @@ impl Setting {
     }
 }
 
-/// The limits of a desk that reads lines.
-pub(crate) fn limits() -> Limits {
+/// The limits of a desk that reads lines: 1,000 mappings and 1,000 edits.
+pub fn limits() -> Limits {
     Limits::new(1_000, 1_000).unwrap_or(Limits::widest())
 }

@@ -1,0 +1,27 @@
+//! The moment of every stream.
+use lost_mapping::Moment;
+use lost_worker::Moments;
+use test_rows::Setting;
+
+/// Gives the same moment each time, and tells none.
+#[derive(Drop)]
+pub(crate) struct Always {
+    moment: Moment,
+}
+
+impl Moments for Always {
+    ghost use Rattle.std.specs.Prelude.{[]};
+
+    ghost coming = { λ _. [] };
+
+    fn now(&mut self) -> Moment {
+        self.moment
+    }
+}
+
+/// Gives the moment of every stream each time.
+pub(crate) fn always(setting: &Setting) -> Always {
+    Always {
+        moment: setting.moment,
+    }
+}

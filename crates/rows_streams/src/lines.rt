@@ -1,0 +1,165 @@
+//! The commands of the script of lines. Each line is answered by its length.
+//!
+//! `text TEXT` begins a stream, in which `\n` and `\r` are spelled, and `add NUMBER TEXT` adds to it so many times a text. It
+//! stays for the commands after it. `serve` serves it as the words behind it say, and prints what was written, how it ended,
+//! and the flags that were left. `note` prints what happened too, in order: each read, how many bytes were sent in all by a
+//! flush, and each line that the gate was asked for and told of. The words behind a command are
+//!
+//! - `whole`, which says nothing; `reading=N`, to read at most so many bytes at once; `pieces=N`, to write so, too;
+//! - `read-fails=N`, `read-interrupted=N`, `write-fails=N`, `write-takes-none=N`, `flush-fails=N`: which call fails;
+//! - `lines=N`, `reads=N`: how many lines are answered, and how many reads are made, at most;
+//! - `refuse=N`, for a gate that refuses a line and all after it, and `gate`, for one that refuses none;
+//! - `spaces`: spaces that come for ever are served in place of the stream.
+use crate::lengths::Lengths;
+use crate::noting::Noting;
+use crate::plan::Plan;
+use crate::stream::no_command;
+use crate::telling::{tell_events, tell_folded};
+use lost_lines::{Counts, Gate, NoGate, ServeError, Turns, Watched, run_lines};
+use lost_spec::Coded;
+use std::alloc::{AllocError, Global};
+use std::io;
+use std::io::Read;
+use test_fakes::{Diary, Noted, Sink, Spaces};
+
+/// How a stream was served, what was written, how many reads were made, and the flags that were left.
+#[derive(Drop)]
+struct Outcome {
+    result: Result<Counts, ServeError>,
+    text: Vec<u8>,
+    reads: u64,
+    is_input_failed: bool,
+    is_input_ended: bool,
+    is_output_failed: bool,
+}
+
+/// Runs the script.
+pub(crate) fn run<R: Print + AllocGlobal>(rt: &R, script: &str) -> io::Result<()> {
+    let mut bytes = Vec::new(rt.alloc());
+    for line in script.lines() {
+        match line.split_once(' ') {
+            Some(("text", spelled)) => {
+                bytes.clear();
+                add(&mut bytes, 1, spelled)?;
+            }
+            Some(("add", rest)) => {
+                let (count, spelled) = rest.split_once(' ').unwrap_or((rest, ""));
+                add(&mut bytes, count.parse::<u64>().unwrap_or(0), spelled)?;
+            }
+            None if line == "text" => bytes.clear(),
+            _ => command(rt, bytes.as_slice(), line)?,
+        }
+    }
+    Ok(())
+}
+
+/// Adds so many times a text, in which `\n` and `\r` are spelled.
+fn add(bytes: &mut Vec<u8>, count: u64, spelled: &str) -> Result<(), AllocError> {
+    for _ in 0..count {
+        add_spelled(bytes, spelled)?;
+    }
+    Ok(())
+}
+
+/// Adds a text, in which `\n` and `\r` are spelled.
+fn add_spelled(bytes: &mut Vec<u8>, spelled: &str) -> Result<(), AllocError> {
+    let mut is_escaped = false;
+    for byte in spelled.bytes() {
+        if byte == b'\\' {
+            is_escaped = true;
+        } else {
+            bytes.push(if is_escaped { escaped(byte) } else { byte })?;
+            is_escaped = false;
+        }
+    }
+    Ok(())
+}
+
+/// The byte that a byte stands for behind a `\`.
+fn escaped(byte: u8) -> u8 {
+    match byte {
+        b'n' => b'\n',
+        b'r' => b'\r',
+        other => other,
+    }
+}
+
+/// Serves a stream as a command says.
+fn command<R: Print + AllocGlobal>(rt: &R, bytes: &[u8], line: &str) -> io::Result<()> {
+    println!(rt; "-- {line}")?;
+    let (word, rest) = line.split_once(' ').unwrap_or((line, "whole"));
+    let Some(plan) = Plan::of(rest) else {
+        return no_command(rt);
+    };
+    let diary = Diary::new(rt.alloc());
+    let outcome = served(rt.alloc(), bytes, plan, &diary)?;
+    tell_folded(rt, outcome.text.as_slice())?;
+    tell_end(rt, &outcome)?;
+    match word {
+        "serve" => Ok(()),
+        "note" => tell_events(rt, diary.into_events().as_slice()),
+        _ => no_command(rt),
+    }
+}
+
+/// Serves a stream.
+fn served(alloc: Global, bytes: &[u8], plan: Plan, diary: &Diary) -> Result<Outcome, AllocError> {
+    let mut sink = Sink::new(alloc, usize::MAX)?;
+    plan.spoil(&mut sink);
+    if plan.is_endless {
+        return Ok(run_through(alloc, Spaces, sink, diary, &NoGate, plan.turns));
+    }
+    let feed = plan.feed(bytes);
+    Ok(match plan.refused {
+        Some(refused) => {
+            let gate = Noting { diary, refused };
+            run_through(alloc, feed, sink, diary, &gate, plan.turns)
+        }
+        None => run_through(alloc, feed, sink, diary, &NoGate, plan.turns),
+    })
+}
+
+/// Serves a stream through a gate, and notes what happens.
+fn run_through<R: Read + Drop, G: Gate>(
+    alloc: Global,
+    source: R,
+    sink: Sink,
+    diary: &Diary,
+    gate: &G,
+    turns: Turns,
+) -> Outcome {
+    let mut input = Watched::new(Noted::new(source, diary));
+    let mut output = Watched::new(Noted::new(sink, diary));
+    let result = run_lines(alloc, &mut input, &mut output, &mut Lengths, gate, turns);
+    let is_output_failed = output.failed();
+    Outcome {
+        result,
+        text: output.into_inner().into_inner().text,
+        reads: input.reads(),
+        is_input_failed: input.failed(),
+        is_input_ended: input.ended(),
+        is_output_failed,
+    }
+}
+
+/// Prints how a stream ended.
+fn tell_end<R: Print>(rt: &R, outcome: &Outcome) -> io::Result<()> {
+    match outcome.result {
+        Ok(counts) => print!(rt;
+            "lines {} long {} memory {} faults {}",
+            counts.lines, counts.long_lines, counts.memory, counts.faults
+        )?,
+        Err(fault) => print!(rt; "fault {}", fault.code())?,
+    }
+    print!(rt; "; {} reads, {} bytes", outcome.reads, outcome.text.len())?;
+    for (is_set, what) in [
+        (outcome.is_input_ended, "input ended"),
+        (outcome.is_input_failed, "input failed"),
+        (outcome.is_output_failed, "output failed"),
+    ] {
+        if is_set {
+            print!(rt; ", {what}")?;
+        }
+    }
+    println!(rt)
+}
