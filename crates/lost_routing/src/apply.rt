@@ -1,8 +1,8 @@
 //! How edits change the routing. Rules without a section are this profile's own.
-ghost use Rattle.std.specs.Prelude.{◌≡◌, ◌≢◌, None, Some, Err, IfErr, OnOk, OnErr};
+ghost use Rattle.std.specs.Prelude.{◌≡◌, ◌≢◌, true, None, Some, Err, IfErr, OnOk, OnErr};
 ghost use Rattle.lost_spec.specs.Book.{Publish, Replace, Withdraw, refusal, after};
 ghost use Rattle.lost_message.specs.Edit.{edit_of};
-ghost use Rattle.lost_routing.specs.Applied.{IsApplied};
+ghost use Rattle.lost_routing.specs.Applied.{IsApplied, has_mapping};
 
 use crate::routing::Routing;
 use lost_book::{Edit, EditError, check_publish, check_replace, check_withdraw};
@@ -22,6 +22,7 @@ impl Routing {
         ensures changed { OnOk result (self.new ≡ after self.old (edit_of edit)) }
         ensures refused { IfErr result (λ e. e ≢ EditError.Memory → refusal self.old (edit_of edit) ≡ Some e) }
         ensures memory_last { result ≡ Err EditError.Memory → refusal self.old (edit_of edit) ≡ None }
+        ensures memory_of_mapping { result ≡ Err EditError.Memory → has_mapping (edit_of edit) ≡ true }
         ensures unchanged { OnErr result (self.new ≡ self.old) }
     {
         match edit {
@@ -31,16 +32,22 @@ impl Routing {
         }
     }
 
-    /// Applies a copy of an edit. An edit that the book refuses changes nothing.
+    /// Applies a copy of an edit. An edit that the book refuses changes nothing. A withdrawal takes no memory.
     ///
     /// # Errors
     ///
     /// Want of memory. The book is then unchanged.
     pub fn absorb(&mut self, edit: &Edit) -> Result<(), AllocError>
         ensures changed { OnOk result (self.new ≡ after self.old (edit_of edit.now)) }
+        ensures memory_of_mapping { OnErr result (has_mapping (edit_of edit.now) ≡ true) }
         ensures unchanged { OnErr result (self.new ≡ self.old) }
     {
-        match self.apply(edit.clone()?) {
+        let applied = match edit {
+            Edit::Publish(mapping) => self.publish(mapping.clone()?),
+            Edit::Replace(mapping) => self.replace(mapping.clone()?),
+            Edit::Withdraw(identity, stamp) => self.withdraw(identity, stamp),
+        };
+        match applied {
             Err(EditError::Memory) => Err(AllocError),
             _ => Ok(()),
         }

@@ -1,6 +1,6 @@
 //! What an edit does to the tables and to the indexes.
 ghost use Rattle.std.specs.Prelude.{◌≡◌, OnOk, OnErr};
-ghost use Rattle.lost_tables.specs.Lookup.{IsFullyListed, KeepsOthers};
+ghost use Rattle.lost_tables.specs.Lookup.{IsFullyListed, IsNowhereListed, IsListedAtMostAs, KeepsOthers};
 ghost use Rattle.lost_regions.specs.Regions.{IsAboveAll, AreHeld, HasAll, with_mapping, with_other, without_number};
 
 use lost_mapping::Mapping;
@@ -18,6 +18,7 @@ pub(crate) fn enter(
 ) -> Result<(), AllocError>
     requires { IsAboveAll number regions.old }
     ensures listed { OnOk result (IsFullyListed tables.new mapping.now number) }
+    ensures unlisted { OnErr result (IsNowhereListed tables.new mapping.now number) }
     ensures others { KeepsOthers number tables.old tables.new }
     ensures put { OnOk result (regions.new ≡ with_mapping number mapping.now regions.old) }
     ensures refused { OnErr result (regions.new ≡ regions.old) }
@@ -41,6 +42,8 @@ pub(crate) fn exchange(
 ) -> Result<(), AllocError>
     requires { HasAll number old.now.polygons old.now.patterns regions.old }
     ensures listed { OnOk result (IsFullyListed tables.new new.now number) }
+    ensures taken_back { OnOk result (IsListedAtMostAs tables.new new.now old.now number) }
+    ensures unlisted { OnErr result (IsListedAtMostAs tables.new old.now new.now number) }
     ensures others { KeepsOthers number tables.old tables.new }
     ensures remaining { OnErr result (IsFullyListed tables.old old.now number → IsFullyListed tables.new old.now number) }
     ensures changed { OnOk result (regions.new ≡ with_other number new.now regions.old) }
@@ -58,6 +61,7 @@ pub(crate) fn exchange(
 /// Takes the notes of a mapping back, and its regions out. It takes no memory.
 pub(crate) fn leave(tables: &mut Tables, regions: &mut Regions, mapping: &Mapping, number: u64)
     requires { AreHeld number regions.old }
+    ensures unlisted { IsNowhereListed tables.new mapping.now number }
     ensures others { KeepsOthers number tables.old tables.new }
     ensures taken { regions.new ≡ without_number number regions.old }
 {

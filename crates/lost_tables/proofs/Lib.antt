@@ -1,4 +1,5 @@
 pub mod LookupLemmas
 pub mod TableLemmas
 pub mod PickLemmas
+pub mod RisingLemmas
 pub mod WalkLemmas

@@ -1,5 +1,5 @@
 -- Lists of numbers, by the things that they are listed under (own).
-use Rattle.std.specs.Prelude.{◌≡◌, ℕ, true, false, ◌&&◌, Bool, List, [], unwrap_or, nat_eq, String}
+use Rattle.std.specs.Prelude.{◌≡◌, ◌≢◌, ℕ, true, false, ◌&&◌, Bool, Option, List, [], IfSome, unwrap_or, nat_eq, String}
 use Rattle.std.specs.HashMap.{HashMap, get, get_by_text}
 use Rattle.std.specs.List.{list_any}
 use Rattle.lost_spec.specs.Text.{Text, same_text}
@@ -8,6 +8,18 @@ use Rattle.lost_spec.specs.Book.{Identity}
 -- the number stands in the list
 abbrev pub Stands : ℕ → List ℕ → Type 0
 Stands number numbers = list_any (nat_eq number) numbers ≡ true
+
+-- the number does not stand in the list
+abbrev pub Lacks : ℕ → List ℕ → Type 0
+Lacks number numbers = list_any (nat_eq number) numbers ≡ false
+
+-- the number is not in the list, where there is one, and no list is empty
+abbrev pub IsUnlisted : ℕ → Option (List ℕ) → Type 0
+IsUnlisted number list = IfSome list (λ numbers. Lacks number numbers × (numbers ≢ []))
+
+-- the same numbers stand in two lists
+abbrev pub HaveTheSame : List ℕ → List ℕ → Type 0
+HaveTheSame old new = (number : ℕ) → list_any (nat_eq number) new ≡ list_any (nat_eq number) old
 
 -- all other numbers that stood in a list do
 abbrev pub KeepsOthersIn : ℕ → List ℕ → List ℕ → Type 0

@@ -1,11 +1,12 @@
 -- By what a mapping is known, and which numbers are listed under it.
-use Rattle.std.specs.Prelude.{◌≡◌, ℕ, Bool, true, ◌&&◌, if◌then◌else◌, Option, None, Some, List, IfSome, IsTrue, nat_eq, map, string_bytes}
+use Rattle.std.specs.Prelude.{◌≡◌, ℕ, Bool, true, false, ◌&&◌, if◌then◌else◌, Option, None, Some, List, IfSome, IsTrue, nat_eq, map, string_bytes}
 use Rattle.std.specs.List.{list_any}
 use Rattle.lost_spec.specs.Text.{Text, same_text}
 use Rattle.lost_spec.specs.Service.{Service, service_text, is_service}
 use Rattle.lost_spec.specs.Mapping.{Mapping}
-use Rattle.lost_spec.specs.Book.{Identity, identity_of}
-use Rattle.lost_tables.specs.Lists.{Stands, KeepsLists, KeepsOtherNumbers, under_text, under_identity}
+use Rattle.std.specs.HashMap.{get, get_by_text}
+use Rattle.lost_spec.specs.Book.{Identity, identity_of, is_key}
+use Rattle.lost_tables.specs.Lists.{Stands, IsUnlisted, KeepsLists, KeepsOtherNumbers, same_identity, under_text, under_identity}
 use Rattle.lost_tables.specs.declared.tables.Tables.{Tables}
 
 -- by what a mapping is known: its identity, its key, its service, and its service where it is a default (own)
@@ -21,6 +22,13 @@ numbers_of tables (ByIdentity identity) = under_identity tables.identities ident
 numbers_of tables (ByKey key) = under_text tables.keys key
 numbers_of tables (ByService service) = under_text tables.services (service_text service)
 numbers_of tables (ByDefault service) = under_text tables.defaults (service_text service)
+
+-- the list under a note, where there is one
+abbrev pub list_of : Tables → LookupKey → Option (List ℕ)
+list_of tables (ByIdentity identity) = get same_identity tables.identities identity
+list_of tables (ByKey key) = get_by_text tables.keys key
+list_of tables (ByService service) = get_by_text tables.services (service_text service)
+list_of tables (ByDefault service) = get_by_text tables.defaults (service_text service)
 
 -- the texts of the services that have a list, each beside its list, one after another
 abbrev pub service_rows : Tables → List (Text × List ℕ)
@@ -49,6 +57,20 @@ pub record IsFullyListed (tables : Tables) (mapping : Mapping) (number : ℕ) : 
 -- the text of a mapping's service, where the mapping is a default
 abbrev pub default_text : Mapping → Option Text
 default_text mapping = if mapping.is_default then Some (service_text mapping.service) else None
+
+-- the number is listed under no note of the mapping
+pub record IsNowhereListed (tables : Tables) (mapping : Mapping) (number : ℕ) : Type 0 where
+  pub by_identity : IsUnlisted number (list_of tables (ByIdentity (identity_of mapping)))
+  pub by_key : IfSome mapping.key (λ key. IsUnlisted number (list_of tables (ByKey key)))
+  pub by_service : IsUnlisted number (list_of tables (ByService mapping.service))
+  pub by_default : IfSome (default_text mapping) (λ text. IsUnlisted number (list_of tables (ByDefault mapping.service)))
+
+-- the number is listed under no note of the mapping that another mapping does not have
+pub record IsListedAtMostAs (tables : Tables) (remaining gone : Mapping) (number : ℕ) : Type 0 where
+  pub by_identity : same_identity (identity_of gone) (identity_of remaining) ≡ false → IsUnlisted number (list_of tables (ByIdentity (identity_of gone)))
+  pub by_key : IfSome gone.key (λ key. is_key remaining.key key ≡ false → IsUnlisted number (list_of tables (ByKey key)))
+  pub by_service : same_text (service_text remaining.service) (service_text gone.service) ≡ false → IsUnlisted number (list_of tables (ByService gone.service))
+  pub by_default : IfSome (default_text gone) (λ text. is_key (default_text remaining) text ≡ false → IsUnlisted number (list_of tables (ByDefault gone.service)))
 
 -- a row is that of a service, and the number is in its list
 abbrev pub is_row_with : Service → ℕ → Text × List ℕ → Bool

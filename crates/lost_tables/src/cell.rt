@@ -1,6 +1,7 @@
 //! The numbers that are noted under one key.
-ghost use Rattle.std.specs.Prelude.{◌≡◌, ◌≤◌, ◌<◌, ◌∷◌, [], length, IfOk, OnOk, OnErr, IsTrue, ◌↔◌};
-ghost use Rattle.lost_tables.specs.Lists.{Stands, KeepsOthersIn};
+ghost use Rattle.std.specs.Prelude.{◌≡◌, ◌≢◌, ◌≤◌, ◌<◌, ◌-◌, ◌∷◌, ℕ, [], length, slice_index_or, IfOk, OnOk, OnErr, IsTrue, ◌↔◌};
+ghost use Rattle.std.specs.List.Sorted.{IsNonDecreasing};
+ghost use Rattle.lost_tables.specs.Lists.{Stands, Lacks, HaveTheSame, KeepsOthersIn};
 
 use std::alloc::{AllocError, Global};
 use std::marker::Model;
@@ -20,10 +21,13 @@ pub(crate) struct Cell {
 
 impl Model for Cell {
     ghost use Rattle.std.specs.Prelude.{ℕ, List};
+    ghost use Rattle.std.specs.List.Sorted.{IsNonDecreasing};
 
     ghost Value = { List ℕ };
 
     ghost view = { λ a. a.numbers.items };
+
+    ghost invariant = { λ a. IsNonDecreasing a.numbers.items };
 }
 
 impl Cell {
@@ -70,7 +74,8 @@ impl Cell {
 
     /// Takes the number out.
     pub(crate) fn remove(&mut self, number: u64)
-        ensures { KeepsOthersIn number self.old self.new }
+        ensures others { KeepsOthersIn number self.old self.new }
+        ensures gone { Lacks number self.new }
     {
         if let Ok(position) = self.numbers.binary_search(&number) {
             leave_room(&mut self.numbers, number, position);
@@ -81,7 +86,7 @@ impl Cell {
 
     /// Drops the repetitions, where there may be too many.
     fn drop_repeated(&mut self)
-        ensures { (other : _) → Stands other self.old → Stands other self.new }
+        ensures { HaveTheSame self.old self.new }
     {
         if self.repeated > self.numbers.len() / SHARE {
             self.numbers.dedup();
@@ -91,7 +96,9 @@ impl Cell {
 }
 
 /// Whether a number is above the last of these.
-fn is_past(numbers: &[u64], number: u64) -> bool {
+fn is_past(numbers: &[u64], number: u64) -> bool
+    ensures { IsTrue result → 0 < length numbers.now → slice_index_or numbers.now (length numbers.now - 1) 0 < number }
+{
     match numbers.last() {
         Some(last) => *last < number,
         None => true,
@@ -100,8 +107,12 @@ fn is_past(numbers: &[u64], number: u64) -> bool {
 
 /// Leaves the room of a number, which stands at a position, to the next one. The last one's room goes.
 fn leave_room(numbers: &mut Vec<u64>, number: u64, position: usize)
-    requires { position < length numbers.old.items }
-    ensures { KeepsOthersIn number numbers.old.items numbers.new.items }
+    requires within { position < length numbers.old.items }
+    requires there { slice_index_or numbers.old.items position 0 ≡ number }
+    requires rising { IsNonDecreasing numbers.old.items }
+    ensures others { KeepsOthersIn number numbers.old.items numbers.new.items }
+    ensures gone { Lacks number numbers.new.items }
+    ensures rising { IsNonDecreasing numbers.new.items }
 {
     let end = end_of(numbers, number, position);
     match numbers.get(end) {
@@ -113,22 +124,33 @@ fn leave_room(numbers: &mut Vec<u64>, number: u64, position: usize)
     }
 }
 
-/// Up to where a number stands, from a position on.
+/// Up to where a number stands, from a position on at which it does.
 fn end_of(numbers: &[u64], number: u64, position: usize) -> usize
-    requires { position ≤ length numbers.now }
-    ensures { result ≤ length numbers.now }
+    requires within { position < length numbers.now }
+    requires there { slice_index_or numbers.now position 0 ≡ number }
+    ensures some { 0 < result }
+    ensures within { result ≤ length numbers.now }
+    ensures last { slice_index_or numbers.now (result - 1) 0 ≡ number }
+    ensures ends { result < length numbers.now → slice_index_or numbers.now result 0 ≢ number }
 {
-    let mut end = position;
+    let mut end = position + 1;
     while end < numbers.len() && numbers[end] == number {
         end += 1;
     }
     end
 }
 
-/// Writes another number over a number that stands in front of a position, however often it stands there.
+/// Writes another number over a number that stands in front of a position, however often it stands there. In front of the
+/// position no number is greater, and from there on none is less than the other.
 fn write_over(numbers: &mut [u64], number: u64, other: u64, end: usize)
-    requires { end ≤ length numbers.old }
-    ensures { KeepsOthersIn number numbers.old numbers.new }
+    requires within { end ≤ length numbers.old }
+    requires rising { IsNonDecreasing numbers.old }
+    requires below { (k : ℕ) → k < end → slice_index_or numbers.old k 0 ≤ number }
+    requires less { number < other }
+    requires above { (k : ℕ) → end ≤ k → k < length numbers.old → other ≤ slice_index_or numbers.old k 0 }
+    ensures others { KeepsOthersIn number numbers.old numbers.new }
+    ensures gone { Lacks number numbers.new }
+    ensures rising { IsNonDecreasing numbers.new }
 {
     let mut start = end;
     while start > 0 && numbers[start - 1] == number {
@@ -137,9 +159,13 @@ fn write_over(numbers: &mut [u64], number: u64, other: u64, end: usize)
     }
 }
 
-/// Takes a number off the end, however often it stands there.
+/// Takes a number off the end, however often it stands there. None is greater.
 fn pop_all(numbers: &mut Vec<u64>, number: u64)
-    ensures { KeepsOthersIn number numbers.old.items numbers.new.items }
+    requires rising { IsNonDecreasing numbers.old.items }
+    requires below { (k : ℕ) → k < length numbers.old.items → slice_index_or numbers.old.items k 0 ≤ number }
+    ensures others { KeepsOthersIn number numbers.old.items numbers.new.items }
+    ensures gone { Lacks number numbers.new.items }
+    ensures rising { IsNonDecreasing numbers.new.items }
 {
     while numbers.last() == Some(&number) {
         numbers.pop();

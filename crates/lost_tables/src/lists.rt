@@ -1,7 +1,8 @@
 //! Lists of numbers under keys of any kind.
 ghost use Rattle.std.specs.Prelude.{◌≡◌, false, [], IfOk, IfSome, IsTrue, IsFalse, MatchOption, OnOk};
 ghost use Rattle.std.specs.Option.{option_copied};
-ghost use Rattle.lost_tables.specs.Lists.{Stands, KeepsLists, KeepsOtherNumbers, KeepsUnder, under};
+ghost use Rattle.std.specs.HashMap.{get};
+ghost use Rattle.lost_tables.specs.Lists.{Stands, IsUnlisted, KeepsLists, KeepsOtherNumbers, KeepsUnder, under};
 
 use crate::cell::Cell;
 use indexmap::IndexMap;
@@ -61,6 +62,8 @@ pub(crate) fn unlist<K: Eq + Hash + Drop>(
 )
     ensures others { KeepsOtherNumbers number (under K.eq lists.old) (under K.eq lists.new) }
     ensures remaining { IfSome (option_copied remaining.entry) (λ key. KeepsUnder key (under K.eq lists.old) (under K.eq lists.new)) }
+    ensures gone { MatchOption (option_copied remaining.entry) (IsUnlisted number (get K.eq lists.new gone.now))
+        (λ key. K.eq gone.now key ≡ false → IsUnlisted number (get K.eq lists.new gone.now)) }
 {
     if !is_key(remaining, gone) {
         unlist_under(lists, gone, number);
@@ -81,6 +84,7 @@ fn is_key<K: Eq>(own: Option<&K>, key: &K) -> bool
 fn unlist_under<K: Eq + Hash + Drop>(lists: &mut IndexMap<K, Cell>, key: &K, number: u64)
     ensures others { KeepsOtherNumbers number (under K.eq lists.old) (under K.eq lists.new) }
     ensures elsewhere { (other : _) → K.eq key.now other ≡ false → KeepsUnder other (under K.eq lists.old) (under K.eq lists.new) }
+    ensures gone { IsUnlisted number (get K.eq lists.new key.now) }
 {
     if remove_from_list(lists, key, number) {
         lists.swap_remove(key);
@@ -96,6 +100,7 @@ fn remove_from_list<K: Eq + Hash + Drop>(
     ensures others { KeepsOtherNumbers number (under K.eq lists.old) (under K.eq lists.new) }
     ensures elsewhere { (other : _) → K.eq key.now other ≡ false → KeepsUnder other (under K.eq lists.old) (under K.eq lists.new) }
     ensures empty { IsTrue result → under K.eq lists.new key.now ≡ [] }
+    ensures gone { IsFalse result → IsUnlisted number (get K.eq lists.new key.now) }
 {
     let Some(cell) = lists.get_mut(key) else {
         return false;

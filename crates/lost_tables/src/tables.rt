@@ -19,9 +19,9 @@ pub struct Tables {
 }
 
 impl Tables {
-    ghost use Rattle.std.specs.Prelude.{◌≡◌, ◌<◌, Some, [], length, slice_get, OnOk};
+    ghost use Rattle.std.specs.Prelude.{◌≡◌, ◌<◌, Some, [], length, slice_get, OnOk, OnErr};
     ghost use Rattle.lost_spec.specs.Service.{Service, service_text};
-    ghost use Rattle.lost_tables.specs.Lookup.{LookupKey, ByIdentity, ByKey, ByService, ByDefault, numbers_of, service_rows, Keeps, KeepsOthers, IsFullyListed};
+    ghost use Rattle.lost_tables.specs.Lookup.{LookupKey, ByIdentity, ByKey, ByService, ByDefault, numbers_of, service_rows, Keeps, KeepsOthers, IsFullyListed, IsNowhereListed, IsListedAtMostAs};
 
     /// Tables with no number. It takes no memory.
     pub fn new(alloc: Global) -> Tables
@@ -88,6 +88,7 @@ impl Tables {
     pub fn add_mapping(&mut self, mapping: &Mapping, number: u64) -> Result<(), AllocError>
         ensures listed { OnOk result (IsFullyListed self.new mapping.now number) }
         ensures keeps { OnOk result (Keeps self.old self.new) }
+        ensures refused { OnErr result (IsNowhereListed self.new mapping.now number) }
         ensures others { KeepsOthers number self.old self.new }
     {
         if self.list(mapping, number).is_err() {
@@ -99,6 +100,7 @@ impl Tables {
 
     /// Takes a number away from each note of a mapping. It takes no memory.
     pub fn remove_mapping(&mut self, mapping: &Mapping, number: u64)
+        ensures gone { IsNowhereListed self.new mapping.now number }
         ensures others { KeepsOthers number self.old self.new }
     {
         let service = mapping.service().text();
@@ -118,6 +120,7 @@ impl Tables {
     ) -> Result<(), AllocError>
         ensures listed { OnOk result (IsFullyListed self.new new.now number) }
         ensures keeps { OnOk result (Keeps self.old self.new) }
+        ensures refused { OnErr result (IsListedAtMostAs self.new old.now new.now number) }
         ensures others { KeepsOthers number self.old self.new }
         ensures remaining { IsFullyListed self.old old.now number → IsFullyListed self.new old.now number }
     {
@@ -130,6 +133,7 @@ impl Tables {
 
     /// Takes a number away from those notes of a mapping that another mapping does not have. It takes no memory.
     pub fn remove_change(&mut self, gone: &Mapping, remaining: &Mapping, number: u64)
+        ensures gone { IsListedAtMostAs self.new remaining.now gone.now number }
         ensures others { KeepsOthers number self.old self.new }
         ensures remaining { IsFullyListed self.old remaining.now number → IsFullyListed self.new remaining.now number }
     {

@@ -1,9 +1,10 @@
 //! Lists of numbers under texts.
-ghost use Rattle.std.specs.Prelude.{◌≡◌, false, IfSome, IsTrue, OnOk, []};
+ghost use Rattle.std.specs.Prelude.{◌≡◌, false, IfSome, IsTrue, IsFalse, OnOk, []};
+ghost use Rattle.std.specs.HashMap.{get_by_text};
 ghost use Rattle.std.specs.Option.{option_copied};
 ghost use Rattle.lost_spec.specs.Text.{same_text, Text};
 ghost use Rattle.lost_spec.specs.Book.{is_key};
-ghost use Rattle.lost_tables.specs.Lists.{Stands, KeepsLists, KeepsOtherNumbers, KeepsUnder, under_text};
+ghost use Rattle.lost_tables.specs.Lists.{Stands, IsUnlisted, KeepsLists, KeepsOtherNumbers, KeepsUnder, under_text};
 
 use crate::cell::Cell;
 use indexmap::IndexMap;
@@ -63,6 +64,8 @@ pub(crate) fn unlist(
 )
     ensures others { KeepsOtherNumbers number (under_text lists.old) (under_text lists.new) }
     ensures remaining { IfSome (option_copied remaining.entry) (λ text. KeepsUnder text (under_text lists.old) (under_text lists.new)) }
+    ensures gone { IfSome (option_copied gone.entry) (λ text.
+        is_key (option_copied remaining.entry) text ≡ false → IsUnlisted number (get_by_text lists.new text)) }
 {
     let Some(text) = gone else {
         return;
@@ -87,6 +90,7 @@ fn is_text(own: Option<&str>, text: &str) -> bool
 fn unlist_under(lists: &mut IndexMap<String, Cell>, text: &str, number: u64)
     ensures others { KeepsOtherNumbers number (under_text lists.old) (under_text lists.new) }
     ensures elsewhere { (other : Text) → same_text other text.now ≡ false → KeepsUnder other (under_text lists.old) (under_text lists.new) }
+    ensures gone { IsUnlisted number (get_by_text lists.new text.now) }
 {
     if remove_from_list(lists, text, number) {
         lists.swap_remove(text);
@@ -99,6 +103,7 @@ fn remove_from_list(lists: &mut IndexMap<String, Cell>, text: &str, number: u64)
     ensures others { KeepsOtherNumbers number (under_text lists.old) (under_text lists.new) }
     ensures elsewhere { (other : Text) → same_text other text.now ≡ false → KeepsUnder other (under_text lists.old) (under_text lists.new) }
     ensures empty { IsTrue result → under_text lists.new text.now ≡ [] }
+    ensures gone { IsFalse result → IsUnlisted number (get_by_text lists.new text.now) }
 {
     let Some(cell) = lists.get_mut(text) else {
         return false;
