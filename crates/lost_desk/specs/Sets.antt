@@ -1,5 +1,5 @@
 -- What is kept of places, and the mappings of a set.
-use Rattle.std.specs.Prelude.{◌≡◌, ℕ, Bool, false, not, ◌&&◌, ◌⊎◌, List, slice_get}
+use Rattle.std.specs.Prelude.{◌≡◌, ℕ, Bool, false, not, ◌&&◌, ◌⊎◌, ◌↔◌, List, slice_get}
 use Rattle.std.specs.Option.{option_map_or}
 use Rattle.lost_spec.specs.Moment.{Instant}
 use Rattle.lost_spec.specs.Mapping.{Mapping, is_live}
@@ -30,3 +30,7 @@ pub record IsOfBook (b : Book) (e : Entry) : Type 0 where
 -- nothing is kept but what was kept before and entries of a book
 abbrev pub KeepsOnly : (Entry → Type 0) → Book → (Entry → Type 0) → Type 0
 KeepsOnly before b after = (e : Entry) → after e → before e ⊎ IsOfBook b e
+
+-- the same entries are kept (own)
+abbrev pub KeepsTheSame : (Entry → Type 0) → (Entry → Type 0) → Type 0
+KeepsTheSame before after = (e : Entry) → after e ↔ before e

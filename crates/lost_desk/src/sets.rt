@@ -4,7 +4,7 @@ ghost use Rattle.std.specs.Borrow.{sem, follows_so};
 ghost use mathlib.Core.Option.{none};
 ghost use Rattle.lost_spec.specs.Holders.{Entry};
 ghost use Rattle.lost_query.specs.Place.{place_of};
-ghost use Rattle.lost_desk.specs.Sets.{entry};
+ghost use Rattle.lost_desk.specs.Sets.{entry, KeepsTheSame};
 
 use lost_query::Place;
 
@@ -17,13 +17,13 @@ pub trait PlaceSets {
     /// A set that is kept of this edition and place, or None. The entries stay.
     fn find(&mut self, edition: u64, place: &Place) -> Option<&[usize]>
         ensures* stays { sem 𝓛 (follows_so Self.row Self.row self.entry.ghost_name none (λ _ _. ⊤)
-            (λ n. (e : Entry) → keeps n e → keeps self.old e)) }
+            (λ n. KeepsTheSame (keeps self.old) (keeps n))) }
         ensures kept { IfSome result (λ set. keeps self.old (entry edition (place_of place.now) set.now)) };
 
     /// Whether the set of the place that was looked for last, and not found, is wanted. Where it is not, the line is
     /// answered without making it. The entries stay.
     fn is_wanted(&mut self) -> bool
-        ensures { (e : Entry) → keeps self.new e → keeps self.old e }
+        ensures { KeepsTheSame (keeps self.old) (keeps self.new) }
     {
         true
     }

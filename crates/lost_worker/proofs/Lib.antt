@@ -3,3 +3,4 @@ pub mod SumLemmas
 pub mod StageLemmas
 pub mod DeskingLemmas
 pub mod CacheLemmas
+pub mod JudgeLemmas

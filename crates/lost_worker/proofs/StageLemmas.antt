@@ -11,8 +11,7 @@ use Rattle.lost_writing.specs.DeskReplies.{desk_text}
 use Rattle.lost_desk.specs.Seen.{DeskSeen, staged_book, with_staged, with_committed}
 use Rattle.lost_lines.specs.Run.{Reply}
 use Rattle.lost_json.specs.Stream.{Unmarked, RefusedMemory, refused_text}
-use Rattle.lost_json.specs.Step.{IsAnswered}
-use Rattle.lost_worker.specs.Desking.{IsSameDesk, desk_terms, lists_of}
+use Rattle.lost_worker.specs.Desking.{IsJudged, IsSameDesk, desk_terms, lists_of}
 
 pub IsSameDesk-from_staged : (old new : DeskSeen) (edit : Edit) → new ≡ with_staged old edit → IsSameDesk old new
 IsSameDesk-from_staged old new edit changed = record { opening = ap (λ (d : DeskSeen). d.opening) changed; limits = ap (λ (d : DeskSeen). d.limits) changed }
@@ -29,7 +28,7 @@ pending_number p q e = omega (arith, length-append (p ++ q) (e ∷ []), length-a
 
 module _ (line : Text) (old new : DeskSeen) (edit : Edit) (reply : Reply) where
   abbrev pub StepTo : Type 0
-  StepTo = IsAnswered (desk_terms old.limits) (lists_of old) line (Some (Ok (Stage edit))) reply (lists_of new)
+  StepTo = IsJudged (desk_terms old.limits) (lists_of old) line (Some (Ok (Stage edit))) reply (lists_of new)
 
   abbrev pub Says : Text → Type 0
   Says text = reply ≡ record { text = text; is_internal_error = false }
@@ -37,31 +36,40 @@ module _ (line : Text) (old new : DeskSeen) (edit : Edit) (reply : Reply) where
   -- the edit is staged
   pub staged_step : refusal (staged_book old) edit ≡ None → new ≡ with_staged old edit → (pending : ℕ) → pending ≡ length new.pending → Says (desk_text (Staged pending)) → StepTo
   staged_step accepted changed pending counted said = record {
-    mark = Unmarked;
-    may_have = tt;
-    text_is = ap (λ (r : Reply). r.text) said ∙ ap (λ n. desk_text (Staged n)) (counted ∙ ap (λ (d : DeskSeen). length d.pending) changed ∙ pending_number old.published old.pending edit) ∙ rw accepted refl;
-    memory_is = ap (λ (r : Reply). r.is_internal_error) said;
-    lists_are = ap lists_of changed ∙ ap (λ es. record { accepted = es; published = old.published }) (sym (append_assoc old.published old.pending (edit ∷ []))) ∙ rw accepted refl;
+    step = record {
+      mark = Unmarked;
+      may_have = tt;
+      text_is = ap (λ (r : Reply). r.text) said ∙ ap (λ n. desk_text (Staged n)) (counted ∙ ap (λ (d : DeskSeen). length d.pending) changed ∙ pending_number old.published old.pending edit) ∙ rw accepted refl;
+      memory_is = ap (λ (r : Reply). r.is_internal_error) said;
+      lists_are = ap lists_of changed ∙ ap (λ es. record { accepted = es; published = old.published }) (sym (append_assoc old.published old.pending (edit ∷ []))) ∙ rw accepted refl;
+    };
+    was_read = λ is. absurd (cc);
   }
 
   -- the edit is refused, and the desk stays
   refused_edit : (e : EditError) → refusal (staged_book old) edit ≡ Some e → new ≡ old → Says (refused_text (edit_code e)) → StepTo
   refused_edit e refused unchanged said = record {
-    mark = Unmarked;
-    may_have = tt;
-    text_is = ap (λ (r : Reply). r.text) said ∙ rw refused refl;
-    memory_is = ap (λ (r : Reply). r.is_internal_error) said;
-    lists_are = ap lists_of unchanged ∙ rw refused refl;
+    step = record {
+      mark = Unmarked;
+      may_have = tt;
+      text_is = ap (λ (r : Reply). r.text) said ∙ rw refused refl;
+      memory_is = ap (λ (r : Reply). r.is_internal_error) said;
+      lists_are = ap lists_of unchanged ∙ rw refused refl;
+    };
+    was_read = λ is. absurd (cc);
   }
 
   -- the edit is not refused, and there is no memory for it
   short : refusal (staged_book old) edit ≡ None → new ≡ old → Says (refused_text 20) → StepTo
   short accepted unchanged said = record {
-    mark = RefusedMemory;
-    may_have = accepted;
-    text_is = ap (λ (r : Reply). r.text) said;
-    memory_is = ap (λ (r : Reply). r.is_internal_error) said;
-    lists_are = ap lists_of unchanged;
+    step = record {
+      mark = RefusedMemory;
+      may_have = accepted;
+      text_is = ap (λ (r : Reply). r.text) said;
+      memory_is = ap (λ (r : Reply). r.is_internal_error) said;
+      lists_are = ap lists_of unchanged;
+    };
+    was_read = λ is. absurd (cc);
   }
 
   pub refused_step : (e : EditError) → (e ≢ Memory → refusal (staged_book old) edit ≡ Some e) → (e ≡ Memory → refusal (staged_book old) edit ≡ None) → new ≡ old → Says (refused_text (edit_code e)) → StepTo
@@ -77,21 +85,35 @@ module _ (line : Text) (old new : DeskSeen) (edit : Edit) (reply : Reply) where
 module _ (line : Text) (old new : DeskSeen) (reply : Reply) where
   -- all that is pending is published
   pub committed_step : new ≡ with_committed old → (edition : ℕ) → edition ≡ length new.published → reply ≡ record { text = desk_text (Committed edition); is_internal_error = false }
-      → IsAnswered (desk_terms old.limits) (lists_of old) line (Some (Ok Commit)) reply (lists_of new)
+      → IsJudged (desk_terms old.limits) (lists_of old) line (Some (Ok Commit)) reply (lists_of new)
   committed_step changed edition counted said = record {
-    mark = Unmarked;
-    may_have = tt;
-    text_is = ap (λ (r : Reply). r.text) said ∙ ap (λ n. desk_text (Committed n)) (counted ∙ ap (λ (d : DeskSeen). length d.published) changed);
-    memory_is = ap (λ (r : Reply). r.is_internal_error) said;
-    lists_are = ap lists_of changed ∙ ap (λ es. record { accepted = es; published = old.published ++ old.pending }) (append-nil (old.published ++ old.pending));
+    step = record {
+      mark = Unmarked;
+      may_have = tt;
+      text_is = ap (λ (r : Reply). r.text) said ∙ ap (λ n. desk_text (Committed n)) (counted ∙ ap (λ (d : DeskSeen). length d.published) changed);
+      memory_is = ap (λ (r : Reply). r.is_internal_error) said;
+      lists_are = ap lists_of changed ∙ ap (λ es. record { accepted = es; published = old.published ++ old.pending }) (append-nil (old.published ++ old.pending));
+    };
+    was_read = λ is. absurd (cc);
   }
 
   -- there is no memory for it
-  pub uncommitted_step : new ≡ old → reply ≡ record { text = refused_text 20; is_internal_error = false } → IsAnswered (desk_terms old.limits) (lists_of old) line (Some (Ok Commit)) reply (lists_of new)
+  pub uncommitted_step : new ≡ old → reply ≡ record { text = refused_text 20; is_internal_error = false } → IsJudged (desk_terms old.limits) (lists_of old) line (Some (Ok Commit)) reply (lists_of new)
   uncommitted_step unchanged said = record {
-    mark = RefusedMemory;
-    may_have = tt;
-    text_is = ap (λ (r : Reply). r.text) said;
-    memory_is = ap (λ (r : Reply). r.is_internal_error) said;
-    lists_are = ap lists_of unchanged;
+    step = record {
+      mark = RefusedMemory;
+      may_have = tt;
+      text_is = ap (λ (r : Reply). r.text) said;
+      memory_is = ap (λ (r : Reply). r.is_internal_error) said;
+      lists_are = ap lists_of unchanged;
+    };
+    was_read = λ is. absurd (cc);
   }
+
+  -- with nothing pending the edition stays
+  pub committed_nothing : new ≡ with_committed old → (edition : ℕ) → edition ≡ length new.published → old.pending ≡ []
+      → reply ≡ record { text = desk_text (Committed edition); is_internal_error = false }
+      → reply ≡ record { text = desk_text (Committed (length old.published)); is_internal_error = false }
+  committed_nothing changed edition counted none said =
+      let all : new.published ≡ old.published = ap (λ (d : DeskSeen). d.published) changed ∙ ap (λ es. old.published ++ es) none ∙ append-nil old.published in
+      said ∙ ap (λ n. record { text = desk_text (Committed n); is_internal_error = false }) (counted ∙ ap length all)

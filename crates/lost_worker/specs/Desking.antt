@@ -1,10 +1,15 @@
 -- What answers the lines of a desk's connection. (Own.)
-use Rattle.std.specs.Prelude.{◌≡◌, false, ◌++◌}
+use Rattle.std.specs.Prelude.{◌≡◌, ◌≢◌, false, ◌++◌, Option, Some, None, Result, Ok, Err}
+use Rattle.lost_spec.specs.Text.{Text}
 use Rattle.lost_spec.specs.Book.{Limits}
 use Rattle.lost_desk.specs.Seen.{DeskSeen}
+use Rattle.lost_reading.specs.declared.desk.DeskFault.{DeskFault}
+use Rattle.lost_reading.specs.declared.desk.DeskLine.{DeskLine}
+use Rattle.lost_reading.specs.Desk.{Order, desk_fault_code}
+use Rattle.lost_reading.specs.DeskLines.{order_of}
 use Rattle.lost_lines.specs.Run.{Cut, Reply}
-use Rattle.lost_json.specs.Stream.{Terms, Lists, refused_text}
-use Rattle.lost_json.specs.Step.{Step}
+use Rattle.lost_json.specs.Stream.{Terms, Lists, ShortOfMemory, refused_text}
+use Rattle.lost_json.specs.Step.{Step, IsAnswered}
 use Rattle.lost_worker.specs.declared.desking.Desking.{Desking}
 
 -- a desk's connection: want of memory is code 20, and a line that is over the limit or no desk line is code 1
@@ -19,6 +24,17 @@ lists_of d = record { accepted = d.published ++ d.pending; published = d.publish
 pub record IsSameDesk (old new : DeskSeen) : Type 0 where
   pub opening : new.opening ≡ old.opening
   pub limits : new.limits ≡ old.limits
+
+-- a line that was read is answered by its order: it is not short of memory, so code 20 comes only at a commit, or at an edit that is not refused otherwise
+pub record IsJudged (terms : Terms) (old : Lists) (text : Text) (order : Option (Result Order DeskFault)) (reply : Reply) (new : Lists) : Type 0 where
+  pub step : IsAnswered terms old text order reply new
+  pub was_read : step.mark ≢ ShortOfMemory
+
+-- a line is answered by what was read of it: a fault, want of memory too, by its code, and the lists stay
+abbrev pub AnswersRead : Result (Option DeskLine) DeskFault → Terms → Lists → Text → Reply → Lists → Type 0
+AnswersRead (Ok None) terms old text reply new = IsJudged terms old text None reply new
+AnswersRead (Ok (Some line)) terms old text reply new = IsJudged terms old text (Some (Ok (order_of line))) reply new
+AnswersRead (Err fault) terms old text reply new = (reply ≡ record { text = refused_text (desk_fault_code fault); is_internal_error = false }) × (new ≡ old)
 
 -- the step of what answers lines: the desk stays, and its lists go by their step
 pub record Desks {T : Type 0} (old : Desking T) (cut : Cut) (reply : Reply) (new : Desking T) : Type 0 where

@@ -1,18 +1,17 @@
 //! What answers the lines of a desk's connection.
-ghost use Rattle.std.specs.Prelude.{◌≡◌, ◌≢◌, Some, None, Ok, Err, IfOk, IfErr, IfSome};
+ghost use Rattle.std.specs.Prelude.{◌≡◌, [], false, length, Some, Ok};
 ghost use Rattle.lost_spec.specs.Text.{Text as Bytes};
 ghost use Rattle.lost_message.specs.Edit.{edit_of};
 ghost use Rattle.lost_reading.specs.Desk.{Stage, Commit, desk_line};
-ghost use Rattle.lost_reading.specs.DeskLines.{order_of};
+ghost use Rattle.lost_reading.specs.DeskLines.{GivesLine};
+ghost use Rattle.lost_writing.specs.DeskReplies.{desk_text};
 ghost use Rattle.lost_lines.specs.Answer.{reply_of};
-ghost use Rattle.lost_json.specs.Step.{IsAnswered};
-ghost use Rattle.lost_worker.specs.Desking.{IsSameDesk, desk_terms, lists_of};
+ghost use Rattle.lost_worker.specs.Desking.{AnswersRead, IsJudged, IsSameDesk, desk_terms, lists_of};
 
 use lost_book::Edit;
 use lost_desk::Desk;
 use lost_json::{DeskFault, DeskLine, DeskReply, desk_answer};
 use lost_lines::{Answer, Answerer};
-use lost_mapping::MappingError;
 use lost_reading::Line;
 use lost_spec::Coded;
 use lost_tape::{Scratch, read_line};
@@ -34,15 +33,8 @@ impl<T: Wait> Answerer for Desking<'_, '_, '_, T> {
     ghost step = { Desks };
 
     fn answer(&mut self, alloc: Global, line: &[u8]) -> Answer {
-        match read_desk_by_tape(alloc, line, self.scratch) {
-            Ok(Some(DeskLine::Edit(edit))) => stage(self.desk, edit),
-            Ok(Some(DeskLine::Commit)) => commit(self.rt, self.desk),
-            Ok(None) => desk_answer(DeskReply::Refused(1)),
-            Err(fault) if fault == DeskFault::Mapping(MappingError::Memory) => {
-                desk_answer(DeskReply::Refused(20))
-            }
-            Err(fault) => desk_answer(DeskReply::Refused(fault.code())),
-        }
+        let read = read_desk_by_tape(alloc, line, self.scratch);
+        judge(self.rt, self.desk, read)
     }
 
     fn answer_long(&mut self) -> Answer {
@@ -60,10 +52,7 @@ fn read_desk_by_tape(
     line: &[u8],
     scratch: &mut Scratch,
 ) -> Result<Option<DeskLine>, DeskFault>
-    ensures other { result ≡ Ok None → desk_line line.now ≡ None }
-    ensures order { IfOk result (λ found. IfSome found (λ order. desk_line line.now ≡ Some (Ok (order_of order)))) }
-    ensures refused { IfErr result (λ fault.
-        fault ≢ DeskFault.Mapping MappingError.Memory → desk_line line.now ≡ Some (Err fault)) }
+    ensures { GivesLine result (desk_line line.now) }
 {
     match read_line(alloc, line, scratch)? {
         Line::Desk(order) => Ok(Some(order)),
@@ -71,9 +60,24 @@ fn read_desk_by_tape(
     }
 }
 
+/// Answers a line by what was read of it. A line that is no desk line is code 1. Code 20 says that there was no memory to
+/// read the line, to stage its edit or to commit; whatever else refuses it comes before that.
+fn judge<T: Wait>(rt: &T, desk: &mut Desk, read: Result<Option<DeskLine>, DeskFault>) -> Answer
+    ensures answered { (line : Bytes) → AnswersRead read (desk_terms desk.old.limits) (lists_of desk.old) line
+        (reply_of result) (lists_of desk.new) }
+    ensures same { IsSameDesk desk.old desk.new }
+{
+    match read {
+        Ok(Some(DeskLine::Edit(edit))) => stage(desk, edit),
+        Ok(Some(DeskLine::Commit)) => commit(rt, desk),
+        Ok(None) => desk_answer(DeskReply::Refused(1)),
+        Err(fault) => desk_answer(DeskReply::Refused(fault.code())),
+    }
+}
+
 /// Stages an edit: its refusal, or how many edits are staged and not published. Want of memory is code 20.
 fn stage(desk: &mut Desk, edit: Edit) -> Answer
-    ensures answered { (line : Bytes) → IsAnswered (desk_terms desk.old.limits) (lists_of desk.old) line
+    ensures judged { (line : Bytes) → IsJudged (desk_terms desk.old.limits) (lists_of desk.old) line
         (Some (Ok (Stage (edit_of edit)))) (reply_of result) (lists_of desk.new) }
     ensures same { IsSameDesk desk.old desk.new }
 {
@@ -83,10 +87,13 @@ fn stage(desk: &mut Desk, edit: Edit) -> Answer
     }
 }
 
-/// Publishes all that is staged, or says that there is no memory for it, which is code 20.
+/// Publishes all that is staged, or says that there is no memory for it, which is code 20. With nothing pending it takes
+/// none.
 fn commit<T: Wait>(rt: &T, desk: &mut Desk) -> Answer
-    ensures answered { (line : Bytes) → IsAnswered (desk_terms desk.old.limits) (lists_of desk.old) line
+    ensures judged { (line : Bytes) → IsJudged (desk_terms desk.old.limits) (lists_of desk.old) line
         (Some (Ok Commit)) (reply_of result) (lists_of desk.new) }
+    ensures nothing_pending { desk.old.pending ≡ [] → reply_of result ≡
+        record { text = desk_text (DeskReply.Committed (length desk.old.published)); is_internal_error = false } }
     ensures same { IsSameDesk desk.old desk.new }
 {
     match desk.commit(rt) {
