@@ -1,5 +1,6 @@
-//! Why a line was refused or is no line at all, in plain words with the place in the line (own rules). What is said holds
-//! of the line; where a place cannot be told, nothing is said.
+//! Why a line was refused or is no line at all, in plain words with the place in the line (own rules). Where a place cannot
+//! be told, nothing is said. No contract here says that what is said holds of the line: the rows of checks compare it, line
+//! by line.
 #![tactic(auto)]
 
 mod bad_line;

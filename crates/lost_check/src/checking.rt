@@ -23,8 +23,8 @@ use std::io::{Read, Write};
 ///
 /// [`ServeError::Memory`] where the replay could not be begun: nothing was read or written. [`ServeError::Read`],
 /// [`ServeError::Write`] and [`ServeError::TurnsSpent`] as [`run_lines`] says. After a fault the output holds a front of
-/// what is said of the lines, and after `Read` the whole of it for all lines whose byte 10 was read, up to `turns.lines`
-/// of them.
+/// what is said of the lines, and after `Read` and `TurnsSpent` the whole of it for all lines whose byte 10 was read, up to
+/// `turns.lines` of them and before any that the gate refused.
 pub fn check_lines<R: Read, W: Write, G: Gate>(
     alloc: Global,
     input: &mut Watched<R>,
@@ -38,7 +38,7 @@ pub fn check_lines<R: Read, W: Write, G: Gate>(
     requires fresh { AreFresh input.old output.old }
 
     // Something is written of exactly the lines that a replay refuses or does not answer.
-    ensures outcome { IsCheckOutcome name.now moment.now turns
+    ensures outcome { IsCheckOutcome (G.says gate.now) name.now moment.now turns
         (passage_of R.remaining W.contents input.old input.new output.old output.new) found.new result }
     ensures faults { StreamFaults R.remaining turns input.new output.old output.new result }
     ensures unread { result ≡ Err ServeError.Memory → input.new ≡ input.old }

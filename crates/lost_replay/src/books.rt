@@ -7,23 +7,25 @@ ghost use Rattle.lost_spec.specs.Book.{empty_book};
 ghost use Rattle.lost_book.specs.Bounds.{widest};
 ghost use Rattle.lost_message.specs.Edit.{edit_of};
 ghost use Rattle.lost_message.specs.Request.{request_of};
-ghost use Rattle.lost_reading.specs.Desk.{Stage, Commit, desk_line};
+ghost use Rattle.lost_reading.specs.Desk.{Stage, Commit, desk_line, desk_fault_code};
+ghost use Rattle.lost_reading.specs.Lines.{GivesWhole};
 ghost use Rattle.lost_reading.specs.Requests.{line_request};
 ghost use Rattle.lost_lines.specs.Answer.{reply_of};
 ghost use Rattle.lost_lines.specs.Run.{Whole};
 ghost use Rattle.lost_json.specs.Stream as stream;
 ghost use Rattle.lost_json.specs.Stream.{edit_text, refused_text};
-ghost use Rattle.lost_writing.specs.DeskReplies.{IsCode};
-ghost use Rattle.lost_replay.specs.Books.{BooksStep};
+ghost use Rattle.lost_writing.specs.DeskReplies.{desk_text, IsCode};
+ghost use Rattle.lost_replay.specs.Books.{Books as BooksSeen, BooksStep};
 ghost use Rattle.lost_replay.specs.Outcome.{IsListed, IsOutcomeOf};
+ghost use Rattle.lost_replay.specs.Pair.{with_committed};
 ghost use Rattle.lost_replay.specs.Replay.{replay_terms};
 
 use crate::outcome::Outcome;
 use crate::pair::Pair;
 use lost_book::{Edit, EditError, Limits};
-use lost_json::{DeskReply, bad_request, desk_answer, internal_error, reply_request};
+use lost_json::{DeskFault, DeskReply, bad_request, desk_answer, internal_error, reply_request};
 use lost_lines::{Answer, Text as ReplyText};
-use lost_mapping::{Moment, Source};
+use lost_mapping::{MappingError, Moment, Source};
 use lost_query::Request;
 use lost_routing::Routing;
 use lost_spec::Coded;
@@ -70,6 +72,23 @@ impl Judged {
             answer: desk_answer(DeskReply::Refused(code)),
             outcome: Outcome::Refused(code),
         }
+    }
+
+    /// The answer to a desk line with a fault: its code. It is `internalError` for want of memory, and then alone.
+    pub(crate) fn of_fault(fault: DeskFault) -> Judged
+        ensures refused { fault ≢ DeskFault.Mapping MappingError.Memory
+            → reply_of result.answer ≡ record { text = refused_text (desk_fault_code fault); is_internal_error = false } }
+        ensures memory { fault ≡ DeskFault.Mapping MappingError.Memory
+            → reply_of result.answer ≡ record { text = stream.internal_error; is_internal_error = true } }
+        ensures answered { (name : Text) (t : Instant) (books : BooksSeen) (line : Text) → GivesWhole (Err fault) (desk_line line) (line_request line)
+            → BooksStep (replay_terms name t) books (Whole line) (reply_of result.answer) books }
+        ensures outcome { (line : Text) → IsOutcomeOf result.outcome line (reply_of result.answer).text }
+        ensures listed { IsListed result.outcome }
+    {
+        if fault == DeskFault::Mapping(MappingError::Memory) {
+            return Judged::unjudged();
+        }
+        Judged::refused(fault.code())
     }
 }
 
@@ -149,6 +168,8 @@ impl Books {
 
     /// Publishes all that is staged. It takes no memory.
     pub(crate) fn commit(&mut self) -> Judged
+        ensures published { self.new ≡ with_committed self.old }
+        ensures told { reply_of result.answer ≡ record { text = desk_text (DeskReply.Committed self.new.published.edits); is_internal_error = false } }
         ensures answered { (name : Text) (t : Instant) (line : Text) → desk_line line ≡ Some (Ok Commit)
             → BooksStep (replay_terms name t) self.old (Whole line) (reply_of result.answer) self.new }
         ensures desk_reply { (reply_of result.answer).is_internal_error ≡ false }
@@ -192,6 +213,7 @@ impl Books {
     /// Answers a line that is neither a desk line nor a request.
     #[tactic(auto, unfolding(lost_json::specs::Line::line_reply))]
     pub(crate) fn neither(&self) -> Judged
+        ensures told { reply_of result.answer ≡ record { text = stream.bad_request; is_internal_error = false } }
         ensures answered { (name : Text) (t : Instant) (line : Text) → desk_line line ≡ None → line_request line ≡ None
             → BooksStep (replay_terms name t) self.now (Whole line) (reply_of result.answer) self.now }
         ensures outcome { (line : Text) → IsOutcomeOf result.outcome line (reply_of result.answer).text }

@@ -9,12 +9,11 @@ ghost use Rattle.lost_replay.specs.Replayer.{Begins, books_of, outcome_of};
 
 use crate::books::{Books, Judged};
 use crate::outcome::Outcome;
-use lost_json::{DeskFault, DeskLine};
+use lost_json::DeskLine;
 use lost_lines::{Answer, Answerer};
-use lost_mapping::{MappingError, Moment, Source};
+use lost_mapping::{Moment, Source};
 use lost_reading::Line;
 use lost_routing::Routing;
-use lost_spec::Coded;
 use lost_tape::{Scratch, read_line};
 use std::alloc::{AllocError, Global};
 
@@ -91,8 +90,7 @@ impl Replayer<'_> {
             Ok(Line::Desk(DeskLine::Edit(edit))) => self.books.stage(edit),
             Ok(Line::Desk(DeskLine::Commit)) => self.books.commit(),
             Ok(Line::Neither) => self.books.neither(),
-            Err(fault) if fault == DeskFault::Mapping(MappingError::Memory) => Judged::unjudged(),
-            Err(fault) => Judged::refused(fault.code()),
+            Err(fault) => Judged::of_fault(fault),
         }
     }
 
