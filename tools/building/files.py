@@ -1,6 +1,7 @@
 """Programs as files."""
 from __future__ import annotations
 
+import contextlib
 import hashlib
 import os
 
@@ -20,7 +21,12 @@ def write_file(path: str, body: bytes, mode: int = 0o755) -> None:
     """Writes a file whole, or not at all."""
     os.makedirs(os.path.dirname(path), exist_ok=True)
     part = f"{path}.{os.getpid()}"
-    with open(part, "wb") as file:
-        file.write(body)
-    os.chmod(part, mode)
-    os.replace(part, path)
+    try:
+        with open(part, "wb") as file:
+            file.write(body)
+        os.chmod(part, mode)
+        os.replace(part, path)
+    except BaseException:
+        with contextlib.suppress(OSError):
+            os.remove(part)
+        raise

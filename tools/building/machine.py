@@ -7,8 +7,9 @@ from typing import Optional
 
 from building.faults import Fault
 
-# The megabytes of disk that a build may take.
+# The megabytes of disk that a build may take; with fewer than the second left, a proof that failed did so for want of them.
 DISK = 12_000
+LEAST_DISK = 100
 
 PORTABLE, QUICKER = "x86-64-v2", "x86-64-v3"
 QUICKER_FLAGS = {"avx", "avx2", "bmi1", "bmi2", "f16c", "fma", "abm", "movbe", "xsave"}

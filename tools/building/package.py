@@ -5,7 +5,7 @@ import lzma
 import os
 from typing import Dict, NamedTuple, Optional
 
-from building.faults import Fault
+from building.faults import OWN_CLONE, Fault, unwritten
 from building.files import sum_of_bytes, write_file
 from building.trees import Trees, trees_of
 
@@ -86,7 +86,7 @@ class Package:
         try:
             write_file(path, body)
         except OSError as error:
-            raise Fault(f"{UNPACKED} cannot be written ({error.strerror}): run it in a clone of your own") from None
+            raise unwritten(UNPACKED, error, OWN_CLONE) from None
         return path
 
 

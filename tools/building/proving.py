@@ -10,9 +10,9 @@ import time
 from typing import Dict, List, NamedTuple, Optional, Tuple
 
 from building.copies import Copies
-from building.faults import Fault
+from building.faults import FULL, Fault
 from building.kit import Kit
-from building.machine import PORTABLE
+from building.machine import LEAST_DISK, PORTABLE, free_disk
 from building.progress import SO_FAR, Line, Log
 from building.schedule import Schedule
 from building.sources import PROGRAM
@@ -135,6 +135,8 @@ class Proving:
 
     def _failure(self, name: str, status: int) -> str:
         self.log.write(name, f"ended with status {status}")
+        if free_disk(self.copies.folders[0]) < LEAST_DISK:
+            return FULL
         if status in KILLED:
             fewer = max(len(self.copies.folders) // 2, 1)
             return f"the proof of {name} was killed, most likely for want of memory: run ./build --jobs {fewer}"

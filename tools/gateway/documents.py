@@ -15,6 +15,8 @@ PIECE = 32_768
 
 BYTE_ORDER_MARKS = ((b"\xef\xbb\xbf", "utf-8"), (b"\xff\xfe", "utf-16-le"), (b"\xfe\xff", "utf-16-be"))
 DECLARED = re.compile(rb"""<\?xml[ \t\r\n][^>]*?encoding[ \t\r\n]*=[ \t\r\n]*["']([A-Za-z0-9._-]+)["']""")
+# How UTF-8 is declared almost always.
+USUAL = (b'<?xml version="1.0" encoding="UTF-8"?>', b'<?xml version="1.0" encoding="utf-8"?>')
 ENCODINGS = {"utf-8": "utf-8", "utf8": "utf-8", "us-ascii": "ascii", "ascii": "ascii", "iso-8859-1": "latin-1"}
 
 
@@ -24,6 +26,8 @@ class NoDocument(Exception):
 
 def text_of(body: bytes) -> bytes:
     """The document in UTF-8, without a byte order mark."""
+    if body.startswith(USUAL):
+        return body
     if not body.startswith(b"<"):
         for mark, encoding in BYTE_ORDER_MARKS:
             if body.startswith(mark):

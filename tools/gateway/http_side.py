@@ -7,6 +7,7 @@ import traceback
 from typing import Dict, NamedTuple, Optional
 
 from aiohttp import hdrs, web
+from multidict import CIMultiDict, istr
 
 from gateway.answering import Answer, Answering
 from gateway.connection import Unanswered
@@ -17,6 +18,7 @@ from gateway.pool import QUESTION
 from gateway.vocabulary import MEDIA_TYPE
 
 BODY_SECONDS = 10.0
+EDITION = istr("Edition")
 NOT_POSTED = "POST a request of application/lost+xml"
 NOT_LOST = "the body is not application/lost+xml, or is compressed"
 
@@ -133,7 +135,9 @@ def application(handler: Handler) -> web.Application:
 
 def lost_response(answer: Answer, status: int = 200, headers: Optional[Dict[str, str]] = None) -> web.Response:
     """A response whose body is XML of LoST; 200 for errors of LoST too."""
-    fields = {"Content-Type": MEDIA_TYPE, **(headers or {})}
+    fields = CIMultiDict(((hdrs.CONTENT_TYPE, MEDIA_TYPE),))
+    if headers:
+        fields.update(headers)
     if answer.edition is not None:
-        fields["Edition"] = str(answer.edition)
+        fields[EDITION] = str(answer.edition)
     return web.Response(body=answer.xml, status=status, headers=fields)

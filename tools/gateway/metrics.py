@@ -1,12 +1,33 @@
 """What is counted, for Prometheus."""
 from __future__ import annotations
 
-from collections import Counter
+from bisect import bisect_left
 from typing import Any, Dict, List, Tuple
 
 SECONDS = (0.0005, 0.001, 0.0025, 0.005, 0.01, 0.025, 0.05, 0.1, 0.25, 0.5, 1, 2, 4)
 # Each process keeps its counts in files of this folder; it must be set before the library is loaded.
 FOLDER = "PROMETHEUS_MULTIPROC_DIR"
+
+
+class Times:
+    """How many requests took at most so many seconds each, and the seconds of all of them."""
+
+    def __init__(self) -> None:
+        self.counts: List[int] = [0] * (len(SECONDS) + 1)
+        self.sum = 0.0
+
+    def add(self, seconds: float) -> None:
+        """One more request."""
+        self.counts[bisect_left(SECONDS, seconds)] += 1
+        self.sum += seconds
+
+    def tell(self, histogram: Any) -> None:
+        """Adds them to a histogram of the library, which itself takes them one by one, and so long that clients would wait."""
+        # pylint: disable=protected-access
+        for bucket, count in zip(histogram._buckets, self.counts):
+            if count:
+                bucket.inc(count)
+        histogram._sum.inc(self.sum)
 
 
 class Metrics:
@@ -24,22 +45,22 @@ class Metrics:
         self.seconds = prometheus_client.Histogram("lost_request_seconds", "Seconds a request took.", buckets=SECONDS, **shared)
         shared["multiprocess_mode"] = "livemin"
         self.up = prometheus_client.Gauge("lost_server_up", "Whether the server answers each process.", ["server"], **shared)
-        self.counts: Counter[Tuple[str, str]] = Counter()
-        self.times: List[float] = []
+        self.counts: Dict[Tuple[str, str], int] = {}
+        self.times = Times()
 
     def count(self, kind: str, outcome: str, seconds: float) -> None:
         """One more request. It is told to the library with others: that takes as long as to answer it."""
-        self.counts[kind, outcome] += 1
-        self.times.append(seconds)
+        key = (kind, outcome)
+        self.counts[key] = self.counts.get(key, 0) + 1
+        self.times.add(seconds)
 
     def tell(self, states: List[Tuple[str, bool]]) -> None:
         """Tells the library what was counted, and which servers answer."""
-        counts, self.counts = self.counts, Counter()
-        times, self.times = self.times, []
+        counts, self.counts = self.counts, {}
+        times, self.times = self.times, Times()
         for (kind, outcome), count in counts.items():
             self.requests.labels(kind, outcome).inc(count)
-        for seconds in times:
-            self.seconds.observe(seconds)
+        times.tell(self.seconds)
         for server, is_up in states:
             self.up.labels(server).set(is_up)
 

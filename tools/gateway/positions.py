@@ -14,7 +14,9 @@ from maptools.units import rounded_units
 Point = Tuple[int, int]
 
 # A number of degrees: no exponent, no NaN, at most 3 digits before the point and 30 after it.
-NUMBER = re.compile(rb"[+-]?(?:[0-9]{1,3}(?:\.[0-9]{0,30})?|\.[0-9]{1,30})")
+A_NUMBER = rb"[+-]?(?:[0-9]{1,3}(?:\.[0-9]{0,30})?|\.[0-9]{1,30})"
+NUMBER = re.compile(A_NUMBER)
+POSITION = re.compile(rb"[ \t\r\n]*(%b)[ \t\r\n]+(%b)[ \t\r\n]*" % (A_NUMBER, A_NUMBER))
 LENGTH = re.compile(rb"[0-9]{1,9}(?:\.[0-9]{0,30})?")
 WHITE_SPACE = " \t\r\n"
 SPACE = re.compile(r"[ \t\r\n]+")
@@ -28,34 +30,35 @@ class Unreadable(Exception):
     """A shape that is no readable location."""
 
 
-def words_of(element: Optional[ElementTree.Element]) -> List[bytes]:
-    """The words of the text of an element that has no elements in it. (Bytes are split at the spaces of ASCII alone.)"""
+def text_in(element: Optional[ElementTree.Element]) -> bytes:
+    """The text of an element that has no elements in it. (Bytes are split at the spaces of ASCII alone.)"""
     if element is None or len(element):
         raise Unreadable("an element is missing, or has others in it")
-    return (element.text or "").encode().split()
+    return (element.text or "").encode()
 
 
-def units_of(word: bytes) -> int:
+def units_of(number: bytes) -> int:
     """A number of degrees in whole units: what lies between goes to the nearest, a half to the even one."""
-    if not NUMBER.fullmatch(word):
-        raise Unreadable("a number is none of degrees")
-    whole, _, fraction = word.partition(b".")
+    whole, _, fraction = number.partition(b".")
     if len(fraction) <= DIGITS:
         return int(whole + fraction.ljust(DIGITS, b"0"))
-    return rounded_units(Decimal(word.decode()))
+    return rounded_units(Decimal(number.decode()))
 
 
 def numbers_of(element: Optional[ElementTree.Element]) -> List[int]:
     """The numbers of degrees in an element, in whole units."""
-    return [units_of(word) for word in words_of(element)]
+    words = text_in(element).split()
+    if not all(map(NUMBER.fullmatch, words)):
+        raise Unreadable("a number is none of degrees")
+    return [units_of(word) for word in words]
 
 
 def position_of(element: Optional[ElementTree.Element]) -> Point:
     """The latitude and the longitude of a gml:pos: just two numbers."""
-    numbers = numbers_of(element)
-    if len(numbers) != 2:
-        raise Unreadable("a position is not two numbers")
-    return numbers[0], numbers[1]
+    found = POSITION.fullmatch(text_in(element))
+    if not found:
+        raise Unreadable("a position is not two numbers of degrees")
+    return units_of(found[1]), units_of(found[2])
 
 
 def place_of(shape: ElementTree.Element) -> Point:
@@ -66,7 +69,7 @@ def place_of(shape: ElementTree.Element) -> Point:
 def measure_of(shape: ElementTree.Element, name: str, unit: str) -> float:
     """A length or an angle of a shape; metres and degrees alone are read."""
     element = shape.find(named(SHAPES, name))
-    words = words_of(element)
+    words = text_in(element).split()
     if len(words) != 1 or not LENGTH.fullmatch(words[0]) or element is None or element.get("uom") != unit:
         raise Unreadable(f"{name} is not one number in {unit}")
     return float(words[0])

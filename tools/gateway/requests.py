@@ -62,7 +62,8 @@ class Request(NamedTuple):
 
 def collapsed(text: str) -> str:
     """A text as a token of XML: no white space at its ends, and one space for each run inside."""
-    return SPACE.sub(" ", text.strip(WHITE_SPACE))
+    # (of ASCII, XML has no other characters that `split` takes for white space)
+    return " ".join(text.split()) if text.isascii() else SPACE.sub(" ", text.strip(WHITE_SPACE))
 
 
 def plain_text(element: ElementTree.Element) -> str:

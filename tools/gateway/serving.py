@@ -22,13 +22,22 @@ from gateway.processes import Place, Work
 
 BACKLOG = 4096
 TELL_AGAIN = 0.25
+# Python looks for circles among new objects once so many more are there; by itself it would after every few requests.
+LOOK_FOR_CIRCLES = 20_000
 KEEP_ALIVE = 75.0
+LARGEST_KEPT = 1 << 20
 
 
 def allow_many_files() -> None:
     """Lets the process have as many connections open as the system allows it."""
     _, most = resource.getrlimit(resource.RLIMIT_NOFILE)
     resource.setrlimit(resource.RLIMIT_NOFILE, (most, most))
+
+
+def keep_memory() -> None:
+    """Has the C library keep the 256 KiB that asyncio takes for each read: it gives pieces of that size back to the system
+    each time, and takes them again, until a larger one was given back."""
+    bytes(LARGEST_KEPT)
 
 
 def side_of(options: argparse.Namespace) -> Side:
@@ -68,7 +77,9 @@ async def listen(handler: Handler, place: Place, patience: float) -> None:
     await runner.setup()
     site = web.SockSite(runner, place.listener, backlog=BACKLOG, shutdown_timeout=patience)
     await site.start()
+    keep_memory()
     gc.freeze()
+    gc.set_threshold(LOOK_FOR_CIRCLES)
     os.write(place.ready, b".")
     await is_over.wait()
     asyncio.get_running_loop().remove_reader(place.life)

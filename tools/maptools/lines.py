@@ -3,6 +3,7 @@ from __future__ import annotations
 
 import json
 import math
+from json.encoder import c_make_encoder, encode_basestring
 from typing import Any, Optional, Tuple
 
 from maptools.texts import is_unicode
@@ -10,6 +11,8 @@ from maptools.texts import is_unicode
 LONGEST_LINE = 1_048_576
 DEEPEST_LINE = 127
 COMPACT = json.JSONEncoder(ensure_ascii=False, separators=(",", ":"), sort_keys=True)
+# What COMPACT itself makes anew for each value, which takes half of the time of a short line; it looks for no circles.
+ENCODER = c_make_encoder(None, COMPACT.default, encode_basestring, None, ":", ",", True, False, True)
 
 
 def finite_number(text: str) -> float:
@@ -40,7 +43,7 @@ def refuse_constant(name: str) -> Any:
 
 def line_of(value: Any) -> str:
     """A value as one compact line, the members of objects in order of their names, without the newline."""
-    return COMPACT.encode(value)
+    return "".join(ENCODER(value, 0))
 
 
 def read_line(line: bytes) -> Optional[Tuple[str, Any]]:

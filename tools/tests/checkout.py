@@ -121,11 +121,11 @@ class Checkout(unittest.TestCase):
         os.remove(f"{self.kit}/CALLS")
         return found
 
-    def stopped_build(self, by: signal.Signals) -> Tuple[int, str]:
-        """Stops a build while the second layer is being proved; its status, and what it said."""
-        self.write(f"{self.kit}/SECONDS", "1.5")
-        words = [f"{self.top}/build", "--jobs", "2"]
-        running = subprocess.Popen(words, env=self.environment(), stderr=subprocess.PIPE, text=True)
+    def stopped(self, by: signal.Signals, seconds: float, script: str, *words: str) -> Tuple[int, str]:
+        """Stops a command that builds while the second layer is being proved; its status, and what it said."""
+        self.write(f"{self.kit}/SECONDS", str(seconds))
+        command = [f"{self.top}/{script}", *words]
+        running = subprocess.Popen(command, env=self.environment(), stderr=subprocess.PIPE, text=True)
         ends = time.monotonic() + 60
         while time.monotonic() < ends and not self.is_at("lost_left"):
             time.sleep(0.05)

@@ -11,8 +11,10 @@ import tempfile
 import threading
 import time
 import unittest
+from types import SimpleNamespace
 from typing import Any, Dict, List, Tuple
 
+from gateway.metrics import Times
 from tests.gateway_running import (
     MEDIA_TYPE, PATIENCE, PYTHON, Answer, Gateway, StandIn, ask_over, has_packages, invalid_of, wait_until,
 )  # fmt: skip
@@ -38,6 +40,30 @@ def raw(port: int, *pieces: bytes) -> bytes:
             time.sleep(0.1)
         with connection.makefile("rb") as answers:
             return answers.read()
+
+
+class Bucket:
+    """A count of the library."""
+
+    def __init__(self) -> None:
+        self.value = 0.0
+
+    def inc(self, amount: float) -> None:
+        """Adds."""
+        self.value += amount
+
+
+class Seconds(unittest.TestCase):
+    """How long requests took, as the library wants it."""
+
+    def test_a_request_counts_below_the_first_bound_that_it_does_not_pass(self) -> None:
+        times, histogram = Times(), SimpleNamespace(_buckets=[Bucket() for _ in range(14)], _sum=Bucket())
+        for seconds in (0.0, 0.0005, 0.00051, 0.001, 0.3, 0.5, 4.0, 4.5, 99.0):
+            times.add(seconds)
+        times.tell(histogram)
+        # 0.0005, 0.001, 0.0025 ... 0.5, 1, 2, 4, and beyond
+        self.assertEqual([bucket.value for bucket in histogram._buckets], [2, 2, 0, 0, 0, 0, 0, 0, 0, 2, 0, 0, 1, 2])
+        self.assertAlmostEqual(histogram._sum.value, 108.30201)
 
 
 @unittest.skipUnless(has_packages(), NEEDS)

@@ -3,10 +3,12 @@ from __future__ import annotations
 
 import os
 import shutil
+import signal
 import stat
 import subprocess
 from typing import List, Tuple
 
+from building.kit import LOGIC
 from tests.checkout import Checkout
 from tests.running import CASES, read
 
@@ -85,4 +87,33 @@ class Install(Checkout):
         for words in (["a place"], ["--replace"], [self.prefix, "more"], ["--uninstall", "x"], [""], ["--uninstall", "--from-source"]):
             self.assertEqual(self.install(*words)[0], 2, words)
         self.write(f"{self.folder}/file", "")
-        self.assertEqual(self.install(f"{self.folder}/file"), (1, f"install: {self.folder}/file cannot be written to: Not a directory\n"))
+        user = "become a user who may write there, such as root"
+        wanted = f"install: {self.folder}/file cannot be written (Not a directory): {user}, or name another PREFIX\n"
+        self.assertEqual(self.install(f"{self.folder}/file"), (1, wanted))
+        os.makedirs(f"{self.folder}/other/bin/lostd")
+        wanted = f"install: {self.folder}/other/bin/lostd cannot be taken away (Is a directory): {user}\n"
+        self.assertEqual(self.install("--uninstall", f"{self.folder}/other"), (1, wanted))
+
+    def test_a_program_that_this_machine_cannot_run(self) -> None:
+        self.write(f"{self.top}/crates/lostd/src/main.rt", "no program\n")
+        self.pack()
+        wanted = "the manual page could not be made, since the program does not run: it needs x86-64 Linux with glibc"
+        self.assertEqual(self.install(self.prefix), (1, f"install: {wanted}\n"))
+        self.assertFalse(os.path.exists(self.prefix))
+        wanted = f"{self.top}/release/out/lostd cannot be run (Exec format error): it needs x86-64 Linux with glibc"
+        self.assertEqual(self.run_script("lostd", "--version"), (1, "", f"lostd: {wanted}\n"))
+
+    def test_from_source_without_a_kit(self) -> None:
+        os.remove(f"{self.kit}/rt")
+        wanted = f"there is no kit to build with: put one of logic {LOGIC} at {self.folder}/kit, or its rt on the PATH"
+        self.assertEqual(self.install("--from-source", self.prefix), (1, f"install: {wanted}\n"))
+        self.assertFalse(os.path.exists(self.prefix))
+
+    def test_from_source_interrupted_goes_on_where_it_was(self) -> None:
+        ended, said = self.stopped(signal.SIGTERM, 0.5, "install", "--from-source", self.prefix)
+        self.assertEqual((ended, said.splitlines()[-1]), (130, "install: stopped; begun again, it goes on where it was"))
+        self.assertFalse(os.path.exists(self.prefix))
+        self.assertIn("lost_low", "".join(self.proved()))
+        self.assertEqual(self.install("--from-source", self.prefix)[0], 0)
+        self.assertNotIn("lost_low ", "".join(self.proved()))
+        self.assertEqual(self.files(self.prefix), ["bin/lostd", "share/man/man1/lostd.1"])

@@ -85,6 +85,23 @@ class Package(Checkout):
             self.assertRegex(self.said(script, 1), rf"^{script}: {FILE} (is damaged|cannot be unpacked).*: {AGAIN}\n$")
         self.assertFalse(os.path.exists(f"{self.top}/{UNPACKED}"))
 
+    def test_a_package_that_came_in_part_is_never_run(self) -> None:
+        with open(f"{self.top}/{FILE}", "rb") as file:
+            whole = file.read()
+        for part in (b"", whole[:-1], whole[: len(whole) // 2]):
+            with open(f"{self.top}/{FILE}", "wb") as file:
+                file.write(part)
+            self.assertRegex(self.said("lostd", 1), rf"^lostd: {FILE} cannot be unpacked \(.*\): {AGAIN}\n$")
+        os.remove(f"{self.top}/{FILE}")
+        self.assertRegex(self.said("lostd", 1), rf"^lostd: {FILE} cannot be unpacked \(.*No such file.*\): {AGAIN}\n$")
+        self.git("checkout", "--quiet", "--", "release")
+        self.assertEqual(self.run_script("lostd", "--version"), (0, "lostd 0.0.7\n", ""))
+
+    def test_a_place_that_cannot_be_unpacked_to(self) -> None:
+        self.write(f"{self.top}/{os.path.dirname(UNPACKED)}", "")
+        wanted = f"lostd: {UNPACKED} cannot be written (File exists): run it in a clone of your own\n"
+        self.assertEqual(self.said("lostd", 1), wanted)
+
     def test_a_package_of_another_checksum_is_never_run(self) -> None:
         self.change(MANIFEST, "sha256: ", "sha256: 0")
         wanted = f"lostd: {FILE} is damaged, since its checksum is not that of {MANIFEST}: {AGAIN}\n"
