@@ -1,5 +1,5 @@
 //! The moments of the machine's clock. Rules without a section are this profile's own.
-ghost use Rattle.std.specs.Prelude.{◌≡◌, ◌+◌, ◌*◌, IfSome};
+ghost use Rattle.std.specs.Prelude.{◌≡◌, ◌≤◌, ◌/◌, ◌%◌, ◌^◌, ◌↔◌, pos, IfSome, IsNone};
 ghost use Rattle.std.specs.Duration.{as_nanos};
 
 use lost_mapping::Moment;
@@ -46,7 +46,11 @@ impl<R: Clock> Moments for MachineClock<'_, R> {
 }
 
 /// The moment so long after 1970-01-01T00:00:00Z, or `None` where its day has no number.
-fn moment_since_1970(since: Duration) -> Option<Moment> {
+fn moment_since_1970(since: Duration) -> Option<Moment>
+    ensures none { IsNone result ↔ (2 ^ 31 ≤ as_nanos since / 86_400_000_000_000) }
+    ensures value { IfSome result (λ moment.
+        moment ≡ record { day = pos (as_nanos since / 86_400_000_000_000); nanosecond = as_nanos since % 86_400_000_000_000 }) }
+{
     let day = i32::try_from(since.as_secs() / SECONDS_OF_A_DAY).ok()?;
     let second = since.as_secs() % SECONDS_OF_A_DAY;
     Moment::new(
