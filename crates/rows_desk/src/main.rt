@@ -5,6 +5,7 @@
 //! - `cache`: the lines of `cache.lines`, for a desk and two readers, of which one has a cache and the other one counts
 //!   what it finds. A desk line goes to the desk, any other line to both. The line `next` ends a session, and the next one
 //!   has a desk of its own.
+//! - `many`: a desk's connection on which two thousand edits are staged before each of two commits.
 //! - `threads`: a desk in one thread and a reader in another, a thousand times.
 //!
 //! Each answer is a line of the output.
@@ -13,6 +14,7 @@
 mod cache;
 mod counting;
 mod desk;
+mod many;
 mod orders;
 mod setting;
 mod threads;
@@ -24,7 +26,7 @@ use std::thread::Threads;
 use std::{env, io};
 
 /// The commands.
-const COMMANDS: [&str; 3] = ["desk", "cache", "threads"];
+const COMMANDS: [&str; 4] = ["desk", "cache", "many", "threads"];
 
 /// The status where no command is given, or one that is unknown.
 const COMMAND_LINE: u8 = 2;
@@ -41,7 +43,7 @@ fn main(rt: HostRuntime) -> io::Result<ExitCode> {
     if is_known {
         return Ok(ExitCode::SUCCESS);
     }
-    eprintln!(rt; "rows_desk: give one or more of the words desk, cache, threads")?;
+    eprintln!(rt; "rows_desk: give one or more of the words desk, cache, many, threads")?;
     Ok(ExitCode::from(COMMAND_LINE))
 }
 
@@ -54,6 +56,7 @@ fn run<R: Files + Threads + Wait + Sync + Print + AllocGlobal>(
     match command {
         "desk" => desk::run(rt),
         "cache" => cache::run(rt),
+        "many" => many::run(rt),
         _ => threads::run(rt),
     }
 }
