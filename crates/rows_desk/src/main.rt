@@ -5,6 +5,7 @@
 //! - `cache`: the lines of `cache.lines`, for a desk and two readers, of which one has a cache and the other one counts
 //!   what it finds. A desk line goes to the desk, any other line to both. The line `next` ends a session, and the next one
 //!   has a desk of its own.
+//! - `many`: a desk's connection on which two thousand edits are staged before each of two commits.
 //! - `threads`: a desk in one thread and a reader in another, a thousand times.
 //!
 //! Each answer is a line of the output.
@@ -13,6 +14,7 @@
 mod cache;
 mod counting;
 mod desk;
+mod many;
 mod orders;
 mod threads;
 
@@ -24,7 +26,7 @@ use std::thread::Threads;
 use test_rows::given;
 
 fn main(rt: HostRuntime) -> io::Result<ExitCode> {
-    let (words, end) = given(&rt, "rows_desk", &["desk", "cache", "threads"])?;
+    let (words, end) = given(&rt, "rows_desk", &["desk", "cache", "many", "threads"])?;
     for word in &words {
         run(&rt, word.as_str())?;
     }
@@ -40,6 +42,7 @@ fn run<R: Files + Threads + Wait + Sync + Print + AllocGlobal>(
     match command {
         "desk" => desk::run(rt),
         "cache" => cache::run(rt),
+        "many" => many::run(rt),
         _ => threads::run(rt),
     }
 }
