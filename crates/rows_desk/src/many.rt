@@ -2,7 +2,6 @@
 //! published and committed, and then all of them are replaced and committed. A reader then finds the last one.
 
 use crate::orders::print_reply;
-use crate::setting::Setting;
 use lost_book::Limits;
 use lost_desk::{Desk, Reader, Readers, open_desk};
 use lost_spec::Coded;
@@ -10,6 +9,7 @@ use lost_worker::{Turns, Watched, serve_desk};
 use std::alloc::{AllocError, Global};
 use std::io;
 use std::sync::Wait;
+use test_rows::Setting;
 
 /// How many mappings there are, and how many edits a commit takes.
 const MAPPINGS: u32 = 2_000;
