@@ -7,8 +7,7 @@ use lost_worker::{Counts, NoGate, ServeError, Turns, Watched, serve_desk, serve_
 use std::alloc::Global;
 use std::io::Read;
 use std::sync::Wait;
-use test_fakes::Sink;
-use test_rows::Setting;
+use test_rows::{Setting, Sink};
 
 /// What serves a stream.
 #[derive(Clone, Copy, Drop)]

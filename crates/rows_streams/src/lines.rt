@@ -20,7 +20,7 @@ use lost_spec::Coded;
 use std::alloc::{AllocError, Global};
 use std::io;
 use std::io::Read;
-use test_fakes::{Diary, Noted, Sink, Spaces};
+use test_rows::{Diary, Noted, Sink, Spaces};
 
 /// How a stream was served, what was written, how many reads were made, and the flags that were left.
 #[derive(Drop)]

@@ -1,6 +1,6 @@
 //! A gate that notes what it is asked and told.
 use lost_lines::Gate;
-use test_fakes::{Diary, Event};
+use test_rows::{Diary, Event};
 
 /// A gate that notes in a diary what it is asked and told, and refuses the line with a number, and all after it.
 #[derive(Drop)]

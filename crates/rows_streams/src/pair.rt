@@ -11,8 +11,7 @@ use std::alloc::Global;
 use std::io;
 use std::thread::{Threads, join_mut};
 use std::time::Clock;
-use test_fakes::Answered;
-use test_rows::Setting;
+use test_rows::{Answered, Setting};
 
 /// What the thread of a connection has, and what it wrote.
 #[derive(Drop)]

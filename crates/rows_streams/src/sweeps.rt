@@ -6,8 +6,7 @@ use lost_worker::{ServeError, Turns};
 use std::alloc::AllocError;
 use std::io;
 use std::sync::Wait;
-use test_fakes::{Feed, NEVER, Sink, Spaces};
-use test_rows::Setting;
+use test_rows::{Feed, NEVER, Setting, Sink, Spaces};
 
 /// Who serves a stream, and its bytes.
 #[derive(Drop)]

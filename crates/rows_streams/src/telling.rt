@@ -2,7 +2,7 @@
 use lost_spec::Coded;
 use lost_worker::{Counts, ServeError};
 use std::io;
-use test_fakes::Event;
+use test_rows::Event;
 
 /// Prints what was written, and how it ended.
 pub(crate) fn tell<R: Print>(

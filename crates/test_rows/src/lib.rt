@@ -1,9 +1,23 @@
-//! What the programs of rows share (own rules): the words of the command line, which are commands, and the server of every
-//! row. Only they use this crate.
+//! What the programs of rows share (own rules): the words of the command line, which are commands; the server of every row;
+//! readers and writers in memory, which move as many bytes at once as they are told, count their calls, and fail at the call
+//! that they are told; a diary of what happens to them; and what lines of two threads wait for. Only they use this crate.
 #![tactic(auto)]
 
+mod answered;
 mod commands;
+mod diary;
+mod feed;
 mod setting;
+mod sink;
+mod spaces;
 
+pub use answered::{Answered, Meeting};
 pub use commands::{End, given};
+pub use diary::{Diary, Event, Noted};
+pub use feed::Feed;
 pub use setting::{Setting, limits};
+pub use sink::Sink;
+pub use spaces::Spaces;
+
+/// The number of a call that never comes: no call fails.
+pub const NEVER: u64 = u64::MAX;

@@ -1,7 +1,7 @@
 //! A gate that two workers share.
 use lost_server::Gate;
 use std::time::Clock;
-use test_fakes::Meeting;
+use test_rows::Meeting;
 
 /// Holds the first line that it is asked for until another was answered, and refuses it where none is in time.
 #[derive(Drop)]

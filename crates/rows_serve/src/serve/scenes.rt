@@ -9,7 +9,7 @@ use std::random::RandomSource;
 use std::sync::Wait;
 use std::thread::{Threads, join};
 use std::time::{Clock, Duration};
-use test_fakes::Meeting;
+use test_rows::Meeting;
 
 /// How long a connection may be idle, in seconds.
 const IDLE: u64 = 30;
