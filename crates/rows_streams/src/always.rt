@@ -20,7 +20,7 @@ impl Moments for Always {
 }
 
 /// Gives the moment of every stream each time.
-pub(crate) fn always(setting: &Setting) -> Always {
+pub(crate) fn moments_of(setting: &Setting) -> Always {
     Always {
         moment: setting.moment,
     }

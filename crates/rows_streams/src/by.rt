@@ -1,5 +1,5 @@
 //! What serves a stream.
-use crate::always::always;
+use crate::always::moments_of;
 use lost_book::Limits;
 use lost_desk::{Desk, Readers, open_desk};
 use lost_replay::replay;
@@ -124,7 +124,7 @@ fn by_reader<R: Read + Drop>(
 ) -> Option<Outcome> {
     let (mut input, mut output) = (Watched::new(reader), Watched::new(writer));
     let mut replier = readers.take()?;
-    let mut moments = always(setting);
+    let mut moments = moments_of(setting);
     let served = serve_lines(
         alloc,
         &mut input,

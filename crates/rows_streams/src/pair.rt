@@ -1,7 +1,7 @@
 //! Two connections at once, each served by a thread of its own.
 ghost use Rattle.std.specs.Thread.{IsSync};
 
-use crate::always::always;
+use crate::always::moments_of;
 use crate::holding::Holding;
 use crate::stream::Stream;
 use crate::telling::tell;
@@ -76,7 +76,7 @@ fn in_two_threads<R: Threads + Clock + Sync>(
 
 /// Serves the stream.
 fn serve<R: Clock>(serving: &mut Serving<R>) -> Result<Counts, ServeError> {
-    let mut moments = always(serving.setting);
+    let mut moments = moments_of(serving.setting);
     let mut input = Watched::new(serving.stream.bytes.as_slice());
     let mut output = Watched::new(Vec::new(serving.alloc));
     let result = serve_lines(

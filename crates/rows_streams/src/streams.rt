@@ -1,5 +1,5 @@
 //! The commands of the script of streams: what is served, by whom.
-use crate::always::always;
+use crate::always::moments_of;
 use crate::holding::Holding;
 use crate::pair::serve_pair;
 use crate::stream::{Stream, no_command};
@@ -125,7 +125,7 @@ fn serve_through<R: Print + AllocGlobal, P: Replier, G: Gate>(
     let alloc = rt.alloc();
     let mut input = Watched::new(stream.bytes.as_slice());
     let mut output = Watched::new(Vec::new(alloc));
-    let mut moments = always(setting);
+    let mut moments = moments_of(setting);
     let name = &setting.name;
     let result = serve_lines(
         alloc,

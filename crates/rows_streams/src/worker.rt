@@ -1,5 +1,5 @@
 //! A worker with a connection that fails and a good one.
-use crate::always::always;
+use crate::always::moments_of;
 use crate::telling::tell_counts;
 use crossbeam_channel::{Receiver, unbounded};
 use lost_book::Limits;
@@ -106,7 +106,7 @@ fn serve_both<R: Wait + Print + AllocGlobal>(
         &connections,
         reader,
         &setting.name,
-        &mut always(setting),
+        &mut moments_of(setting),
         &NoGate,
         Turns::USUAL,
     );

@@ -1,7 +1,7 @@
 //! Two workers, each in a thread of its own.
 ghost use Rattle.std.specs.Thread.{IsSync};
 
-use crate::always::always;
+use crate::always::moments_of;
 use crate::holding::Holding;
 use crate::stream::Stream;
 use crate::telling::tell_counts;
@@ -104,7 +104,7 @@ fn in_two_threads<R: Threads + Wait + Clock + Sync>(
 
 /// Serves connections until there are no more.
 fn work<R: Wait + Clock>(rt: &R, working: &mut Working<R>) -> Counts {
-    let mut moments = always(working.setting);
+    let mut moments = moments_of(working.setting);
     worker_loop(
         rt,
         working.alloc,
