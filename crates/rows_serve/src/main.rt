@@ -4,8 +4,8 @@
 //!   compared with what the row wants ([`command`] says how a row is written). Then come the texts of the exit reasons that no
 //!   console can bring about.
 //! - `serve`: desks and clients of a server over connections of this machine: a desk that stays while a query is answered,
-//!   a gate that holds the first reply until the other was given, bad numbers of workers, and eight clients of four workers
-//!   while a desk commits.
+//!   a gate that holds the first reply until the other was given, bad numbers of workers, a mapping that expires while it is
+//!   asked for, connections on which nothing moves, and eight clients of four workers while a desk commits.
 #![tactic(auto)]
 
 mod command;

@@ -2,7 +2,9 @@
 mod bench;
 mod clients;
 mod desks;
+mod expiring;
 mod first_waits;
+mod idlers;
 mod lines;
 mod parties;
 mod scenes;
@@ -17,10 +19,12 @@ use std::thread::Threads;
 use std::time::Clock;
 
 /// The scenes, in turn.
-const SCENES: [&str; 4] = [
+const SCENES: [&str; 6] = [
     "a query beside the desk",
     "a gate",
     "no workers",
+    "a mapping that expires",
+    "idle connections",
     "eight clients beside commits",
 ];
 
@@ -46,6 +50,8 @@ pub(crate) fn run<
             "a query beside the desk" => stage.loopback(),
             "a gate" => stage.gate(),
             "no workers" => stage.no_workers(),
+            "a mapping that expires" => stage.expiry(),
+            "idle connections" => stage.idle(),
             _ => stage.eight_clients(),
         }?;
     }

@@ -6,7 +6,7 @@ use std::io::{Read, Write};
 use std::net::{Net, SocketAddr, TcpListener, TcpStream};
 use std::time::Duration;
 
-/// How long a client waits for a reply, in seconds.
+/// How long a client waits for a reply, or until what it sends is taken, in seconds.
 const PATIENCE: u64 = 20;
 
 /// The most bytes of a reply.
@@ -70,6 +70,7 @@ impl Line {
     ) -> io::Result<Line> {
         let stream = TcpStream::connect(rt, address)?;
         stream.set_read_timeout(Some(Duration::from_secs(PATIENCE)))?;
+        stream.set_write_timeout(Some(Duration::from_secs(PATIENCE)))?;
         stream.set_nodelay(true)?;
         Ok(Line {
             stream,
@@ -80,6 +81,12 @@ impl Line {
     /// Sends bytes.
     pub(crate) fn send(&mut self, bytes: &[u8]) -> io::Result<()> {
         self.stream.write_all(bytes)
+    }
+
+    /// Whether the connection ends with no further byte, before the client loses its patience.
+    pub(crate) fn is_ended(&mut self) -> bool {
+        let mut chunk = [0u8; 64];
+        matches!(self.stream.read(&mut chunk), Ok(0))
     }
 
     /// The next reply, without its byte 10. Where the connection ends or waits for too long, an error.

@@ -1,4 +1,6 @@
 //! The lines that are sent, and what is wanted of the replies.
+use std::alloc::Global;
+use std::io;
 
 /// How a mapping begins whose boundary is a square.
 pub(crate) const PUBLISH: &[u8] =
@@ -35,6 +37,25 @@ pub(crate) fn edition_of(reply: &str) -> Option<u64> {
         Some(_) => None,
         None => between(reply, NOTHING).filter(|edition| edition % 2 == 0),
     }
+}
+
+/// The line that publishes the mapping with another `expires`.
+pub(crate) fn publish_until(alloc: Global, expires: &str) -> io::Result<String> {
+    let line = std::str::from_utf8(PUBLISH).unwrap_or("");
+    match line.split_once("NO-EXPIRATION") {
+        Some((front, back)) => Ok(format!(in alloc; "{front}{expires}{back}")?),
+        None => Err(io::Error::from(io::ErrorKind::InvalidData)),
+    }
+}
+
+/// Whether a reply has found a mapping.
+pub(crate) fn is_found(reply: &str) -> bool {
+    reply.starts_with(FOUND.0)
+}
+
+/// Whether a reply is the one where nothing is held.
+pub(crate) fn is_nothing(reply: &str) -> bool {
+    between(reply, NOTHING).is_some()
 }
 
 /// The number between two texts, which are all else of a reply.

@@ -2,7 +2,7 @@
 use super::bench::{Bench, Line};
 use super::clients::{Found, ask_all};
 use super::desks::{ask, commit_all};
-use super::lines::{COMMIT, PUBLISH, QUESTION};
+use super::lines::{COMMIT, PUBLISH, QUESTION, edition_of};
 use std::alloc::Global;
 use std::io;
 use std::net::{Net, TcpListener, TcpStream};
@@ -106,4 +106,28 @@ fn client<R: Net<Listener = TcpListener, Stream = TcpStream>>(
 ) -> io::Result<Found> {
     let mut line = Line::to_queries(rt, alloc, bench)?;
     ask_all(alloc, &mut line, number % 2 == 0)
+}
+
+/// As many connections at a time as there are workers, so that each worker has one of them, ask once. Gives how many
+/// replies are right for this edition.
+pub(crate) fn ask_each_worker<R: Net<Listener = TcpListener, Stream = TcpStream>>(
+    rt: &R,
+    alloc: Global,
+    bench: &Bench,
+    workers: u32,
+    edition: u64,
+) -> io::Result<u32> {
+    let mut lines = Vec::new(alloc);
+    for _ in 0..workers {
+        let mut line = Line::to_queries(rt, alloc, bench)?;
+        line.send(QUESTION)?;
+        lines.push(line)?;
+    }
+    let mut count = 0u32;
+    for line in lines.iter_mut() {
+        if edition_of(line.reply(alloc)?.as_str()) == Some(edition) {
+            count = count.saturating_add(1);
+        }
+    }
+    Ok(count)
 }
