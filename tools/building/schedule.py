@@ -2,7 +2,6 @@
 from __future__ import annotations
 
 import functools
-import math
 from typing import Dict, Iterable, List, Mapping, Set, Tuple
 
 from building.sources import crates_below
@@ -43,21 +42,13 @@ class Schedule:
         found = [name for name, used in self.uses.items() if name not in taken and used <= ended]
         return sorted(found, key=lambda name: (-self.chain(name), name))
 
-    def wanted(self, name: str, done: Iterable[str]) -> int:
-        """On how many processors a crate's chain is over as soon as all else that is left."""
-        ended = set(done)
-        rest = sum(cost for other, cost in self.cost.items() if other not in ended) / self.processors
-        return 1 + max(math.ceil((self.chain(name) / rest - 1) / FURTHER), 0)
-
     def next(self, done: Iterable[str], running: Mapping[str, int]) -> List[Tuple[str, int]]:
-        """What begins now, each with its jobs: the idle processors and the memory are shared among those that can begin, and
-        a crate whose chain would be over last gets more, as long as one is left for the others."""
+        """What begins now, each with its jobs: the idle processors and the memory are shared among those that can begin."""
         ready, idle = self.ready(done, running), self.processors - sum(running.values())
         room = self.memory - sum(self.takes(name, jobs) for name, jobs in running.items())
         begun: List[Tuple[str, int]] = []
         for place, name in enumerate(ready):
-            others = len(ready) - place - 1
-            jobs = max(idle // (1 + others), min(self.wanted(name, done), idle - min(others, 1)), 1)
+            jobs = max(idle // (len(ready) - place), 1)
             while jobs > 1 and self.takes(name, jobs) > room:
                 jobs -= 1
             # (a crate that lacks memory waits, and nothing overtakes it; alone it always runs)

@@ -29,16 +29,9 @@ class Order(unittest.TestCase):
 
     def test_idle_processors_are_shared(self) -> None:
         self.assertEqual(schedule_of(1).next([], {}), [("low", 1)])
-        self.assertEqual(schedule_of(2).next(["low", "long", "other"], {}), [("above", 1), ("short", 1)])
-        self.assertEqual(schedule_of(2).next(["low", "long", "above", "short", "other"], {}), [("top", 2)])
+        self.assertEqual(schedule_of(4).next([], {}), [("low", 2), ("other", 2)])
+        self.assertEqual(schedule_of(5).next(["low"], {"other": 2}), [("long", 1), ("short", 2)])
         self.assertEqual(schedule_of(4).next([], {"low": 2, "other": 2}), [])
-
-    def test_a_chain_that_would_be_over_last_gets_more(self) -> None:
-        # (low's chain is four crates long, and four processors are done with all six in the time of one and a half)
-        self.assertEqual(schedule_of(4).wanted("low", []), 5)
-        self.assertEqual(schedule_of(4).next([], {}), [("low", 3), ("other", 1)])
-        self.assertEqual(schedule_of(5).next(["low"], {"other": 2}), [("long", 2), ("short", 1)])
-        self.assertEqual(schedule_of(1).wanted("low", []), 1)
 
     def test_memory_is_shared(self) -> None:
         # low takes 1,200 + 0.8 x 1,000 + 0.1 x 1,000 = 2,100 MB, and each further processor 1,260

@@ -1,6 +1,5 @@
 -- A line of a desk is answered by what was read of it.
 use Rattle.std.proofs.Common.{◌≡◌, ◌≢◌, false, Option, None, Some, Result, Ok, Err, refl, ap, ◌∙◌}
-use Rattle.lost_spec.specs.declared.faults.MappingError.{MappingError}
 use Rattle.lost_spec.specs.declared.faults.MappingError.TheVariants.{BadSource, BadSourceId, BadStamp, BadExpires, BadService, BadUri, BadNumber, BadRegion, RegionMissing, TooLarge, BadKey, Memory}
 use Rattle.lost_spec.specs.Text.{Text}
 use Rattle.lost_spec.specs.Book.{Limits}
