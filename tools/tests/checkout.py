@@ -125,7 +125,9 @@ class Checkout(unittest.TestCase):
         """Stops a command that builds while the second layer is being proved; its status, and what it said."""
         self.write(f"{self.kit}/SECONDS", str(seconds))
         command = [f"{self.top}/{script}", *words]
-        running = subprocess.Popen(command, env=self.environment(), stderr=subprocess.PIPE, text=True)
+        # (where the tests run in the background, the shell has them ignore an interrupt, and what they start too)
+        pipes = {"env": self.environment(), "stderr": subprocess.PIPE, "text": True}
+        running = subprocess.Popen(command, **pipes, preexec_fn=lambda: signal.signal(signal.SIGINT, signal.SIG_DFL))
         ends = time.monotonic() + 60
         while time.monotonic() < ends and not self.is_at("lost_left"):
             time.sleep(0.05)
