@@ -15,7 +15,7 @@ use Rattle.lost_spec.specs.declared.faults.StampError.TheVariants.{Bad as StampB
 use Rattle.lost_spec.specs.declared.faults.MappingError.{MappingError}
 use Rattle.lost_spec.specs.declared.faults.MappingError.TheVariants.{BadSource, BadSourceId, BadStamp, BadExpires, BadService, BadUri, BadNumber, BadRegion, RegionMissing, TooLarge, BadKey, Memory as MappingMemory}
 use Rattle.lost_spec.specs.declared.faults.EditError.{EditError}
-use Rattle.lost_spec.specs.declared.faults.EditError.TheVariants.{IdentityHeld, IdentityUnknown, NotNewer, KeyHeld, KeyUnchanged, Full, EditsSpent, Memory as EditMemory}
+use Rattle.lost_spec.specs.declared.faults.EditError.TheVariants.{IdentityHeld, IdentityUnknown, NotNewer, KeyHeld, KeyUnchanged, Full, EditsSpent, Memory as EditMemory, Withdrawn, TracesFull}
 
 -- why a text is no service URN
 abbrev pub urn_code : UrnError → ℕ
@@ -81,3 +81,5 @@ edit_code KeyUnchanged = 17
 edit_code Full = 18
 edit_code EditsSpent = 19
 edit_code EditMemory = 20
+edit_code Withdrawn = 21
+edit_code TracesFull = 22

@@ -168,7 +168,7 @@ address_with code =
 
 -- the limits of a server
 abbrev pub usual_limits : Limits
-usual_limits = record { mappings = 65_536; edits = 4_294_967_295 }
+usual_limits = record { mappings = 65_536; edits = 4_294_967_295; traces = 65_536 }
 
 -- the answer to a request over the book of these edits, now
 abbrev pub ask : List Edit → Request → Reply

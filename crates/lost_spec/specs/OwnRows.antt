@@ -66,10 +66,10 @@ Comparison =
 
 -- a book with A that is full and one with A whose edits are spent
 abbrev pub full_book : Book
-full_book = after (empty_book (record { mappings = 1; edits = 9 })) (Publish mapping_a)
+full_book = after (empty_book (record { mappings = 1; edits = 9; traces = 9 })) (Publish mapping_a)
 
 abbrev pub spent_book : Book
-spent_book = after (empty_book (record { mappings = 9; edits = 1 })) (Publish mapping_a)
+spent_book = after (empty_book (record { mappings = 9; edits = 1; traces = 9 })) (Publish mapping_a)
 
 abbrev pub called : Text → Identity
 called x = record { source = desk; source_id = x }

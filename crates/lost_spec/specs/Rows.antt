@@ -171,10 +171,10 @@ ReplaceByDefault = refusal book_a (Replace (record mapping_a { stamp = second_da
 -- the limits of a book, and the limits that are allowed
 abbrev pub LimitsRow : Type 0
 LimitsRow =
-    let small = empty_book (record { mappings = 1; edits = 2 }) in
+    let small = empty_book (record { mappings = 1; edits = 2; traces = 65_536 }) in
     let one = after small (Publish mapping_a) in
     let withdrawal = Withdraw (record { source = desk; source_id = codes "A" }) second_day in
-    (limits_of 1 2 ≡ Some (record { mappings = 1; edits = 2 }))
+    (limits_of 1 2 ≡ Some (record { mappings = 1; edits = 2; traces = 65_536 }))
     × (refusal small (Publish mapping_a) ≡ None)
     × (refusal one (Publish mapping_b) ≡ Some Full)
     × (refusal one withdrawal ≡ None)

@@ -242,9 +242,13 @@ pub enum EditError {
     EditsSpent,
     #[error("memory ran out")]
     Memory,
+    #[error("the identity was withdrawn, and lastUpdated is not after that of the withdrawal")]
+    Withdrawn,
+    #[error("as many withdrawn identities as the limit are remembered")]
+    TracesFull,
 }
 
-/// The number of the refusal on the desk's lines, from 13 to 20. It is not the order of the checks.
+/// The number of the refusal on the desk's lines, from 13 to 22. It is not the order of the checks.
 impl Coded for EditError {
     ghost use Rattle.lost_spec.specs.Codes.{edit_code};
 
@@ -260,6 +264,8 @@ impl Coded for EditError {
             EditError::Full => 18,
             EditError::EditsSpent => 19,
             EditError::Memory => 20,
+            EditError::Withdrawn => 21,
+            EditError::TracesFull => 22,
         }
     }
 }
