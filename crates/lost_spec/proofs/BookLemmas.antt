@@ -1,21 +1,21 @@
 -- What each kind of edit keeps of a book that is in order, and so what an accepted list of edits does.
 use Rattle.std.specs.Prelude.{◌≡◌, ◌≢◌, ℕ, suc, ◌+◌, ◌≤◌, ◌<◌, Bool, true, false, not, ◌&&◌, List, [], ◌∷◌, ◌++◌, length, Option, Some, None, is_none}
-use Rattle.std.specs.Bool.{Decides}
 use Rattle.std.specs.List.{AllByRecursion, list_any}
 use Rattle.std.specs.Cmp.Lexicographic.{bytes_decides}
 use Rattle.std.proofs.Common.{refl, sym, ap, ◌∙◌, arith}
 use Rattle.std.proofs.lemmas.Bool.{leb-false, or_parts, and_parts, cond_both, true≢false, false_from_ne_true}
-use Rattle.std.proofs.lemmas.Bool.Decides.{Decides-like, Decides-and, not_from_Decides}
 use Rattle.std.proofs.lemmas.List.{length-append}
 use Rattle.std.proofs.lemmas.Option.{none-some, same_Some}
 use Rattle.lost_spec.proofs.ListLemmas.{AllByRecursion-weaker}
+use Rattle.lost_spec.proofs.IdentityLemmas.{has_identity-Decides, other_identity}
+use Rattle.lost_spec.proofs.TraceLemmas.{with_trace-once, length-with_trace, stamp-with_trace-other, without_trace-once, length-without_trace, stamp-without_trace, stamp-without_trace-other}
 use Rattle.lost_spec.specs.declared.faults.EditError.{EditError}
-use Rattle.lost_spec.specs.Text.{Text, same_text}
+use Rattle.lost_spec.specs.Text.{Text}
 use Rattle.lost_spec.specs.Moment.{Stamp}
 use Rattle.lost_spec.specs.Mapping.{Mapping}
-use Rattle.lost_spec.specs.Book.{Limits, Book, Identity, Edit, Publish, Replace, Withdraw, identity_of, has_identity, has_key, is_key, is_key_held, is_held, is_full, publish_refusal, replace_refusal, refusal, replaced, without, changed, after, after_all, empty_book, accepts}
+use Rattle.lost_spec.specs.Book.{Limits, Trace, Book, Identity, Edit, Publish, Replace, Withdraw, identity_of, has_identity, has_key, is_key, is_key_held, is_held, is_full, has_most_traces, stamp_of_trace, with_trace, without_trace, publish_refusal, replace_refusal, withdraw_refusal, refusal, replaced, without, changed, after, after_all, empty_book, accepts}
 use Rattle.lost_spec.specs.Laws.{EachWithLater}
-use Rattle.lost_spec.specs.BookLaws.{HasOtherIdentity, HasOtherKey, IsInOrder, AcceptedBookIsInOrder}
+use Rattle.lost_spec.specs.BookLaws.{HasOtherIdentity, HasOtherKey, IsOfOtherIdentity, IsInOrder, AcceptedBookIsInOrder}
 
 -- ---- lists
 
@@ -48,18 +48,6 @@ module _ {Thing : Type 0} where
   EachWithLater_push R (y ∷ ys) x each all = (AllByRecursion_push (R y) ys x each.0 all.0, EachWithLater_push R ys x each.1 all.1)
 
 -- ---- identities and keys
-
--- the test of a mapping's identity decides whether it has that identity
-pub has_identity-Decides : (m : Mapping) (id : Identity) → Decides (has_identity m id) (identity_of m ≡ id)
-has_identity-Decides m id =
-    Decides-like (has_identity m id)
-    (λ same i. record { source = same.0 i; source_id = same.1 i })
-    (λ same. (ap (λ (own : Identity). own.source) same, ap (λ (own : Identity). own.source_id) same))
-    (Decides-and (same_text m.source id.source) (same_text m.source_id id.source_id) (bytes_decides m.source id.source) (bytes_decides m.source_id id.source_id))
-
--- a mapping that fails that test has another identity
-pub other_identity : (m : Mapping) (id : Identity) → has_identity m id ≡ false → identity_of m ≢ id
-other_identity m id = not_from_Decides (has_identity m id) (has_identity-Decides m id)
 
 -- the test of a key that is there passes
 is_key_at : (own : Option Text) (key : Text) → own ≡ Some key → is_key own key ≡ true
@@ -158,6 +146,47 @@ length-without id (old ∷ rest) =
     (λ same. omega arith)
     (λ differ. omega (arith, length-without id rest))
 
+-- ---- mappings whose identities have no traces
+
+-- the identity has no trace among these
+abbrev pub IsUntraced : List Trace → Mapping → Type 0
+IsUntraced ts m = stamp_of_trace ts (identity_of m) ≡ None
+
+-- those left without an identity are of others, where each identity is held once
+pub without-others : (id : Identity) (ms : List Mapping) → EachWithLater HasOtherIdentity ms → AllByRecursion (λ m. identity_of m ≢ id) (without id ms)
+without-others id [] once = tt
+without-others id (old ∷ rest) once =
+    cond_both (has_identity old id) rest (old ∷ without id rest) (AllByRecursion (λ m. identity_of m ≢ id))
+    (λ same. AllByRecursion-weaker (HasOtherIdentity old) (λ m. identity_of m ≢ id) (λ m other h. other ((has_identity-Decides old id).0 same ∙ sym h)) rest once.0)
+    (λ differ. (other_identity old id differ, without-others id rest once.1))
+
+-- a replacement has the identity of what it replaces
+replaced-untraced : (ts : List Trace) (m : Mapping) (ms : List Mapping) → AllByRecursion (IsUntraced ts) ms → AllByRecursion (IsUntraced ts) (replaced m ms)
+replaced-untraced ts m [] all = tt
+replaced-untraced ts m (old ∷ rest) all =
+    cond_both (has_identity old (identity_of m)) (m ∷ rest) (old ∷ replaced m rest) (AllByRecursion (IsUntraced ts))
+    (λ same. (ap (stamp_of_trace ts) (sym ((has_identity-Decides old (identity_of m)).0 same)) ∙ all.0, all.1))
+    (λ differ. (all.0, replaced-untraced ts m rest all.1))
+
+-- a mapping that is put behind others of other identities, when the trace of its identity is taken away
+pushed-untraced : (ts : List Trace) → EachWithLater IsOfOtherIdentity ts → (m : Mapping) (ms : List Mapping) → AllByRecursion (λ x. HasOtherIdentity x m) ms → AllByRecursion (IsUntraced ts) ms
+    → AllByRecursion (IsUntraced (without_trace (identity_of m) ts)) (ms ++ m ∷ [])
+pushed-untraced ts once m ms others all =
+    AllByRecursion_push (IsUntraced (without_trace (identity_of m) ts)) ms m
+    (AllByRecursion_apply (IsUntraced ts) (IsUntraced (without_trace (identity_of m) ts)) ms
+    (AllByRecursion-weaker (λ x. HasOtherIdentity x m) (λ x. IsUntraced ts x → IsUntraced (without_trace (identity_of m) ts) x)
+    (λ x other none. stamp-without_trace-other (identity_of m) (identity_of x) other ts once ∙ none) ms others) all)
+    (stamp-without_trace (identity_of m) ts once)
+
+-- those that are left when an identity is withdrawn, and its trace noted
+left-untraced : (ts : List Trace) (id : Identity) (stamp : Stamp) (ms : List Mapping) → EachWithLater HasOtherIdentity ms → AllByRecursion (IsUntraced ts) ms
+    → AllByRecursion (IsUntraced (with_trace id stamp ts)) (without id ms)
+left-untraced ts id stamp ms once all =
+    AllByRecursion_apply (IsUntraced ts) (IsUntraced (with_trace id stamp ts)) (without id ms)
+    (AllByRecursion-weaker (λ m. identity_of m ≢ id) (λ m. IsUntraced ts m → IsUntraced (with_trace id stamp ts) m)
+    (λ m other none. stamp-with_trace-other id stamp (identity_of m) other ts ∙ none) (without id ms) (without-others id ms once))
+    (AllByRecursion-without (IsUntraced ts) id ms all)
+
 -- ---- checks
 
 -- where a publish is not refused, its identity is not held, the book is not full and its key is not held
@@ -167,6 +196,10 @@ publish_clear b m none = grind arith
 -- where a replacement is not refused, no other mapping has its key
 replace_clear : (b : Book) (m : Mapping) → replace_refusal b m ≡ None → is_key_held b (identity_of m) m.key ≡ false
 replace_clear b m none = grind arith
+
+-- where a withdrawal is not refused, there is room for its trace
+withdraw_clear : (b : Book) (id : Identity) (stamp : Stamp) → withdraw_refusal b id stamp ≡ None → has_most_traces b ≡ false
+withdraw_clear b id stamp none = grind arith
 
 -- the test of `None` passes only there
 none_from_is_none : (o : Option EditError) → is_none o ≡ true → o ≡ None
@@ -190,6 +223,9 @@ module _ (limits : Limits) (n : ℕ) (b : Book) (order : IsInOrder limits n b) w
             EachWithLater_push HasOtherKey b.mappings m order.keys_once
             (AllByRecursion_apply (λ x. HasOtherIdentity x m) (λ x. HasOtherKey x m) b.mappings (other_keys b m m.key refl clear.2) others);
         within_limit = rw length-append (omega arith);
+        traces_once = without_trace-once (identity_of m) b.traces order.traces_once;
+        held_untraced = pushed-untraced b.traces order.traces_once m b.mappings others order.held_untraced;
+        traces_within = omega (arith, length-without_trace (identity_of m) b.traces, order.traces_within);
         counted = ap (λ k. k + 1) order.counted;
       }
 
@@ -203,18 +239,27 @@ module _ (limits : Limits) (n : ℕ) (b : Book) (order : IsInOrder limits n b) w
             (AllByRecursion_always (IfOther HasOtherIdentity m) (λ x other. other) b.mappings) order.identities_once;
         keys_once = EachWithLater-replaced HasOtherKey HasOtherKey_sym m b.mappings order.identities_once (other_keys b m m.key refl (replace_clear b m none)) order.keys_once;
         within_limit = rw length-replaced order.within_limit;
+        traces_once = order.traces_once;
+        held_untraced = replaced-untraced b.traces m b.mappings order.held_untraced;
+        traces_within = order.traces_within;
         counted = ap (λ k. k + 1) order.counted;
       }
 
-  -- a withdrawal keeps it in order
-  withdraw_keeps : (id : Identity) (stamp : Stamp) → IsInOrder limits (n + 1) (changed b (Withdraw id stamp))
-  withdraw_keeps id stamp =
+  -- a withdrawal that is not refused keeps it in order
+  withdraw_keeps : (id : Identity) (stamp : Stamp) → withdraw_refusal b id stamp ≡ None → IsInOrder limits (n + 1) (changed b (Withdraw id stamp))
+  withdraw_keeps id stamp none =
       let fewer = length-without id b.mappings in
+      let room : length b.traces < b.limits.traces = leb-false b.limits.traces (length b.traces) (withdraw_clear b id stamp none) in
+      let limit : b.limits.traces ≡ limits.traces = ap (λ (l : Limits). l.traces) order.same_limits in
+      let one_more = length-with_trace id stamp b.traces in
       record {
         same_limits = order.same_limits;
         identities_once = EachWithLater-without HasOtherIdentity id b.mappings order.identities_once;
         keys_once = EachWithLater-without HasOtherKey id b.mappings order.keys_once;
         within_limit = omega arith;
+        traces_once = with_trace-once id stamp b.traces order.traces_once;
+        held_untraced = left-untraced b.traces id stamp b.mappings order.identities_once order.held_untraced;
+        traces_within = omega arith;
         counted = ap (λ k. k + 1) order.counted;
       }
 
@@ -222,7 +267,7 @@ module _ (limits : Limits) (n : ℕ) (b : Book) (order : IsInOrder limits n b) w
   pub changed_keeps : (e : Edit) → refusal b e ≡ None → IsInOrder limits (n + 1) (changed b e)
   changed_keeps (Publish m) none = publish_keeps m none
   changed_keeps (Replace m) none = replace_keeps m none
-  changed_keeps (Withdraw id stamp) none = withdraw_keeps id stamp
+  changed_keeps (Withdraw id stamp) none = withdraw_keeps id stamp none
 
 -- ---- lists of edits
 
@@ -243,7 +288,7 @@ after_all_keeps limits n b (e ∷ es) order free =
 
 -- the empty book is in order
 pub empty_in_order : (limits : Limits) → IsInOrder limits 0 (empty_book limits)
-empty_in_order limits = record { same_limits = refl; identities_once = tt; keys_once = tt; within_limit = omega arith; counted = refl }
+empty_in_order limits = record { same_limits = refl; identities_once = tt; keys_once = tt; within_limit = omega arith; traces_once = tt; held_untraced = tt; traces_within = omega arith; counted = refl }
 
 -- and so is the book of an accepted list, from the empty book
 pub accepted_book : AcceptedBookIsInOrder

@@ -6,7 +6,7 @@ use Rattle.lost_spec.specs.Mapping.{Mapping}
 use Rattle.lost_spec.specs.Book.{Book, Identity, Edit, Publish, Replace, Withdraw, identity_of, has_identity, replaced, without, mappings_after, refusal, changed, after}
 use Rattle.lost_spec.specs.BookLaws.{edited, others, UntouchedStay, ReplacementKeepsIdentities}
 use Rattle.lost_spec.proofs.FilterLemmas.{filter_drops, find-filter}
-use Rattle.lost_spec.proofs.BookLemmas.{has_identity-Decides}
+use Rattle.lost_spec.proofs.IdentityLemmas.{has_identity-Decides}
 
 -- a mapping of an identity is not among the others
 is_no_other : (m : Mapping) (id : Identity) → has_identity m id ≡ true → not (has_identity m id) ≡ false

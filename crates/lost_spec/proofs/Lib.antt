@@ -1,5 +1,7 @@
 pub mod ListLemmas
 pub mod FilterLemmas
+pub mod IdentityLemmas
+pub mod TraceLemmas
 pub mod BookLemmas
 pub mod ChainLemmas
 pub mod FindLemmas
@@ -14,5 +16,6 @@ pub mod ProductLemmas
 pub mod EdgeLemmas
 pub mod InstantLemmas
 pub mod EditLemmas
+pub mod TraceLawLemmas
 pub mod LiveLemmas
 pub mod OfferLemmas

@@ -46,6 +46,9 @@ third_day = december (codes "2025-12-03T00:00:00Z") (pos 20_425)
 abbrev pub fourth_day : Stamp
 fourth_day = december (codes "2025-12-04T00:00:00Z") (pos 20_426)
 
+abbrev pub fifth_day : Stamp
+fifth_day = december (codes "2025-12-05T00:00:00Z") (pos 20_427)
+
 -- 1 January 2026, the moment of every row
 abbrev pub now : Instant
 now = record { day = pos 20_454; nanosecond = 0 }

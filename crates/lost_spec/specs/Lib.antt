@@ -18,9 +18,11 @@ pub mod Rows
 pub mod OwnRows
 pub mod BoundRows
 pub mod MoreRows
+pub mod TraceRows
 pub mod Laws
 pub mod FindLaws
 pub mod BookLaws
+pub mod TraceLaws
 pub mod ListLaws
 pub mod RingLaws
 pub mod MomentLaws

@@ -5,6 +5,7 @@ ghost use Rattle.lost_spec.specs.Rows.{Urn, Stamps, Empty, OneMapping, StagedOnl
 ghost use Rattle.lost_spec.specs.OwnRows.{FirstFaults, LabelOrder, Comparison, EditOrder, DeskOrder, AnswerOrder, LongestFirst, ReferencePatterns, NameOrder};
 ghost use Rattle.lost_spec.specs.BoundRows.{StampFractions, StampBounds, DayOrder, ServiceBounds, TextBounds, UriBounds, PlaceBounds, PairBounds, PartsBounds, CivicNames};
 ghost use Rattle.lost_spec.specs.MoreRows.{Slopes, KeptAsGiven, FreedKey, PatternChange, LaterDay, Expired, OtherReference, DefaultAsked, DeepServices, Paths, UnfittingBodies, Additive, ExactCase};
+ghost use Rattle.lost_spec.specs.TraceRows.{PublishedAgain, TracesLimit, WithdrawnBeforeFull, AllowedTraces, TraceOrder, OtherIdentities, WhichTraces};
 
 /// A text spells a service URN, or is refused by the first check that fails.
 pub fn urn()
@@ -294,4 +295,39 @@ pub fn additive()
 /// Keys, sourceIds, profiles and the words of expiry are compared in exact case.
 pub fn exact_case()
     ensures { ExactCase }
+{}
+
+/// A publish of an identity that was withdrawn is accepted only with a later stamp than the withdrawal's.
+pub fn published_again()
+    ensures { PublishedAgain }
+{}
+
+/// Where as many traces as the limit are remembered, nothing more is withdrawn, until one of those identities is published.
+pub fn traces_limit()
+    ensures { TracesLimit }
+{}
+
+/// A stamp that is not later is refused before a want of room is.
+pub fn withdrawn_before_full()
+    ensures { WithdrawnBeforeFull }
+{}
+
+/// How many traces are allowed.
+pub fn allowed_traces()
+    ensures { AllowedTraces }
+{}
+
+/// The refusals of traces come among the others in their order.
+pub fn trace_order()
+    ensures { TraceOrder }
+{}
+
+/// Another source or another sourceId alone is another identity.
+pub fn other_identities()
+    ensures { OtherIdentities }
+{}
+
+/// A withdrawal adds a trace behind, a replacement changes none, and a publish takes its own away.
+pub fn which_traces()
+    ensures { WhichTraces }
 {}
