@@ -1,2 +1,3 @@
 pub mod ChainLemmas
 pub mod PositionLemmas
+pub mod TraceLemmas

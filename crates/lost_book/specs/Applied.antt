@@ -4,11 +4,11 @@ use Rattle.lost_spec.specs.declared.faults.EditError.{EditError}
 use Rattle.lost_spec.specs.declared.faults.EditError.TheVariants.{Memory}
 use Rattle.lost_spec.specs.Book.{Book, Edit, Publish, Replace, Withdraw, refusal, after}
 
--- the edit is a publish: no other one takes memory (own)
-abbrev pub is_publish : Edit → Bool
-is_publish (Publish mapping) = true
-is_publish (Replace mapping) = false
-is_publish (Withdraw identity stamp) = false
+-- the edit is a replacement, which takes no memory (own)
+abbrev pub is_replacement : Edit → Bool
+is_replacement (Publish mapping) = false
+is_replacement (Replace mapping) = true
+is_replacement (Withdraw identity stamp) = false
 
 -- the edit is accepted and is the last one of the book, or it is refused and the book is as it was; want of memory comes last (own)
 pub record IsApplied (old : Book) (edit : Edit) (result : Result (Unit {0}) EditError) (new : Book) : Type 0 where
@@ -16,5 +16,5 @@ pub record IsApplied (old : Book) (edit : Edit) (result : Result (Unit {0}) Edit
   pub changed : OnOk result (new ≡ after old edit)
   pub refused : IfErr result (λ e. e ≢ Memory → refusal old edit ≡ Some e)
   pub memory_last : result ≡ Err Memory → refusal old edit ≡ None
-  pub memory_of_publish : result ≡ Err Memory → is_publish edit ≡ true
+  pub memory_of_others : result ≡ Err Memory → is_replacement edit ≡ false
   pub unchanged : OnErr result (new ≡ old)

@@ -1,8 +1,9 @@
-//! The book: the mappings that are held, in order. Rules without a section are this profile's own.
+//! The book: the mappings that are held, in order, and the stamps of identities that were withdrawn. Rules without a section are this profile's own.
 ghost use Rattle.std.specs.Prelude.{◌≡◌, ◌<◌, Some, IfOk, length, slice_get};
 ghost use Rattle.lost_spec.specs.Book.{empty_book};
 
 use crate::limits::Limits;
+use crate::traces::Traces;
 use lost_mapping::Mapping;
 use std::alloc::{AllocError, Global};
 use std::marker::Model;
@@ -11,12 +12,14 @@ mod apply;
 mod check;
 mod scans;
 
-/// The mappings that are held, in order, with the limits and the number of edits that were accepted.
+/// The mappings that are held, in order, with the limits, the stamps of identities that were withdrawn, and the number of
+/// edits that were accepted.
 /// Contracts see it as the record `Book`.
 #[derive(Drop)]
 pub struct Book {
     limits: Limits,
     mappings: Vec<Mapping>,
+    traces: Traces,
     edits: u64,
 }
 
@@ -26,9 +29,9 @@ impl Model for Book {
 
     ghost Value = { spec.Book };
 
-    ghost view = { λ b. record { limits = b.limits; mappings = b.mappings.items; edits = b.edits } };
+    ghost view = { λ b. record { limits = b.limits; mappings = b.mappings.items; traces = b.traces; edits = b.edits } };
 
-    ghost invariant = { λ b. IsCounted (record { limits = b.limits; mappings = b.mappings.items; edits = b.edits }) };
+    ghost invariant = { λ b. IsCounted (record { limits = b.limits; mappings = b.mappings.items; traces = b.traces; edits = b.edits }) };
 }
 
 impl Book {
@@ -41,6 +44,7 @@ impl Book {
         Ok(Book {
             limits,
             mappings: Vec::new(alloc),
+            traces: Traces::new(alloc),
             edits: 0,
         })
     }
@@ -74,6 +78,13 @@ impl Book {
         self.mappings.as_slice()
     }
 
+    /// The stamps of identities that were withdrawn.
+    fn traces(&self) -> &Traces
+        ensures { result.now ≡ self.now.traces }
+    {
+        &self.traces
+    }
+
     /// The limits.
     fn limits(&self) -> Limits
         ensures { result ≡ self.now.limits }
@@ -86,13 +97,14 @@ impl Book {
         *self.mappings.allocator()
     }
 
-    /// An equal book, or want of memory. It costs a pointer for each mapping.
+    /// An equal book, or want of memory. It costs a pointer for each mapping, and a copy of each trace.
     pub fn clone(&self) -> Result<Book, AllocError>
         ensures { IfOk result (λ copy. copy ≡ self.now) }
     {
         Ok(Book {
             limits: self.limits,
             mappings: copied(&self.mappings)?,
+            traces: self.traces.clone()?,
             edits: self.edits,
         })
     }

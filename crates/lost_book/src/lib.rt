@@ -1,5 +1,5 @@
-//! Books (own rule): the mappings that are held, in order, the edits that change them and what edits are refused, and
-//! a plain scan for each question that a book is asked.
+//! Books (own rule): the mappings that are held, in order, the stamps of identities that were withdrawn, the edits that
+//! change them and what edits are refused, and a plain scan for each question that a book is asked.
 #![tactic(auto)]
 
 mod book;
@@ -9,6 +9,7 @@ mod limits;
 mod places;
 mod regions;
 mod register;
+mod traces;
 
 pub use book::Book;
 pub use held::{has_identity, has_key};
@@ -17,3 +18,4 @@ pub use lost_message::Edit;
 pub use lost_spec::faults::EditError;
 pub use places::{holds_address, holds_point, serves};
 pub use register::{Register, check_edit, check_publish, check_replace, check_withdraw};
+pub use traces::Traces;

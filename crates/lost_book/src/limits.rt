@@ -1,6 +1,6 @@
 //! How much a book may hold and accept. Rules without a section are this profile's own.
 ghost use Rattle.std.specs.Prelude.{◌≡◌};
-ghost use Rattle.lost_spec.specs.Book.{limits_of};
+ghost use Rattle.lost_spec.specs.Book.{limits_of, with_traces};
 ghost use Rattle.lost_book.specs.Bounds.{widest, AreAllowed};
 
 use std::marker::Model;
@@ -8,12 +8,16 @@ use std::marker::Model;
 /// The most mappings that a book may hold.
 const MAX_MAPPINGS: u32 = 65_536;
 
-/// How many mappings a book may hold, 1 to 65,536, and how many edits it may accept, at least 1. Contracts
-/// see them as the record `Limits`.
+/// The most traces that a book may remember.
+const MAX_TRACES: u32 = 65_536;
+
+/// How many mappings a book may hold, 1 to 65,536, how many edits it may accept, at least 1, and how many withdrawn
+/// identities it may remember, 1 to 65,536. Contracts see them as the record `Limits`.
 #[derive(Clone, Copy, PartialEq, Eq, Debug)]
 pub struct Limits {
     mappings: u32,
     edits: u32,
+    traces: u32,
 }
 
 impl Model for Limits {
@@ -22,32 +26,52 @@ impl Model for Limits {
 
     ghost Value = { spec.Limits };
 
-    ghost view = { λ l. record { mappings = l.mappings; edits = l.edits } };
+    ghost view = { λ l. record { mappings = l.mappings; edits = l.edits; traces = l.traces } };
 
-    ghost invariant = { λ l. AreAllowed (record { mappings = l.mappings; edits = l.edits }) };
+    ghost invariant = { λ l. AreAllowed (record { mappings = l.mappings; edits = l.edits; traces = l.traces }) };
 
-    ghost inverse = { λ l. record { mappings = l.mappings; edits = l.edits } };
+    ghost inverse = { λ l. record { mappings = l.mappings; edits = l.edits; traces = l.traces } };
 }
 
 impl Limits {
-    /// These limits, or `None` unless `mappings` is 1 to 65,536 and `edits` is at least 1.
+    /// These limits, with 65,536 traces, or `None` unless `mappings` is 1 to 65,536 and `edits` is at least 1.
     pub fn new(mappings: u32, edits: u32) -> Option<Limits>
         ensures { result ≡ limits_of mappings edits }
     {
         if mappings >= 1 && mappings <= MAX_MAPPINGS && edits >= 1 {
-            Some(Limits { mappings, edits })
+            Some(Limits {
+                mappings,
+                edits,
+                traces: MAX_TRACES,
+            })
         } else {
             None
         }
     }
 
-    /// The widest limits: 65,536 mappings, and 4,294,967,295 edits.
+    /// These limits with so many traces, or `None` unless these are 1 to 65,536. It takes no memory.
+    pub fn with_traces(self, traces: u32) -> Option<Limits>
+        ensures { result ≡ with_traces self traces }
+    {
+        if traces >= 1 && traces <= MAX_TRACES {
+            Some(Limits {
+                mappings: self.mappings,
+                edits: self.edits,
+                traces,
+            })
+        } else {
+            None
+        }
+    }
+
+    /// The widest limits: 65,536 mappings, 4,294,967,295 edits, and 65,536 traces.
     pub fn widest() -> Limits
         ensures { result ≡ widest }
     {
         Limits {
             mappings: MAX_MAPPINGS,
             edits: u32::MAX,
+            traces: MAX_TRACES,
         }
     }
 
@@ -65,5 +89,13 @@ impl Limits {
         ensures allowed { AreAllowed self.now }
     {
         self.edits
+    }
+
+    /// How many withdrawn identities may be remembered.
+    pub fn traces(&self) -> u32
+        ensures traces { result ≡ self.now.traces }
+        ensures allowed { AreAllowed self.now }
+    {
+        self.traces
     }
 }

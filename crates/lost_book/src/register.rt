@@ -4,7 +4,7 @@ ghost use Rattle.std.specs.List.{list_any};
 ghost use Rattle.std.specs.Option.{option_copied};
 ghost use Rattle.std.specs.Result.{result_err};
 ghost use Rattle.lost_spec.specs.Book as spec;
-ghost use Rattle.lost_spec.specs.Book.{has_identity, has_key, is_held, held, is_key_held, is_not_newer, is_key_unchanged, identity_of, is_spent, is_full, publish_refusal, replace_refusal, withdraw_refusal, refusal};
+ghost use Rattle.lost_spec.specs.Book.{has_identity, has_key, is_held, held, is_key_held, is_not_newer, is_not_after, is_key_unchanged, identity_of, is_spent, is_full, has_most_traces, withdrawn, publish_refusal, replace_refusal, withdraw_refusal, refusal};
 ghost use Rattle.lost_message.specs.Edit.{edit_of};
 
 use crate::limits::Limits;
@@ -29,6 +29,14 @@ pub trait Register {
     /// The limits.
     fn limits(&self) -> Limits
         ensures { result ≡ (book self.now).limits };
+
+    /// How many withdrawn identities are remembered.
+    fn trace_count(&self) -> usize
+        ensures { result ≡ length (book self.now).traces };
+
+    /// The stamp of the withdrawal of this identity, where it is remembered.
+    fn withdrawn(&self, identity: &Identity) -> Option<&Stamp>
+        ensures { option_copied result ≡ withdrawn (book self.now) identity.now };
 
     /// Whether a mapping with this identity is held.
     fn is_held(&self, identity: &Identity) -> bool
@@ -71,6 +79,9 @@ pub fn check_publish<R: Register>(register: &R, mapping: &Mapping) -> Result<(),
     }
     if register.is_held(mapping.identity()) {
         return Err(EditError::IdentityHeld);
+    }
+    if is_not_after(register, mapping.identity(), mapping.stamp()) {
+        return Err(EditError::Withdrawn);
     }
     if is_full(register) {
         return Err(EditError::Full);
@@ -128,6 +139,9 @@ pub fn check_withdraw<R: Register>(
     if is_not_newer(register, identity, stamp) {
         return Err(EditError::NotNewer);
     }
+    if has_most_traces(register) {
+        return Err(EditError::TracesFull);
+    }
     Ok(())
 }
 
@@ -143,6 +157,13 @@ fn is_full<R: Register>(register: &R) -> bool
     ensures { result ≡ is_full (R.book register.now) }
 {
     register.count() as u64 >= u64::from(register.limits().mappings())
+}
+
+/// Whether as many withdrawn identities as the limit are remembered.
+fn has_most_traces<R: Register>(register: &R) -> bool
+    ensures { result ≡ has_most_traces (R.book register.now) }
+{
+    register.trace_count() as u64 >= u64::from(register.limits().traces())
 }
 
 /// Whether another mapping held has the key of this one.
@@ -161,6 +182,16 @@ fn is_not_newer<R: Register>(register: &R, identity: &Identity, stamp: &Stamp) -
 {
     match register.held(identity) {
         Some(old) => !old.stamp().moment().is_earlier(&stamp.moment()),
+        None => false,
+    }
+}
+
+/// Whether a stamp is not after that of the withdrawal of this identity.
+fn is_not_after<R: Register>(register: &R, identity: &Identity, stamp: &Stamp) -> bool
+    ensures { result ≡ is_not_after (withdrawn (R.book register.now) identity.now) stamp.now }
+{
+    match register.withdrawn(identity) {
+        Some(trace) => !trace.moment().is_earlier(&stamp.moment()),
         None => false,
     }
 }

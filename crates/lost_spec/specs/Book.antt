@@ -1,6 +1,7 @@
 -- Books: the edits that a book refuses, and the book after an edit and after a list of edits.
 use Rattle.std.specs.Prelude.{ℕ, ◌+◌, ◌-◌, Bool, true, false, not, ◌&&◌, if◌then◌else◌, List, [], ◌∷◌, ◌++◌, length, take, drop, Option, Some, None, is_none, nat_le, find, fold}
 use Rattle.std.specs.List.{list_any}
+use Rattle.std.specs.Map.{lookup}
 use lib.Pointwise.{pointwise}
 use Rattle.lost_spec.specs.declared.faults.EditError.{EditError}
 use Rattle.lost_spec.specs.declared.faults.EditError.TheVariants.{IdentityHeld, IdentityUnknown, NotNewer, KeyHeld, KeyUnchanged, Full, EditsSpent, Withdrawn, TracesFull}
@@ -67,8 +68,7 @@ same_identity a b = same_text a.source b.source && same_text a.source_id b.sourc
 
 -- the stamp of the withdrawal that is remembered of this identity
 abbrev pub stamp_of_trace : List Trace → Identity → Option Stamp
-stamp_of_trace [] id = None
-stamp_of_trace (t ∷ ts) id = if same_identity id t.0 then Some t.1 else stamp_of_trace ts id
+stamp_of_trace traces id = lookup (same_identity id) traces
 
 abbrev pub withdrawn : Book → Identity → Option Stamp
 withdrawn b id = stamp_of_trace b.traces id

@@ -1,7 +1,7 @@
 //! How edits change a book. Rules without a section are this profile's own.
-ghost use Rattle.std.specs.Prelude.{◌≡◌, ◌≢◌, true, None, Some, IfErr, OnOk, OnErr};
+ghost use Rattle.std.specs.Prelude.{◌≡◌, ◌≢◌, false, None, Some, IfErr, OnOk, OnErr};
 ghost use Rattle.lost_spec.specs.Book.{Publish, Replace, Withdraw, refusal, after};
-ghost use Rattle.lost_book.specs.Applied.{IsApplied, is_publish};
+ghost use Rattle.lost_book.specs.Applied.{IsApplied, is_replacement};
 ghost use Rattle.lost_message.specs.Edit.{edit_of};
 
 use crate::book::Book;
@@ -12,8 +12,8 @@ use lost_message::Edit;
 use lost_spec::faults::EditError;
 
 impl Book {
-    /// Applies an edit: a publish appends, a replacement keeps the place, a withdrawal closes up, and the edition rises
-    /// by one. Only a publish takes memory.
+    /// Applies an edit: a publish appends and forgets the withdrawal of its identity, a replacement keeps the place, a
+    /// withdrawal closes up and is remembered, and the edition rises by one. A replacement takes no memory.
     ///
     /// # Errors
     ///
@@ -24,7 +24,7 @@ impl Book {
         ensures changed { OnOk result (self.new ≡ after self.old (edit_of edit)) }
         ensures refused { IfErr result (λ e. e ≢ EditError.Memory → refusal self.old (edit_of edit) ≡ Some e) }
         ensures memory_last { result ≡ Err EditError.Memory → refusal self.old (edit_of edit) ≡ None }
-        ensures memory_of_publish { result ≡ Err EditError.Memory → is_publish (edit_of edit) ≡ true }
+        ensures memory_of_others { result ≡ Err EditError.Memory → is_replacement (edit_of edit) ≡ false }
         ensures unchanged { OnErr result (self.new ≡ self.old) }
     {
         match edit {
@@ -38,9 +38,11 @@ impl Book {
         ensures { IsApplied self.old (Publish mapping) result self.new }
     {
         check_publish(self, &mapping)?;
+        let position = self.mappings.len();
         if self.mappings.push(mapping).is_err() {
             return Err(EditError::Memory);
         }
+        self.traces.forget(self.mappings[position].identity());
         self.edits += 1;
         Ok(())
     }
@@ -58,6 +60,9 @@ impl Book {
         ensures { IsApplied self.old (Withdraw identity.now stamp.now) result self.new }
     {
         check_withdraw(self, identity, stamp)?;
+        if self.traces.remember(identity, stamp).is_err() {
+            return Err(EditError::Memory);
+        }
         changes::withdraw(&mut self.mappings, identity);
         self.edits += 1;
         Ok(())

@@ -1,0 +1,82 @@
+//! The stamps that are remembered of withdrawn identities. Rules without a section are this profile's own.
+ghost use Rattle.std.specs.Prelude.{◌≡◌, [], length, IfOk, OnOk, OnErr};
+ghost use Rattle.std.specs.Option.{option_copied};
+ghost use Rattle.lost_spec.specs.Book.{stamp_of_trace, with_trace, without_trace};
+
+use indexmap::IndexMap;
+use lost_mapping::{Identity, Stamp};
+use std::alloc::{AllocError, Global};
+use std::marker::Model;
+
+/// The identities that were withdrawn, each with the stamp of its withdrawal. Contracts see them as the list of these
+/// pairs. No call costs more where more are remembered, other than `clone`.
+#[derive(Drop)]
+pub struct Traces {
+    alloc: Global,
+    stamps: IndexMap<Identity, Stamp>,
+}
+
+impl Model for Traces {
+    ghost use Rattle.std.specs.Prelude.{List};
+    ghost use Rattle.lost_spec.specs.Book.{Trace};
+
+    ghost Value = { List Trace };
+
+    ghost view = { λ t. t.stamps.entries };
+}
+
+impl Traces {
+    /// No traces. It takes no memory.
+    pub fn new(alloc: Global) -> Traces
+        ensures { result ≡ [] }
+    {
+        Traces {
+            alloc,
+            stamps: IndexMap::new(alloc),
+        }
+    }
+
+    /// How many identities are remembered. It takes no memory.
+    pub fn len(&self) -> usize
+        ensures { result ≡ length self.now }
+    {
+        self.stamps.len()
+    }
+
+    /// The stamp of the withdrawal of this identity, where it is remembered. It takes no memory.
+    pub fn stamp(&self, identity: &Identity) -> Option<&Stamp>
+        ensures { option_copied result ≡ stamp_of_trace self.now identity.now }
+    {
+        self.stamps.get(identity)
+    }
+
+    /// Remembers a withdrawal, or want of memory, which changes nothing.
+    pub fn remember(&mut self, identity: &Identity, stamp: &Stamp) -> Result<(), AllocError>
+        ensures remembered { OnOk result (self.new ≡ with_trace identity.now stamp.now self.old) }
+        ensures refused { OnErr result (self.new ≡ self.old) }
+    {
+        self.stamps.insert(identity.clone()?, stamp.clone()?)?;
+        Ok(())
+    }
+
+    /// Forgets the withdrawal of this identity, where it is remembered. It takes no memory.
+    pub fn forget(&mut self, identity: &Identity)
+        ensures { self.new ≡ without_trace identity.now self.old }
+    {
+        self.stamps.swap_remove(identity);
+    }
+
+    /// The same traces, or want of memory.
+    pub fn clone(&self) -> Result<Traces, AllocError>
+        ensures { IfOk result (λ copy. copy ≡ self.now) }
+    {
+        let mut copy = Traces::new(self.alloc);
+        for position in 0..self.stamps.len() {
+            match self.stamps.get_index(position) {
+                Some((identity, stamp)) => copy.remember(identity, stamp)?,
+                None => unreachable!(),
+            }
+        }
+        Ok(copy)
+    }
+}
