@@ -4,7 +4,7 @@ use Rattle.std.specs.List.{AllByRecursion, remove}
 use Rattle.std.specs.declared.alloc.AllocError.{AllocError}
 use Rattle.lost_spec.specs.declared.faults.EditError.TheVariants.{EditsSpent}
 use Rattle.lost_spec.specs.Moment.{Stamp}
-use Rattle.lost_spec.specs.Book.{Book, Limits, Identity, replaced, is_spent, publish_refusal, replace_refusal, withdraw_refusal}
+use Rattle.lost_spec.specs.Book.{Book, Limits, Trace, Identity, replaced, is_spent, publish_refusal, replace_refusal, withdraw_refusal}
 use Rattle.lost_routing.specs.Store.{Stored, with_mapping_at}
 use Rattle.std.proofs.lemmas.Bool.Decides.{nat_tests}
 use Rattle.lost_spec.specs.Mapping.{Mapping}
@@ -39,16 +39,16 @@ new_removed e i ns new =
     (all_take (λ k. k < e) ns i new) (all_drop (λ k. k < e) ns (suc i) new)
 
 -- a book after one more edit, whose number is that of the edits before it, or which keeps the numbers below
-pub routed_put : (limits : Limits) (ms : List Mapping) (e : ℕ) (ns now : List ℕ) → e < limits.edits → limits.edits < 2 ^ 32 → IsNew e ns
-    → now ≡ ns ++ e ∷ [] → IsRouted (record { limits = limits; mappings = ms; edits = e + 1 }) now
-routed_put limits ms e ns now within bound new put = record {
+pub routed_put : (limits : Limits) (ms : List Mapping) (ts : List Trace) (e : ℕ) (ns now : List ℕ) → e < limits.edits → limits.edits < 2 ^ 32 → IsNew e ns
+    → now ≡ ns ++ e ∷ [] → IsRouted (record { limits = limits; mappings = ms; traces = ts; edits = e + 1 }) now
+routed_put limits ms ts e ns now within bound new put = record {
   counted = record { edits = omega arith; limit = bound };
   below = subst (IsNew (e + 1)) (sym put) (new_put e ns new);
 }
 
-pub routed_next : (limits : Limits) (ms : List Mapping) (e : ℕ) (now : List ℕ) → e < limits.edits → limits.edits < 2 ^ 32 → IsNew e now
-    → IsRouted (record { limits = limits; mappings = ms; edits = e + 1 }) now
-routed_next limits ms e now within bound new = record {
+pub routed_next : (limits : Limits) (ms : List Mapping) (ts : List Trace) (e : ℕ) (now : List ℕ) → e < limits.edits → limits.edits < 2 ^ 32 → IsNew e now
+    → IsRouted (record { limits = limits; mappings = ms; traces = ts; edits = e + 1 }) now
+routed_next limits ms ts e now within bound new = record {
   counted = record { edits = omega arith; limit = bound };
   below = new_next e now new;
 }

@@ -1,14 +1,8 @@
 -- What the routing answers to an edit, and what it is then.
-use Rattle.std.specs.Prelude.{◌≡◌, ◌≢◌, Bool, true, false, None, Some, Err, IfErr, OnOk, OnErr, Result}
+use Rattle.std.specs.Prelude.{◌≡◌, ◌≢◌, None, Some, Err, IfErr, OnOk, OnErr, Result}
 use Rattle.lost_spec.specs.declared.faults.EditError.{EditError}
 use Rattle.lost_spec.specs.declared.faults.EditError.TheVariants.{Memory}
-use Rattle.lost_spec.specs.Book.{Book, Edit, Publish, Replace, Withdraw, refusal, after}
-
--- the edit has a mapping: one without, a withdrawal, takes no memory (own)
-abbrev pub has_mapping : Edit → Bool
-has_mapping (Publish mapping) = true
-has_mapping (Replace mapping) = true
-has_mapping (Withdraw identity stamp) = false
+use Rattle.lost_spec.specs.Book.{Book, Edit, refusal, after}
 
 -- the edit is accepted and is the last one of the book, or it is refused and the book is as it was; want of memory comes last (own)
 pub record IsApplied (old : Book) (edit : Edit) (result : Result (Unit {0}) EditError) (new : Book) : Type 0 where
@@ -16,5 +10,4 @@ pub record IsApplied (old : Book) (edit : Edit) (result : Result (Unit {0}) Edit
   pub changed : OnOk result (new ≡ after old edit)
   pub refused : IfErr result (λ e. e ≢ Memory → refusal old edit ≡ Some e)
   pub memory_last : result ≡ Err Memory → refusal old edit ≡ None
-  pub memory_of_mapping : result ≡ Err Memory → has_mapping edit ≡ true
   pub unchanged : OnErr result (new ≡ old)

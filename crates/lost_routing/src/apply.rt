@@ -1,8 +1,8 @@
 //! How edits change the routing. Rules without a section are this profile's own.
-ghost use Rattle.std.specs.Prelude.{◌≡◌, ◌≢◌, true, None, Some, Err, IfErr, OnOk, OnErr};
+ghost use Rattle.std.specs.Prelude.{◌≡◌, ◌≢◌, None, Some, Err, IfErr, OnOk, OnErr};
 ghost use Rattle.lost_spec.specs.Book.{Publish, Replace, Withdraw, refusal, after};
 ghost use Rattle.lost_message.specs.Edit.{edit_of};
-ghost use Rattle.lost_routing.specs.Applied.{IsApplied, has_mapping};
+ghost use Rattle.lost_routing.specs.Applied.{IsApplied};
 
 use crate::routing::Routing;
 use lost_book::{Edit, EditError, check_publish, check_replace, check_withdraw};
@@ -10,8 +10,9 @@ use lost_mapping::{Identity, Mapping, Stamp};
 use std::alloc::AllocError;
 
 impl Routing {
-    /// Applies an edit: a publish appends, a replacement keeps the place, a withdrawal closes up, and the edition rises
-    /// by one. A withdrawal takes no memory.
+    /// Applies an edit: a publish appends and forgets the withdrawal of its identity, a replacement keeps the place, a
+    /// withdrawal closes up and is remembered, and the edition rises by one. Of a withdrawal only what remembers it takes
+    /// memory.
     ///
     /// # Errors
     ///
@@ -22,7 +23,6 @@ impl Routing {
         ensures changed { OnOk result (self.new ≡ after self.old (edit_of edit)) }
         ensures refused { IfErr result (λ e. e ≢ EditError.Memory → refusal self.old (edit_of edit) ≡ Some e) }
         ensures memory_last { result ≡ Err EditError.Memory → refusal self.old (edit_of edit) ≡ None }
-        ensures memory_of_mapping { result ≡ Err EditError.Memory → has_mapping (edit_of edit) ≡ true }
         ensures unchanged { OnErr result (self.new ≡ self.old) }
     {
         match edit {
@@ -32,14 +32,13 @@ impl Routing {
         }
     }
 
-    /// Applies a copy of an edit. An edit that the book refuses changes nothing. A withdrawal takes no memory.
+    /// Applies a copy of an edit. An edit that the book refuses changes nothing.
     ///
     /// # Errors
     ///
     /// Want of memory. The book is then unchanged.
     pub fn absorb(&mut self, edit: &Edit) -> Result<(), AllocError>
         ensures changed { OnOk result (self.new ≡ after self.old (edit_of edit.now)) }
-        ensures memory_of_mapping { OnErr result (has_mapping (edit_of edit.now) ≡ true) }
         ensures unchanged { OnErr result (self.new ≡ self.old) }
     {
         let applied = match edit {
@@ -57,9 +56,11 @@ impl Routing {
         ensures { IsApplied self.old (Publish mapping) result self.new }
     {
         check_publish(self, &mapping)?;
+        let position = self.store.len();
         if self.store.put(self.edits, mapping).is_err() {
             return Err(EditError::Memory);
         }
+        self.traces.forget(self.store.mapping(position).identity());
         self.edits += 1;
         Ok(())
     }
@@ -79,6 +80,9 @@ impl Routing {
         ensures { IsApplied self.old (Withdraw identity.now stamp.now) result self.new }
     {
         check_withdraw(self, identity, stamp)?;
+        if self.traces.remember(identity, stamp).is_err() {
+            return Err(EditError::Memory);
+        }
         self.store.withdraw(identity);
         self.edits += 1;
         Ok(())

@@ -6,7 +6,7 @@ ghost use Rattle.lost_message.specs.Edit.{edit_of};
 
 use crate::routing::Routing;
 use lost_book::{Edit, EditError, Limits, Register, check_edit};
-use lost_mapping::{Identity, Mapping};
+use lost_mapping::{Identity, Mapping, Stamp};
 
 impl Routing {
     /// Says whether the routing refuses an edit, without changing anything. It takes no memory.
@@ -34,6 +34,14 @@ impl Register for Routing {
 
     fn limits(&self) -> Limits {
         self.limits
+    }
+
+    fn trace_count(&self) -> usize {
+        self.traces.len()
+    }
+
+    fn withdrawn(&self, identity: &Identity) -> Option<&Stamp> {
+        self.traces.stamp(identity)
     }
 
     fn is_held(&self, identity: &Identity) -> bool {

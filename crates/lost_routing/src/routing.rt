@@ -5,19 +5,20 @@ ghost use Rattle.lost_spec.specs.Holders.{holders_of};
 ghost use Rattle.lost_query.specs.Place.{place_of};
 
 use crate::store::Store;
-use lost_book::Limits;
+use lost_book::{Limits, Traces};
 use lost_mapping::Mapping;
 use lost_query::Place;
 use std::alloc::{AllocError, Global};
 use std::marker::Model;
 
-/// A book with tables and indexes, by which it finds the mappings that a question is about. Contracts see it as the
-/// record `Book`. A mapping is held under a number, which is the edition before its publish; a replacement keeps it.
+/// A book with tables and indexes, by which it finds the mappings that a question is about, and the withdrawal of an
+/// identity. Contracts see it as the record `Book`. A mapping is held under a number, which is the edition before its publish; a replacement keeps it.
 #[derive(Drop)]
 pub struct Routing {
     pub(crate) limits: Limits,
     pub(crate) edits: u64,
     pub(crate) store: Store,
+    pub(crate) traces: Traces,
 }
 
 impl Model for Routing {
@@ -26,9 +27,9 @@ impl Model for Routing {
 
     ghost Value = { spec.Book };
 
-    ghost view = { λ r. record { limits = r.limits; mappings = r.store.mappings; edits = r.edits } };
+    ghost view = { λ r. record { limits = r.limits; mappings = r.store.mappings; traces = r.traces; edits = r.edits } };
 
-    ghost invariant = { λ r. IsRouted (record { limits = r.limits; mappings = r.store.mappings; edits = r.edits }) r.store.numbers };
+    ghost invariant = { λ r. IsRouted (record { limits = r.limits; mappings = r.store.mappings; traces = r.traces; edits = r.edits }) r.store.numbers };
 }
 
 impl Routing {
@@ -42,6 +43,7 @@ impl Routing {
             limits,
             edits: 0,
             store: Store::new(alloc),
+            traces: Traces::new(alloc),
         })
     }
 
@@ -78,7 +80,8 @@ impl Routing {
         Ok(places.into_vec()?)
     }
 
-    /// An equal book, or want of memory. It costs a pointer for each mapping, and the indexes anew.
+    /// An equal book, or want of memory. It costs a pointer for each mapping, a copy of each trace, and the
+    /// indexes anew.
     pub fn clone(&self) -> Result<Routing, AllocError>
         ensures { IfOk result (λ copy. copy ≡ self.now) }
     {
@@ -86,6 +89,7 @@ impl Routing {
             limits: self.limits,
             edits: self.edits,
             store: self.store.clone()?,
+            traces: self.traces.clone()?,
         })
     }
 }

@@ -6,9 +6,9 @@ use Rattle.std.proofs.lemmas.Bool.{false≢true}
 use Rattle.lost_spec.specs.Text.{Text}
 use Rattle.lost_spec.specs.Service.{service_text}
 use Rattle.lost_spec.specs.Mapping.{Mapping}
-use Rattle.lost_spec.specs.Book.{Identity, identity_of, is_key}
+use Rattle.lost_spec.specs.Book.{Identity, identity_of, is_key, same_identity}
 use Rattle.lost_tables.specs.declared.tables.Tables.{Tables}
-use Rattle.lost_tables.specs.Lists.{Stands, IsUnlisted, KeepsOtherNumbers, KeepsUnder, same_identity, under_text, under_identity}
+use Rattle.lost_tables.specs.Lists.{Stands, IsUnlisted, KeepsOtherNumbers, KeepsUnder, under_text, under_identity}
 use Rattle.lost_tables.specs.Lookup.{ByIdentity, ByKey, ByService, ByDefault, Keeps, KeepsOthers, IsFullyListed, IsNowhereListed, IsListedAtMostAs, default_text}
 
 -- what stands where a test passes

@@ -1,9 +1,9 @@
 -- Lists of numbers, by the things that they are listed under (own).
-use Rattle.std.specs.Prelude.{◌≡◌, ◌≢◌, ℕ, true, false, ◌&&◌, Bool, Option, List, [], IfSome, unwrap_or, nat_eq, String}
+use Rattle.std.specs.Prelude.{◌≡◌, ◌≢◌, ℕ, true, false, Bool, Option, List, [], IfSome, unwrap_or, nat_eq, String}
 use Rattle.std.specs.HashMap.{HashMap, get, get_by_text}
 use Rattle.std.specs.List.{list_any}
 use Rattle.lost_spec.specs.Text.{Text, same_text}
-use Rattle.lost_spec.specs.Book.{Identity}
+use Rattle.lost_spec.specs.Book.{Identity, same_identity}
 
 -- the number stands in the list
 abbrev pub Stands : ℕ → List ℕ → Type 0
@@ -42,10 +42,6 @@ module _ {Thing : Type 0} where
 -- the numbers under a text; none where there is no list
 abbrev pub under_text : {A S : Type 0} → HashMap (String A) (List ℕ) S → Text → List ℕ
 under_text lists text = unwrap_or (get_by_text lists text) []
-
--- the same source and sourceId, byte for byte (RFC 5222, section 5.1)
-abbrev pub same_identity : Identity → Identity → Bool
-same_identity a b = same_text a.source b.source && same_text a.source_id b.source_id
 
 -- the numbers under a key of an equality; none where there is no list
 abbrev pub under : {K S : Type 0} → (K → K → Bool) → HashMap K (List ℕ) S → K → List ℕ

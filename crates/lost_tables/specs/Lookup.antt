@@ -5,8 +5,8 @@ use Rattle.lost_spec.specs.Text.{Text, same_text}
 use Rattle.lost_spec.specs.Service.{Service, service_text, is_service}
 use Rattle.lost_spec.specs.Mapping.{Mapping}
 use Rattle.std.specs.HashMap.{get, get_by_text}
-use Rattle.lost_spec.specs.Book.{Identity, identity_of, is_key}
-use Rattle.lost_tables.specs.Lists.{Stands, IsUnlisted, KeepsLists, KeepsOtherNumbers, same_identity, under_text, under_identity}
+use Rattle.lost_spec.specs.Book.{Identity, identity_of, is_key, same_identity}
+use Rattle.lost_tables.specs.Lists.{Stands, IsUnlisted, KeepsLists, KeepsOtherNumbers, under_text, under_identity}
 use Rattle.lost_tables.specs.declared.tables.Tables.{Tables}
 
 -- by what a mapping is known: its identity, its key, its service, and its service where it is a default (own)

@@ -6,6 +6,6 @@ use Rattle.lost_routing.proofs.routing.Routing.publish.Goals as goal
 pub invariant_of-self-2 : goal.invariant_of-self-2
 invariant_of-self-2 c =
     let put : c.put.new.self.numbers ≡ c.self.inside.store.numbers ++ c.self.inside.edits ∷ [] = search rules in
-    routed_put c.self.inside.limits c.put.new.self.mappings c.self.inside.edits c.self.inside.store.numbers c.put.new.self.numbers
+    routed_put c.self.inside.limits c.put.new.self.mappings c.forget.new.self c.self.inside.edits c.self.inside.store.numbers c.put.new.self.numbers
     (subst (λ b. b.edits < b.limits.edits) (sym c.self.view_is) (within_publish c.args.self.now c.args.mapping c.in_ok-check_publish.ensures))
     c.self.invariant.counted.limit c.self.invariant.below put

@@ -7,6 +7,6 @@ use Rattle.lost_routing.proofs.routing.Routing.replace.Goals as goal
 pub invariant_of-self-2 : goal.invariant_of-self-2
 invariant_of-self-2 c =
     let same : c.replace.new.self.numbers ≡ c.self.inside.store.numbers = search rules in
-    routed_next c.self.inside.limits c.replace.new.self.mappings c.self.inside.edits c.replace.new.self.numbers
+    routed_next c.self.inside.limits c.replace.new.self.mappings c.self.inside.traces c.self.inside.edits c.replace.new.self.numbers
     (subst (λ b. b.edits < b.limits.edits) (sym c.self.view_is) (within_replace c.args.self.now c.args.mapping c.in_ok-check_replace.ensures))
     c.self.invariant.counted.limit (subst (IsNew c.self.inside.edits) (sym same) c.self.invariant.below)
