@@ -105,3 +105,13 @@ copied_next (u ∷ ts) (suc i) t distinct at =
 
 pub copied_more : (ts : List Trace) (i : ℕ) (t : Trace) → IsDistinct same_identity (keys_of ts) → slice_get ts i ≡ Some t → with_trace t.0 t.1 (take i ts) ≡ take (i + 1) ts
 copied_more ts i t distinct at = let next : i + 1 ≡ suc i = omega arith in rw next (copied_next ts i t distinct at)
+
+-- ---- the table as it is seen
+
+-- what a removal from the table leaves, where it is seen as these traces
+pub forgets : (id : Identity) (ts entries new : List Trace) → entries ≡ ts → new ≡ swap_remove_entry (same_identity id) entries → new ≡ without_trace id ts
+forgets id ts entries new seen removed = removed ∙ swapped id entries ∙ ap (without_trace id) seen
+
+-- what an insertion into the table leaves
+pub remembers : (id : Identity) (stamp : Stamp) (ts entries new : List Trace) → entries ≡ ts → new ≡ insert_entry same_identity entries id stamp → new ≡ with_trace id stamp ts
+remembers id stamp ts entries new seen put = put ∙ inserted id stamp entries ∙ ap (with_trace id stamp) seen

@@ -51,6 +51,7 @@ impl Traces {
     }
 
     /// Remembers a withdrawal, or want of memory, which changes nothing.
+    #[tactic(auto, using(crate::proofs::TraceLemmas::remembers))]
     pub fn remember(&mut self, identity: &Identity, stamp: &Stamp) -> Result<(), AllocError>
         ensures remembered { OnOk result (self.new ≡ with_trace identity.now stamp.now self.old) }
         ensures refused { OnErr result (self.new ≡ self.old) }
@@ -60,6 +61,7 @@ impl Traces {
     }
 
     /// Forgets the withdrawal of this identity, where it is remembered. It takes no memory.
+    #[tactic(auto, using(crate::proofs::TraceLemmas::forgets))]
     pub fn forget(&mut self, identity: &Identity)
         ensures { self.new ≡ without_trace identity.now self.old }
     {

@@ -3,6 +3,7 @@ use Rattle.std.specs.Prelude.{◌≡◌, ℕ, ◌+◌, true, false, List, []}
 use mathlib.Core.Option.{some}
 use lib.ListN.{get_elem?}
 use Rattle.lost_spec.specs.Laws.{BeginsWith}
+use Rattle.lost_spec.specs.Book.{Limits}
 use Rattle.lost_history.specs.History.{Opening, beginning}
 use Rattle.lost_desk.specs.declared.version.Version.{Version}
 use Rattle.lost_desk.specs.declared.view.View.{View}
@@ -28,9 +29,13 @@ pub record IsOneList (v : Version) (views : List View) : Type 0 where
 abbrev pub nowhere : Opening
 nowhere = record { number = 0; log_name = 0; cells_name = 0 }
 
+-- the limits of nothing, where there is no book
+abbrev pub no_limits : Limits
+no_limits = record { mappings = 0; edits = 0; traces = 0 }
+
 -- a seat that nobody has yet
 abbrev pub newcomer : View
-newcomer = record { is_known = false; limits = record { mappings = 0; edits = 0 }; front = beginning nowhere []; entries = 0 }
+newcomer = record { is_known = false; limits = no_limits; front = beginning nowhere []; entries = 0 }
 
 -- a seat that has seen nothing of copies that it knows
 abbrev pub named : Version → View

@@ -10,7 +10,7 @@ use Rattle.lost_desk.specs.declared.version.Operation.{Operation}
 use Rattle.lost_desk.specs.declared.view.View.{View}
 use Rattle.lost_desk.specs.Seen.{DeskSeen, ReaderSeen}
 use Rattle.lost_desk.specs.Copies.{IsBookOfItsList, edits_in, first_version, taken_all}
-use Rattle.lost_desk.specs.Rule.{nowhere}
+use Rattle.lost_desk.specs.Rule.{nowhere, no_limits}
 
 -- ---- the two copies: the one that is published, and the operations that it lacks
 
@@ -20,7 +20,7 @@ pub record CopiesSeen : Type 0 where
 
 -- by a writer, which is there
 abbrev pub copies_seen : {Writer : Type 0} → (Writer → Version) → (Writer → List Operation) → Option Writer → CopiesSeen
-copies_seen shown waiting None = record { shown = first_version nowhere (record { mappings = 0; edits = 0 }); waiting = [] }
+copies_seen shown waiting None = record { shown = first_version nowhere no_limits; waiting = [] }
 copies_seen shown waiting (Some writer) = record { shown = shown writer; waiting = waiting writer }
 
 abbrev pub IsThere : {Thing : Type 0} → Option Thing → Type 0
@@ -81,7 +81,7 @@ published_version c f = record { book = book_of c.shown.book.limits f.list; fron
 
 -- by a seat, which is there, and the longest list that it has seen or was told of
 abbrev pub reader_seen : {Seat : Type 0} → (Seat → View) → Option Seat → Beginning → ReaderSeen
-reader_seen at None latest = record { opening = latest.opening; limits = record { mappings = 0; edits = 0 }; seen = latest.list; entered = []; entries = 0 }
+reader_seen at None latest = record { opening = latest.opening; limits = no_limits; seen = latest.list; entered = []; entries = 0 }
 reader_seen at (Some seat) latest = record { opening = latest.opening; limits = (at seat).limits; seen = latest.list; entered = (at seat).front.list; entries = (at seat).entries }
 
 -- the seat knows the copies, its opening is that of the list, and the list begins with that of the copy that it entered last
