@@ -5,6 +5,7 @@ from texts import moment_of
 
 MOST_MAPPINGS = 65_536
 MOST_EDITS = 4_294_967_295
+MOST_TRACES = 65_536
 PUBLISH, REPLACE, WITHDRAW = "publish", "replace", "withdraw"
 
 
@@ -17,11 +18,19 @@ class Edit(NamedTuple):
     mapping: object = None
 
 
+class Trace(NamedTuple):
+    """What is remembered of a withdrawal: the identity, and the stamp's instant."""
+
+    identity: tuple
+    moment: tuple
+
+
 class Book(NamedTuple):
-    """A list of mappings, and the number of edits that were accepted."""
+    """A list of mappings, the number of edits that were accepted, and the traces of the identities that are withdrawn."""
 
     mappings: tuple = ()
     edits: int = 0
+    traces: tuple = ()
 
 
 def held(book, identity):
@@ -32,6 +41,11 @@ def held(book, identity):
 def is_not_newer(edit, old):
     """The stamp's instant is not after that of the mapping held."""
     return edit.moment <= moment_of(old.last_updated)
+
+
+def is_of_withdrawn(edit, traces):
+    """The identity has a trace, and the stamp's instant is not after that of the withdrawal."""
+    return any(trace.identity == edit.identity and edit.moment <= trace.moment for trace in traces)
 
 
 def is_key_held(book, mapping):
@@ -57,10 +71,14 @@ def refusals(book, edit):
         yield 19
     if edit.kind == PUBLISH and old:
         yield 13
+    if edit.kind == PUBLISH and is_of_withdrawn(edit, book.traces):
+        yield 21
     if edit.kind != PUBLISH and not old:
         yield 14
     if edit.kind != PUBLISH and is_not_newer(edit, old):
         yield 15
+    if edit.kind == WITHDRAW and len(book.traces) >= MOST_TRACES:
+        yield 22
     if edit.kind == PUBLISH and len(book.mappings) >= MOST_MAPPINGS:
         yield 18
     if edit.kind != WITHDRAW and is_key_held(book, edit.mapping):
@@ -84,6 +102,13 @@ def withdrawn(mappings, identity):
     return tuple(mapping for mapping in mappings if mapping.identity != identity)
 
 
+def traces_after(traces, edit):
+    """A withdrawal leaves a trace, a publish takes away that of its identity, and a replacement changes none."""
+    if edit.kind == PUBLISH:
+        return tuple(trace for trace in traces if trace.identity != edit.identity)
+    return (*traces, Trace(edit.identity, edit.moment)) if edit.kind == WITHDRAW else traces
+
+
 def after(book, edit):
     """The book after an edit that is not refused; the number of edits rises by one."""
     if edit.kind == PUBLISH:
@@ -92,4 +117,4 @@ def after(book, edit):
         mappings = replaced(book.mappings, edit.mapping)
     else:
         mappings = withdrawn(book.mappings, edit.identity)
-    return Book(mappings, book.edits + 1)
+    return Book(mappings, book.edits + 1, traces_after(book.traces, edit))

@@ -4,17 +4,26 @@ import datetime
 from places import CIVIC, GEODETIC
 from samples import DISPLAY_TEXTS, IDS, JUNK, KEYS, LANGUAGES, NUMBERS, ODD_IDS, ODD_SOURCES, SOURCES, STAMPS, URIS
 
-KINDS = {"publish": 16, "replace": 5, "withdraw": 2, "commit": 7}
-KINDS_AT_DESK = {"publish": 8, "replace": 5, "withdraw": 3, "commit": 3}
+KINDS = {"publish": 16, "replace": 5, "withdraw": 3, "publish again": 2, "commit": 7}
+KINDS_AT_DESK = {"publish": 8, "replace": 5, "withdraw": 4, "publish again": 4, "commit": 3}
+KINDS_OF_WITHDRAWALS = {"publish": 4, "replace": 5, "withdraw": 7, "publish again": 10, "commit": 4}
 FRACTIONS = ["", ".0", ".5", ".000000001", ".50"]
 SHIFTS = [0, 0, 0, 1, -1, 3600, 86_400, -86_400, 31 * 86_400, -31 * 86_400]
+LATER = [1, 3600, 3600, 86_400]
 
 
-def near(dice, stamp):
+def same_instant(dice, stamp):
+    """A stamp at the instant of another, with more or fewer zeros at the end of its fraction."""
+    digits = stamp[20:-1].rstrip("0")
+    digits += "0" * dice.randint(0, 9 - len(digits))
+    return stamp[:19] + ("." + digits if digits else "") + "Z"
+
+
+def near(dice, stamp, shifts=SHIFTS):
     """A stamp at the instant of another, in another spelling or a little beside it."""
     nanoseconds = int((stamp[20:-1] or "0").ljust(9, "0"))
     try:
-        moment = datetime.datetime.fromisoformat(stamp[:19]) + datetime.timedelta(seconds=dice.choice(SHIFTS))
+        moment = datetime.datetime.fromisoformat(stamp[:19]) + datetime.timedelta(seconds=dice.choice(shifts))
     except OverflowError:
         return stamp
     beside = bounded_fraction(nanoseconds + dice.choice([0, 0, 1, -1]))
@@ -27,13 +36,13 @@ def bounded_fraction(nanoseconds):
 
 
 class Edits:
-    """The desk lines of a session, and the identities, keys and mappings of those before."""
+    """The desk lines of a session, and the identities, keys, mappings and withdrawals of those before."""
 
     def __init__(self, session):
         self.session = session
         self.dice = session.dice
         self.theme = session.theme
-        self.identities, self.keys, self.mappings = [], [], {}
+        self.identities, self.keys, self.mappings, self.withdrawals = [], [], {}, []
         self.clock = 0
 
     def stamp(self):
@@ -45,6 +54,13 @@ class Edits:
         second = self.dice.choice([0, 0, 0, 1])
         moment = datetime.datetime(2025, 12, 1, second=second) + datetime.timedelta(hours=self.clock)
         return moment.isoformat() + self.dice.choice(["", *FRACTIONS]) + "Z"
+
+    def stamp_after(self, identity):
+        """A stamp that is mostly later than that of an earlier mapping of the identity."""
+        old = self.mappings.get(identity)
+        if old is None or self.dice.chance(0.5):
+            return self.stamp()
+        return near(self.dice, old["lastUpdated"], LATER)
 
     def expires(self):
         """When a mapping expires, often about the moment of the session."""
@@ -86,13 +102,13 @@ class Edits:
         count = self.dice.choice([1, 2, 3, 4, 6, 9] if self.theme.is_dense else [1, 1, 1, 2, 2, 3, 5])
         return [self.region() for _ in range(count)]
 
-    def mapping(self, identity):
-        """A mapping of an identity."""
+    def mapping(self, identity, stamp=None):
+        """A mapping of an identity, with this stamp or with any."""
         source, source_id = identity
         mapping = {
             "source": source,
             "sourceId": source_id,
-            "lastUpdated": self.stamp(),
+            "lastUpdated": stamp or self.stamp(),
             "expires": self.expires(),
             "service": self.session.service(0.1),
             "uri": self.uris(),
@@ -123,7 +139,7 @@ class Edits:
         """A mapping of an earlier identity, mostly with something of the earlier one."""
         identity = self.identity(1)
         old = self.mappings.get(identity)
-        mapping = self.mapping(identity)
+        mapping = self.mapping(identity, self.stamp_after(identity))
         if old is None or self.dice.chance(0.2):
             return mapping
         if self.dice.chance(0.5):
@@ -154,14 +170,44 @@ class Edits:
         pattern = {name: self.session.town.respelled(value) for name, value in region["pattern"].items()}
         return {"pattern": self.dice.choice([pattern, region["pattern"]]), "profile": CIVIC}
 
+    def withdrawal(self):
+        """A withdrawal, mostly of an earlier identity."""
+        identity = self.identity(0.9)
+        stamp = self.stamp_after(identity)
+        self.withdrawals.append((identity, stamp))
+        return {"source": identity[0], "sourceId": identity[1], "lastUpdated": stamp}
+
+    def beside(self, identity):
+        """An identity, or one that differs from it in the source alone or in the sourceId alone."""
+        source, source_id = identity
+        way = self.dice.by_weight({"the same": 7, "source": 2, "sourceId": 1})
+        if way == "source":
+            source = self.dice.choice([*SOURCES, source.upper()])
+        if way == "sourceId":
+            source_id = self.dice.choice([source_id.swapcase(), *(other for _, other in self.identities)])
+        self.identities.append((source, source_id))
+        return source, source_id
+
+    def published_again(self):
+        """A mapping that was withdrawn, as it was or stamped about its withdrawal, or one of an identity beside it."""
+        if not self.withdrawals:
+            return self.mapping(self.identity(0.12))
+        identity, stamp = self.dice.choice(self.withdrawals[-4:])
+        old = self.mappings.get(identity)
+        if old is not None and self.dice.chance(0.15):
+            return old
+        about = same_instant(self.dice, stamp) if self.dice.chance(0.2) else near(self.dice, stamp)
+        return self.mapping(self.beside(identity), about)
+
     def edit(self):
         """A desk line."""
-        kind = self.dice.by_weight(KINDS_AT_DESK if self.theme.is_at_desk else KINDS)
+        kind = self.dice.by_weight(self.theme.edits)
         if kind == "commit":
             return {kind: {"member": self.dice.choice(JUNK)} if self.dice.chance(0.1) else {}}
         if kind == "withdraw":
-            source, source_id = self.identity(0.9)
-            return {kind: {"source": source, "sourceId": source_id, "lastUpdated": self.stamp()}}
+            return {kind: self.withdrawal()}
+        if kind == "publish again":
+            return {"publish": self.published_again()}
         if kind == "replace" and self.dice.chance(0.95):
             return {kind: self.mapping_again()}
         return {kind: self.mapping(self.identity(0.12))}

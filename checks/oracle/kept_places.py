@@ -1,6 +1,6 @@
 """Random sessions through readers that keep places: the program `rows_lines`, over a folder of sessions with the oracle's replies.
 
-With a file of limits beside a session its desk has these, and not the widest: so refusals 18 and 19 come after a few edits.
+With a file of limits beside a session its desk has these, and not the widest: so refusals 18, 19 and 22 come after a few edits.
 """
 import os
 import subprocess
@@ -26,13 +26,13 @@ def write(folder, seed):
 
 
 def write_limited(folder, seed):
-    """The same for a desk of small limits, which are drawn."""
+    """The same for a desk of small limits, which are drawn: how many mappings, edits and traces it has at most."""
     dice = Session(seed).dice
-    mappings, edits = dice.randint(1, 6), dice.randint(1, 12)
-    with standing_in("MOST_MAPPINGS", mappings), standing_in("MOST_EDITS", edits):
+    mappings, edits, traces = dice.randint(1, 6), dice.choice([dice.randint(1, 12), 30]), dice.randint(1, 3)
+    with standing_in("MOST_MAPPINGS", mappings), standing_in("MOST_EDITS", edits), standing_in("MOST_TRACES", traces):
         replies = write(folder, seed)
     if replies is not None:
-        write_files(folder, seed, limits=b"%d %d" % (mappings, edits))
+        write_files(folder, seed, limits=b"%d %d %d" % (mappings, edits, traces))
     return replies
 
 
@@ -65,9 +65,9 @@ def compare_kept_places(count, first):
 
 
 def compare_limits(count, first):
-    """Compares sessions at desks of small limits; how many are the same, how many not, and whether refusals 18 and 19 came."""
+    """Compares sessions at desks of small limits; how many are the same, how many not, and whether refusals 18, 19 and 22 came."""
     passed, failed, kinds = compare_written(write_limited, range(first, first + count))
-    missing = [kind for kind in ("refused 18 Full", "refused 19 EditsSpent") if not kinds[kind]]
+    missing = [kind for kind in ("refused 18 Full", "refused 19 EditsSpent", "refused 22 TracesFull") if not kinds[kind]]
     for kind in missing:
         print(f"{kind}: WRONG: it never came")
     return passed, failed + len(missing)

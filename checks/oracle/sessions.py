@@ -5,7 +5,7 @@ and requests meet mappings. Some lines are spoiled, as values (spoiling.py) or a
 """
 from typing import NamedTuple
 
-from drawn_edits import Edits
+from drawn_edits import KINDS, KINDS_AT_DESK, KINDS_OF_WITHDRAWALS, Edits
 from drawn_requests import Requests
 from grounds import Ground, Town
 from samples import MOMENTS, NO_JSON, ODD_JSON, ODD_SERVICES, SERVER_NAMES, SERVICES
@@ -14,7 +14,7 @@ from spoiling import spoil_line
 
 
 class Theme(NamedTuple):
-    """What a session is mostly about, and how often a line is spoiled."""
+    """What a session is mostly about, which edits it has and how many behind the first, and how often a line is spoiled."""
 
     weight: int = 4
     spoiled: float = 0.02
@@ -23,17 +23,19 @@ class Theme(NamedTuple):
     patterns: int = 1
     is_dense: bool = False
     is_grid: bool = False
-    is_at_desk: bool = False
+    edits: dict = KINDS
+    share: float = 0.35
 
 
 THEMES = {
     "mixed": Theme(spoiled=0.12, broken=0.04),
     "points": Theme(3, 0.04, 0.01, patterns=0),
     "addresses": Theme(spoiled=0.05, broken=0.01, rings=0),
-    "faults": Theme(8, spoiled=0.6, broken=0.12),
+    "faults": Theme(9, spoiled=0.6, broken=0.12),
     "clean": Theme(2, spoiled=0),
     "grid": Theme(3, patterns=0, is_grid=True),
-    "desk": Theme(3, 0.05, 0.02, is_at_desk=True),
+    "desk": Theme(3, 0.05, 0.02, edits=KINDS_AT_DESK, share=0.55),
+    "withdrawals": Theme(4, 0.02, 0.01, edits=KINDS_OF_WITHDRAWALS, share=0.8),
     "many points": Theme(rings=6, is_dense=True),
     "many addresses": Theme(patterns=6, is_dense=True),
 }
@@ -62,7 +64,7 @@ class Session:
         first = self.dice.randint(4, 14) if self.theme.is_dense else self.dice.choice([0, 2, 3, 4, 5, 6, 8, 10])
         count = self.dice.randint(max(20, first + 5), 40) if self.theme.is_dense else self.dice.randint(5, 40)
         for number in range(count):
-            share = 0.9 if number < first else 0.55 if self.theme.is_at_desk else 0.35
+            share = 0.9 if number < first else self.theme.share
             if number == first and self.dice.chance(0.95):
                 yield {"commit": {}}
             else:

@@ -27,6 +27,8 @@ MEMBERS = {
     "getServiceBoundary": ["key", "path"],
 }
 MEMBERS["replace"] = MEMBERS["publish"]
+# Members of a mapping in the order of the codes that refuse them.
+IN_ORDER = ["source", "sourceId", "lastUpdated", "expires", "service", "uri", "serviceNumber", REGIONS]
 OTHER_NAMES = ["x", "publish", "commit", "findService", "", "listServices"]
 WIDE_RING = [[900_000_000, -1_800_000_000], [-900_000_000, 1_800_000_000], [900_000_000, 1_800_000_000]]
 
@@ -35,7 +37,7 @@ def spoil_line(session, line):
     """Another value of a line, mostly with one member that is another."""
     dice = session.dice
     ((kind, described),) = line.items()
-    way = dice.by_weight({"second": 3, "junk": 2, "no object": 4, "name": 2, "unknown": 5, "members": 84})
+    way = dice.by_weight({"second": 3, "junk": 2, "no object": 4, "name": 2, "unknown": 5, "two": 6, "members": 84})
     if way == "second":
         return line | {dice.choice(OTHER_NAMES): dice.choice([*JUNK, {}])}
     if way == "junk":
@@ -46,10 +48,18 @@ def spoil_line(session, line):
         return {dice.choice([kind.upper(), kind + " ", "x", "", "Commit", "findservice"]): described}
     if way == "unknown":
         return {kind: described | {dice.choice(["x", "A1", "Service", "", "é"]): dice.choice(JUNK)}}
+    if way == "two" and kind in ("publish", "replace"):
+        return {kind: described | two_in_order(session, kind, described)}
     spoiled = dict(described)
     for _ in range(dice.choice([1, 1, 1, 1, 2, 3, 8])):
         spoil_member(session, kind, spoiled)
     return {kind: spoiled}
+
+
+def two_in_order(session, kind, described):
+    """Odd values of two members whose codes come one after the other."""
+    place = session.dice.randrange(len(IN_ORDER) - 1)
+    return {name: odd_member(session, kind, name, described.get(name)) for name in IN_ORDER[place : place + 2]}
 
 
 def spoil_member(session, kind, described):

@@ -124,6 +124,39 @@ def same_regions_by_comparison(new, old):
     return new.polygons == old.polygons and one == other
 
 
+def traced_by(part):
+    """Looks for a trace by one part of the identity alone: the source, 0, or the sourceId, 1."""
+    return lambda edit, traces: any(
+        trace.identity[part] == edit.identity[part] and edit.moment <= trace.moment for trace in traces
+    )
+
+
+def traces_of_first_withdrawals(traces, edit):
+    """Keeps the trace of an identity's first withdrawal, whatever is published and withdrawn later."""
+    if edit.kind == book.WITHDRAW and all(trace.identity != edit.identity for trace in traces):
+        return (*traces, book.Trace(edit.identity, edit.moment))
+    return traces
+
+
+def committed_without_traces(self):
+    """Forgets traces at a commit."""
+    self.staged = self.staged._replace(traces=())
+    return RIGHT["commit"](self)
+
+
+def traces_end_with_replacements(traces, edit):
+    """Takes the last trace away at a replacement."""
+    return traces[:-1] if edit.kind == book.REPLACE else RIGHT["traces_after"](traces, edit)
+
+
+def traces_of_mapping_stamps(held, edit):
+    """Remembers the stamp of the mapping that was held, and not that of its withdrawal."""
+    if edit.kind != book.WITHDRAW:
+        return RIGHT["after"](held, edit)
+    old = texts.moment_of(book.held(held, edit.identity).last_updated)
+    return RIGHT["after"](held, edit._replace(moment=old))
+
+
 def key_held_while_live(held, new):
     """Lets a key that an expired mapping has go to another."""
     living = tuple(mapping for mapping in held.mappings if RIGHT["is_live"](mapping, DAY_OF_MOST_SESSIONS))
@@ -184,6 +217,18 @@ WRONG_READINGS = [
     ("KeyHeld comes before NotNewer", "refusals", earlier(16, 15, "refusals")),
     ("KeyUnchanged comes before NotNewer", "refusals", earlier(17, 15, "refusals")),
     ("KeyHeld comes before IdentityHeld", "refusals", earlier(16, 13, "refusals")),
+    ("a withdrawal leaves no trace", "traces_after", lambda traces, edit: ()),
+    ("a withdrawn identity never comes back", "is_of_withdrawn", lambda edit, traces: any(
+        trace.identity == edit.identity for trace in traces)),
+    ("the stamp of a withdrawal is after itself", "is_of_withdrawn", lambda edit, traces: any(
+        trace.identity == edit.identity and edit.moment < trace.moment for trace in traces)),
+    ("a trace is of all sourceIds", "is_of_withdrawn", traced_by(0)),
+    ("a trace is of all sources", "is_of_withdrawn", traced_by(1)),
+    ("the first withdrawal of an identity counts", "traces_after", traces_of_first_withdrawals),
+    ("a trace has the stamp of what was held", "after", traces_of_mapping_stamps),
+    ("a commit forgets withdrawals", "commit", committed_without_traces),
+    ("a replacement takes a trace away", "traces_after", traces_end_with_replacements),
+    ("KeyHeld comes before Withdrawn", "refusals", earlier(16, 21, "refusals")),
     ("the order of polygons says nothing", "same_regions", lambda new, old: (
         sorted(new.polygons) == sorted(old.polygons) and new.patterns == old.patterns)),
     ("patterns change by comparison texts", "same_regions", same_regions_by_comparison),
@@ -243,4 +288,6 @@ CHANGES_NOTHING = [
         mapping for mapping in search.living(held, at) if mappings.holds(mapping, place)]),
     ("KeyUnchanged comes before KeyHeld: a key that is unchanged is held by no other mapping", "refusals", earlier(
         17, 16, "refusals")),
+    ("Withdrawn comes before IdentityHeld: an identity that is held has no trace", "refusals", earlier(
+        21, 13, "refusals")),
 ]

@@ -4,7 +4,7 @@ No answer depends on the clock: mappings expire long before or long after any ru
 """
 from typing import NamedTuple
 
-from drawn_edits import Edits
+from drawn_edits import KINDS_AT_DESK, Edits
 from drawn_requests import Requests
 from grounds import Ground, Town
 from oracle import LONGEST_LINE
@@ -42,7 +42,7 @@ class Endless(Session):
     def __init__(self, seed, spoiled=0.1, broken=0.03):
         self.dice = Dice(seed)
         self.name, self.now = NAME, LONG_AGO
-        self.theme = Theme(spoiled=spoiled, broken=broken, is_at_desk=True)
+        self.theme = Theme(spoiled=spoiled, broken=broken, edits=KINDS_AT_DESK)
         self.move()
         self.edits, self.requests = LiveEdits(self), Requests(self)
 
@@ -52,8 +52,8 @@ class Endless(Session):
         self.services = self.dice.sample(SERVICES[:4], 3)
 
     def forget(self):
-        """Forgets old identities and keys, so that requests are about what was there lately."""
-        for names in (self.edits.identities, self.edits.keys):
+        """Forgets old identities, keys and withdrawals, so that lines are about what was there lately."""
+        for names in (self.edits.identities, self.edits.keys, self.edits.withdrawals):
             del names[:-MOST_REMEMBERED]
 
     def request_line(self):

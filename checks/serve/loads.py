@@ -106,7 +106,8 @@ def end_of_lines(program, is_long):
 def full_speed(program, is_long):
     """a desk that sends 100,000 edits at full speed, while 64 connections ask"""
     count, at_once = 100_000, 500
-    edits = [publish(number % 5_000) if number // 5_000 % 2 == 0 else withdraw(number % 5_000) for number in range(count)]
+    turns = [(number % 5_000, number // 5_000) for number in range(count)]
+    edits = [withdraw(number, turn) if turn % 2 else publish(number, turn=turn) for number, turn in turns]
     asked = [0] * 64
     with Server(program, 64, 64) as server:
         desk, is_over = server.desk(), threading.Event()

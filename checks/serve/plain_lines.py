@@ -1,4 +1,5 @@
 """A few plain lines, the replies that they should get, and how checks say what is wrong."""
+import datetime
 import json
 import threading
 
@@ -13,22 +14,27 @@ def corner(number):
     return number % 170 * 10_000_000 - 850_000_000, number // 170 % 350 * 10_000_000 - 1_750_000_000
 
 
-def publish(number, expires="NO-EXPIRATION", service="sos.police"):
+def stamp(turn):
+    """A stamp, later than those of the turns before; a mapping that was withdrawn comes back by a later one alone."""
+    return (datetime.datetime(2025, 12, 1) + datetime.timedelta(hours=turn)).isoformat() + "Z"
+
+
+def publish(number, expires="NO-EXPIRATION", service="sos.police", turn=0):
     """A desk line that publishes a square of one degree, alone in its place."""
     south, west = corner(number)
     north, east = south + 10_000_000, west + 10_000_000
     ring = [[south, west], [south, east], [north, east], [north, west], [south, west]]
     described = {
         "source": "map.example", "sourceId": f"m{number}", "key": f"k{number}", "expires": expires,
-        "lastUpdated": "2025-12-01T00:00:00Z", "service": f"urn:service:{service}", "uri": [f"sip:m{number}@map.example"],
+        "lastUpdated": stamp(turn), "service": f"urn:service:{service}", "uri": [f"sip:m{number}@map.example"],
         "serviceBoundary": [{"polygon": ring, "profile": "geodetic-2d"}],
     }
     return json.dumps({"publish": described}).encode()
 
 
-def withdraw(number):
+def withdraw(number, turn=1):
     """A desk line that withdraws it."""
-    identity = {"source": "map.example", "sourceId": f"m{number}", "lastUpdated": "2025-12-02T00:00:00Z"}
+    identity = {"source": "map.example", "sourceId": f"m{number}", "lastUpdated": stamp(turn)}
     return json.dumps({"withdraw": identity}).encode()
 
 

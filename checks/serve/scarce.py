@@ -10,7 +10,7 @@ import time
 from clients import CHAPTER_SECONDS, SHORT_LIVES, Run
 from drawing import Chapter, history, long_requests
 from live import FORK, committed, start_clients, tell
-from plain_lines import LIST, publish, withdraw
+from plain_lines import LIST, publish, stamp, withdraw
 from places import ELEMENTS
 from server import COMMIT, Ended, Server
 from strict_json import write_json
@@ -36,7 +36,7 @@ def large_mapping(number):
         regions.append({"profile": "geodetic-2d", "polygon": [*ring, ring[0]]})
     mapping = {
         "source": "large.example", "sourceId": f"large{number}", "key": f"large{number}", "expires": "NO-EXPIRATION",
-        "lastUpdated": "2025-12-01T00:00:00Z", "service": "urn:service:large", "uri": ["sip:large@map.example"],
+        "lastUpdated": stamp(0), "service": "urn:service:large", "uri": ["sip:large@map.example"],
         "serviceBoundary": regions,
     }
     return write_json({"publish": mapping}).encode()
@@ -47,9 +47,14 @@ def long_pattern(dice, number):
     return {name: f"{number} {dice.randrange(1_000_000)} " + "v" * dice.choice([100, 490]) for name in ELEMENTS}
 
 
-def withdrawal(number):
+def at_turn(line, turn):
+    """The same desk line with the stamp of a later turn."""
+    return line.replace(stamp(0).encode(), stamp(turn).encode(), 1)
+
+
+def withdrawal(number, turn):
     """A desk line that withdraws it."""
-    identity = {"source": "large.example", "sourceId": f"large{number}", "lastUpdated": "2025-12-02T00:00:00Z"}
+    identity = {"source": "large.example", "sourceId": f"large{number}", "lastUpdated": stamp(turn)}
     return write_json({"withdraw": identity}).encode()
 
 
@@ -85,7 +90,7 @@ class ScarceDesk:
         refused = 0
         for number in range(MOST_LARGE):
             line = self.lines.setdefault(number, large_mapping(number))
-            reply = self.ask(line)
+            reply = self.ask(at_turn(line, 2 * self.fills))
             if reply.startswith(b'{"staged"'):
                 self.held.append(number)
             refused += (reply == MEMORY) + (self.ask(COMMIT) == MEMORY)
@@ -96,7 +101,7 @@ class ScarceDesk:
         """Withdraws the large mappings, each with its commit, where memory allows."""
         left = []
         for number in self.held:
-            if not self.ask(withdrawal(number)).startswith(b'{"staged"'):
+            if not self.ask(withdrawal(number, 2 * self.fills + 1)).startswith(b'{"staged"'):
                 left.append(number)
             self.ask(COMMIT)
         self.held = left

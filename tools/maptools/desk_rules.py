@@ -6,7 +6,7 @@ from typing import Any, Dict, List, NamedTuple, Optional, Tuple
 from maptools.texts import is_expires, is_id, is_number, is_source, lowered, moment_of, scheme_of, service_of, size
 
 GREATEST_LATITUDE, GREATEST_LONGITUDE = 900_000_000, 1_800_000_000
-MOST_POSITIONS, MOST_POLYGONS, MOST_PATTERNS, MOST_NAMES, MOST_MAPPINGS = 4096, 64, 256, 16, 65_536
+MOST_POSITIONS, MOST_POLYGONS, MOST_PATTERNS, MOST_NAMES, MOST_MAPPINGS, MOST_TRACES = 4096, 64, 256, 16, 65_536, 65_536
 GEODETIC, CIVIC = "geodetic-2d", "civic"
 ELEMENTS = frozenset(
     "country A1 A2 A3 A4 A5 A6 PRM PRD RD STS POD POM RDSEC RDBR RDSUBBR HNO HNS LMK LOC FLR NAM PC BLD UNIT ROOM SEAT "
@@ -26,15 +26,16 @@ class Fault(NamedTuple):
 
 
 class Book(NamedTuple):
-    """The mappings that are held, by identity and in the order of the list, and whose each key is."""
+    """The mappings that are held, by identity and in the order of the list, whose each key is, and the stamps of withdrawals."""
 
     held: Dict[Identity, Dict[str, Any]]
     keys: Dict[str, Identity]
+    traces: Dict[Identity, str]
 
 
 def empty_book() -> Book:
     """No mappings."""
-    return Book({}, {})
+    return Book({}, {}, {})
 
 
 def is_text_list(value: Any) -> bool:
@@ -183,18 +184,36 @@ def same_regions(one: Dict[str, Any], other: Dict[str, Any]) -> bool:
 
 
 def book_fault(book: Book, kind: str, value: Dict[str, Any]) -> Optional[Fault]:
-    """Codes 13 to 18, in the order of docs/PROTOCOL.md, for an edit that codes 1 to 12 let through."""
+    """Codes 13 to 18, 21 and 22, in the order of docs/PROTOCOL.md, for an edit that codes 1 to 12 let through."""
+    fault = identity_fault(book, kind, identity_of(value), value["lastUpdated"])
+    if fault:
+        return fault
+    if kind == "withdraw" and len(book.traces) >= MOST_TRACES:
+        return Fault(22, f"{MOST_TRACES:,} withdrawn mappings are remembered")
+    if kind == "publish" and len(book.held) >= MOST_MAPPINGS:
+        return Fault(18, f"{MOST_MAPPINGS:,} mappings are held")
+    return None if kind == "withdraw" else key_fault(book, value)
+
+
+def identity_fault(book: Book, kind: str, identity: Identity, stamp: str) -> Optional[Fault]:
+    """Codes 13, 21, 14 and 15: what is held with the identity, or was withdrawn, and when."""
+    old, withdrawn, name = book.held.get(identity), book.traces.get(identity), " ".join(identity)
+    if kind == "publish" and old is not None:
+        return Fault(13, f"{name} is held")
+    if kind == "publish" and withdrawn is not None and moment_of(stamp) <= moment_of(withdrawn):
+        return Fault(21, f"{name} was withdrawn at {withdrawn}, and {stamp} is not after it")
+    if kind != "publish" and old is None:
+        return Fault(14, f"{name} is not held")
+    if old is not None and moment_of(stamp) <= moment_of(old["lastUpdated"]):
+        return Fault(15, f"{stamp} is not after {old['lastUpdated']}")
+    return None
+
+
+def key_fault(book: Book, value: Dict[str, Any]) -> Optional[Fault]:
+    """Codes 16 and 17; a default has no key."""
     identity, key = identity_of(value), value.get("key")
     old = book.held.get(identity)
-    if kind == "publish" and old is not None:
-        return Fault(13, f"{identity[0]} {identity[1]} is held")
-    if kind != "publish" and old is None:
-        return Fault(14, f"{identity[0]} {identity[1]} is not held")
-    if old is not None and moment_of(value["lastUpdated"]) <= moment_of(old["lastUpdated"]):
-        return Fault(15, f"{value['lastUpdated']} is not after {old['lastUpdated']}")
-    if kind == "publish" and len(book.held) >= MOST_MAPPINGS:
-        return Fault(18, "65,536 mappings are held")
-    if kind == "withdraw" or key is None:
+    if key is None:
         return None
     if book.keys.get(key, identity) != identity:
         return Fault(16, f"the key {key} is that of {' '.join(book.keys[key])}")
@@ -204,7 +223,7 @@ def book_fault(book: Book, kind: str, value: Dict[str, Any]) -> Optional[Fault]:
 
 
 def edit_fault(book: Book, kind: str, value: Any) -> Optional[Fault]:
-    """The refusal that an edit gets, codes 1 to 18; None where it is accepted."""
+    """The refusal that an edit gets, codes 1 to 18, 21 and 22; None where it is accepted."""
     alone = withdrawal_fault(value) if kind == "withdraw" else mapping_fault(value)
     return alone or book_fault(book, kind, value)
 
@@ -217,7 +236,9 @@ def apply_edit(book: Book, kind: str, value: Dict[str, Any]) -> None:
         del book.keys[old["key"]]
     if kind == "withdraw":
         del book.held[identity]
+        book.traces[identity] = value["lastUpdated"]
         return
     book.held[identity] = value
+    book.traces.pop(identity, None)
     if value.get("key") is not None:
         book.keys[value["key"]] = identity

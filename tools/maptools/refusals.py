@@ -33,6 +33,8 @@ REFUSALS: Dict[int, Refusal] = {
     18: Refusal("Full", "65,536 mappings are held", "withdraw one first, or join mappings"),
     19: Refusal("EditsSpent", "4,294,967,295 edits were accepted", "start the server again, and publish the map again"),
     20: Refusal("Memory", "the server has no memory for it; nothing changed", "send the line again later"),
+    21: Refusal("Withdrawn", "it was withdrawn, at this lastUpdated or later", "drop the line; if it shall come back, give a later stamp"),
+    22: Refusal("TracesFull", "65,536 withdrawn mappings are remembered", "publish one of them again, with a later stamp"),
 }
 
 ERRORS: Dict[str, str] = {

@@ -6,7 +6,7 @@ import json
 import unittest
 from typing import Any, Dict
 
-from maptools.desk_rules import EDITS, Book, apply_edit, edit_fault, empty_book
+from maptools.desk_rules import EDITS, MOST_MAPPINGS, MOST_TRACES, Book, apply_edit, edit_fault, empty_book
 from maptools.lines import read_line
 from maptools.refusals import ERRORS, REFUSALS, WARNINGS
 from tests.running import TOP
@@ -59,3 +59,84 @@ class Sessions(unittest.TestCase):
             self.assertIn(f"\n| {code} | {refusal.name} |", text)
         for name in (*ERRORS, *WARNINGS):
             self.assertIn(f"\n| `{name}` |", text)
+
+
+DAY = "2025-12-0%dT00:00:00%sZ"
+# Edits in turn, each with an identity and a stamp, and the code that refuses it, 0 where it is accepted.
+WITHDRAWALS = [
+    ("publish", "map.example", "A", DAY % (1, ""), 0),
+    ("withdraw", "map.example", "A", DAY % (4, ""), 0),
+    ("publish", "map.example", "A", DAY % (1, ""), 21),
+    ("publish", "MAP.example", "A", DAY % (4, ".0"), 21),
+    ("replace", "map.example", "A", DAY % (5, ""), 14),
+    ("withdraw", "map.example", "A", DAY % (5, ""), 14),
+    ("publish", "other.example", "A", DAY % (1, ""), 0),
+    ("publish", "map.example", "a", DAY % (1, ""), 0),
+    ("publish", "map.example", "A", DAY % (4, ".000000001"), 0),
+    ("publish", "map.example", "A", DAY % (1, ""), 13),
+    ("replace", "map.example", "A", DAY % (5, ""), 0),
+    ("withdraw", "map.example", "A", DAY % (5, ".00"), 15),
+    ("withdraw", "map.example", "A", DAY % (6, ""), 0),
+    ("publish", "map.example", "A", DAY % (5, ""), 21),
+    ("publish", "map.example", "A", DAY % (7, ""), 0),
+]
+# The same at a book that remembers one withdrawal less than it may, of other mappings.
+MANY_WITHDRAWALS = [
+    ("publish", "map.example", "A", DAY % (1, ""), 0),
+    ("publish", "map.example", "B", DAY % (1, ""), 0),
+    ("withdraw", "map.example", "A", DAY % (2, ""), 0),
+    ("withdraw", "map.example", "B", DAY % (2, ""), 22),
+    ("withdraw", "map.example", "B", DAY % (1, ""), 15),
+    ("withdraw", "map.example", "C", DAY % (2, ""), 14),
+    ("replace", "map.example", "B", DAY % (2, ""), 0),
+    ("publish", "map.example", "A", DAY % (3, ""), 0),
+    ("withdraw", "map.example", "B", DAY % (3, ""), 0),
+    ("withdraw", "map.example", "A", DAY % (4, ""), 22),
+]
+
+
+def edit_of(kind: str, source: str, source_id: str, stamp: str) -> Dict[str, Any]:
+    """The value of an edit: an identity and a stamp, and for a mapping a default's other members."""
+    named = {"source": source, "sourceId": source_id, "lastUpdated": stamp}
+    of_default = {"expires": "NO-CACHE", "service": "urn:service:sos", "uri": ["sip:x@map.example"], "default": True}
+    return named if kind == "withdraw" else {**named, **of_default}
+
+
+def code_of(book: Book, kind: str, *said: str) -> int:
+    """The code that refuses an edit, which otherwise changes the book; 0 where it is accepted."""
+    value = edit_of(kind, *said)
+    fault = edit_fault(book, kind, value)
+    if fault:
+        return fault.code
+    apply_edit(book, kind, value)
+    return 0
+
+
+class Withdrawals(unittest.TestCase):
+    """What a book remembers of a withdrawal."""
+
+    def compare(self, book: Book, rows: list) -> None:
+        for number, (*said, wanted) in enumerate(rows, 1):
+            self.assertEqual(code_of(book, *said), wanted, f"row {number}: {said}")
+
+    def test_a_withdrawn_identity_keeps_its_stamp(self) -> None:
+        self.compare(empty_book(), WITHDRAWALS)
+
+    def test_so_many_are_remembered_and_no_more(self) -> None:
+        book = empty_book()
+        book.traces.update({("gone.example", str(number)): DAY % (1, "") for number in range(MOST_TRACES - 1)})
+        self.compare(book, MANY_WITHDRAWALS)
+
+    def test_withdrawn_comes_before_full(self) -> None:
+        book = empty_book()
+        book.traces["map.example", "A"] = DAY % (4, "")
+        book.held.update({("held.example", str(number)): {} for number in range(MOST_MAPPINGS)})
+        self.assertEqual(code_of(book, "publish", "map.example", "A", DAY % (4, "")), 21)
+        self.assertEqual(code_of(book, "publish", "map.example", "A", DAY % (5, "")), 18)
+
+    def test_the_texts_name_both_stamps(self) -> None:
+        book = empty_book()
+        book.traces["map.example", "A"] = DAY % (4, "")
+        fault = edit_fault(book, "publish", edit_of("publish", "map.example", "A", DAY % (1, "")))
+        said = "map.example A was withdrawn at 2025-12-04T00:00:00Z, and 2025-12-01T00:00:00Z is not after it"
+        self.assertEqual(None if fault is None else fault.what, said)
