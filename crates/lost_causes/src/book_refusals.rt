@@ -1,4 +1,4 @@
-//! Codes 13 to 19: what the mappings that are held say against an edit.
+//! Codes 13 to 19, 21 and 22: what a book says against an edit.
 use crate::object::Object;
 use crate::quoting::quoted;
 use crate::stop::{Stop, found};
@@ -6,12 +6,14 @@ use lost_book::{Register, has_key};
 use lost_mapping::{Identity, Mapping};
 use lost_query::Holdings;
 use lost_routing::Routing;
+use std::alloc::{AllocError, Global};
 
-/// What the mappings that are held, staged edits counted, say against an edit that is refused with this code.
+/// What the book, staged edits counted, says against an edit that is refused with this code.
 pub(crate) fn book_refusal(edit: &Object<'_>, code: u8, staged: &Routing) -> Result<(), Stop> {
     match code {
         18 => full(edit, staged),
         19 => spent(edit, staged),
+        22 => traces_full(edit, staged),
         _ => match identity(edit)? {
             Some(identity) => against(edit, code, staged, &identity),
             None => Ok(()),
@@ -33,7 +35,7 @@ fn identity(edit: &Object<'_>) -> Result<Option<Identity>, Stop> {
     }
 }
 
-/// What is held against an edit of the mapping with this identity.
+/// What the book has against an edit of the mapping with this identity.
 fn against(edit: &Object<'_>, code: u8, staged: &Routing, identity: &Identity) -> Result<(), Stop> {
     let alloc = edit.alloc;
     let source = identity.source().text();
@@ -44,6 +46,7 @@ fn against(edit: &Object<'_>, code: u8, staged: &Routing, identity: &Identity) -
         15 => not_newer(edit, staged, identity),
         16 => key_held(edit, staged, identity),
         17 => key_unchanged(edit),
+        21 => withdrawn(edit, staged, identity),
         _ => Ok(()),
     }
 }
@@ -107,4 +110,34 @@ fn full(edit: &Object<'_>, staged: &Routing) -> Result<(), Stop> {
 fn spent(edit: &Object<'_>, staged: &Routing) -> Result<(), Stop> {
     let count = staged.edition();
     Err(found(format!(in edit.alloc; "{count} edits were accepted, and no more may be")))
+}
+
+/// Code 21: the stamp is not after that of the withdrawal.
+fn withdrawn(edit: &Object<'_>, staged: &Routing, identity: &Identity) -> Result<(), Stop> {
+    let Some(trace) = staged.withdrawn(identity) else {
+        return Ok(());
+    };
+    let shown = quoted(edit.alloc, identity.source_id())?;
+    let then = trace.text();
+    let now = edit.text("lastUpdated").unwrap_or("");
+    Err(found(format!(in edit.alloc;
+        "{shown} was withdrawn at {then}, and this publish is stamped {now}"
+    )))
+}
+
+/// Code 22: as many withdrawn mappings are remembered as may be.
+fn traces_full(edit: &Object<'_>, staged: &Routing) -> Result<(), Stop> {
+    let count = with_comma(edit.alloc, staged.limits().traces())?;
+    Err(found(format!(in edit.alloc;
+        "{count} withdrawn mappings are remembered, and no more can be: publish one of them again"
+    )))
+}
+
+/// A number below a million, with a comma before its thousands.
+fn with_comma(alloc: Global, number: u32) -> Result<String, AllocError> {
+    if number < 1_000 {
+        return format!(in alloc; "{number}");
+    }
+    let (thousands, rest) = (number / 1_000, number % 1_000);
+    format!(in alloc; "{thousands},{rest:03}")
 }

@@ -14,8 +14,8 @@ use lost_routing::Routing;
 use serde_json::Value;
 use std::alloc::{AllocError, Global};
 
-/// Why a desk line is refused with this code, from 1 to 20, in words, where the book of what is staged is `staged`. The
-/// words are empty where no cause is found. Fails for want of memory.
+/// Why a desk line is refused with this code of the desk's table, in words, where the book of what is staged is `staged`.
+/// The words are empty where no cause is found. Fails for want of memory.
 pub fn refusal_cause(
     alloc: Global,
     line: &[u8],

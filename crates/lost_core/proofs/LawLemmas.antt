@@ -6,9 +6,9 @@ use Rattle.std.proofs.lemmas.Bool.{cond_both, cond-true, and_parts}
 use Rattle.std.proofs.lemmas.List.{take_all}
 use Rattle.std.proofs.lemmas.Option.{none-some}
 use Rattle.lost_spec.specs.declared.faults.EditError.{EditError}
-use Rattle.lost_spec.specs.declared.faults.EditError.TheVariants.{IdentityHeld, IdentityUnknown, NotNewer, KeyHeld, KeyUnchanged, Full, EditsSpent, Memory}
+use Rattle.lost_spec.specs.declared.faults.EditError.TheVariants.{IdentityHeld, IdentityUnknown, NotNewer, KeyHeld, KeyUnchanged, Full, EditsSpent, Memory, Withdrawn, TracesFull}
 use Rattle.lost_spec.specs.Text.{first_fault}
-use Rattle.lost_spec.specs.Book.{Limits, Book, Edit, Publish as PublishEdit, Replace, Withdraw, identity_of, held, is_held, is_spent, is_full, is_key_held, is_not_newer, is_key_unchanged, refusal, after, accepts, is_accepted, empty_book, book_of}
+use Rattle.lost_spec.specs.Book.{Limits, Book, Edit, Publish as PublishEdit, Replace, Withdraw, identity_of, held, is_held, is_spent, is_full, is_key_held, is_not_newer, is_not_after, is_key_unchanged, has_most_traces, withdrawn, refusal, after, accepts, is_accepted, empty_book, book_of}
 use Rattle.lost_spec.specs.Laws.{BeginsWith}
 use Rattle.lost_core.specs.World.{Step, Stage, Publish, Enter, Tell, Answer, Refused, World, step_at, staged_edit, keep, kept_of, accepted, published, last_publish, met_by, met, most_met, seen, staging, event_by}
 use Rattle.lost_core.specs.Lawful.{WorldsAreLawful, PublishedIsAccepted, NoRefusalIsMemory}
@@ -94,12 +94,13 @@ published_accepted world i =
 
 -- ---- no refusal is want of memory
 
-publish_clear : (spent held full key : Bool) → first_fault ((spent, EditsSpent) ∷ (held, IdentityHeld) ∷ (full, Full) ∷ (key, KeyHeld) ∷ []) ≢ Some Memory
-publish_clear true held full key e = cc
-publish_clear false true full key e = cc
-publish_clear false false true key e = cc
-publish_clear false false false true e = cc
-publish_clear false false false false e = cc
+publish_clear : (spent held gone full key : Bool) → first_fault ((spent, EditsSpent) ∷ (held, IdentityHeld) ∷ (gone, Withdrawn) ∷ (full, Full) ∷ (key, KeyHeld) ∷ []) ≢ Some Memory
+publish_clear true held gone full key e = cc
+publish_clear false true gone full key e = cc
+publish_clear false false true full key e = cc
+publish_clear false false false true key e = cc
+publish_clear false false false false true e = cc
+publish_clear false false false false false e = cc
 
 replace_clear : (spent unknown old key same : Bool) → first_fault ((spent, EditsSpent) ∷ (unknown, IdentityUnknown) ∷ (old, NotNewer) ∷ (key, KeyHeld) ∷ (same, KeyUnchanged) ∷ []) ≢ Some Memory
 replace_clear true unknown old key same e = cc
@@ -109,17 +110,19 @@ replace_clear false false false true same e = cc
 replace_clear false false false false true e = cc
 replace_clear false false false false false e = cc
 
-withdraw_clear : (spent unknown old : Bool) → first_fault ((spent, EditsSpent) ∷ (unknown, IdentityUnknown) ∷ (old, NotNewer) ∷ []) ≢ Some Memory
-withdraw_clear true unknown old e = cc
-withdraw_clear false true old e = cc
-withdraw_clear false false true e = cc
-withdraw_clear false false false e = cc
+withdraw_clear : (spent unknown old most : Bool) → first_fault ((spent, EditsSpent) ∷ (unknown, IdentityUnknown) ∷ (old, NotNewer) ∷ (most, TracesFull) ∷ []) ≢ Some Memory
+withdraw_clear true unknown old most e = cc
+withdraw_clear false true old most e = cc
+withdraw_clear false false true most e = cc
+withdraw_clear false false false true e = cc
+withdraw_clear false false false false e = cc
 
 refusal_clear : (b : Book) (edit : Edit) → refusal b edit ≢ Some Memory
-refusal_clear b (PublishEdit m) = publish_clear (is_spent b) (is_held b (identity_of m)) (is_full b) (is_key_held b (identity_of m) m.key)
+refusal_clear b (PublishEdit m) =
+    publish_clear (is_spent b) (is_held b (identity_of m)) (is_not_after (withdrawn b (identity_of m)) m.stamp) (is_full b) (is_key_held b (identity_of m) m.key)
 refusal_clear b (Replace m) =
     replace_clear (is_spent b) (not (is_held b (identity_of m))) (is_not_newer (held b (identity_of m)) m.stamp) (is_key_held b (identity_of m) m.key) (is_key_unchanged (held b (identity_of m)) m)
-refusal_clear b (Withdraw id stamp) = withdraw_clear (is_spent b) (not (is_held b id)) (is_not_newer (held b id) stamp)
+refusal_clear b (Withdraw id stamp) = withdraw_clear (is_spent b) (not (is_held b id)) (is_not_newer (held b id) stamp) (has_most_traces b)
 
 staging_clear : (o : Option EditError) (pending : ℕ) → o ≢ Some Memory → staging o pending ≢ Refused Memory
 staging_clear None pending clear e = cc

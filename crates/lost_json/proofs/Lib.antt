@@ -1,3 +1,4 @@
 pub mod ListLemmas
 pub mod StreamLemmas
 pub mod OutcomeLemmas
+pub mod FaultLemmas

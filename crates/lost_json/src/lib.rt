@@ -9,6 +9,7 @@ mod replies;
 pub use line::{reply_line, reply_request};
 pub use lost_reading::{DeskFault, DeskLine, ReadError, read_desk, read_request};
 pub use lost_writing::{
-    BAD_REQUEST, DeskReply, DeskText, INTERNAL_ERROR, law_constant_lines, write_desk, write_reply,
+    BAD_REQUEST, DeskReply, DeskText, INTERNAL_ERROR, is_code, law_constant_lines, write_desk,
+    write_reply,
 };
 pub use replies::{bad_request, desk_answer, internal_error};

@@ -1,5 +1,5 @@
 -- The desk's replies. (Own format.)
-use Rattle.std.specs.Prelude.{ℕ, ◌-◌, ◌≤◌, List, [], ◌∷◌, codes}
+use Rattle.std.specs.Prelude.{ℕ, ◌-◌, ◌≤◌, List, [], ◌∷◌, length, codes}
 use Rattle.std.specs.List.{slice_index_or}
 use Rattle.serde_json.specs.Data.{Data, number, string, object, unsigned, no_members, member}
 use Rattle.lost_spec.specs.Text.{Text}
@@ -13,12 +13,13 @@ refusal_names =
     codes "BadLine" ∷ codes "BadSource" ∷ codes "BadSourceId" ∷ codes "BadStamp" ∷ codes "BadExpires"
     ∷ codes "BadService" ∷ codes "BadUri" ∷ codes "BadNumber" ∷ codes "BadRegion" ∷ codes "RegionMissing"
     ∷ codes "TooLarge" ∷ codes "BadKey" ∷ codes "IdentityHeld" ∷ codes "IdentityUnknown" ∷ codes "NotNewer"
-    ∷ codes "KeyHeld" ∷ codes "KeyUnchanged" ∷ codes "Full" ∷ codes "EditsSpent" ∷ codes "Memory" ∷ []
+    ∷ codes "KeyHeld" ∷ codes "KeyUnchanged" ∷ codes "Full" ∷ codes "EditsSpent" ∷ codes "Memory"
+    ∷ codes "Withdrawn" ∷ codes "TracesFull" ∷ []
 
--- a number of the table of refusals
+-- a number of the table of refusals: each name there has one
 pub record IsCode (code : ℕ) : Type 0 where
   pub least : 1 ≤ code
-  pub most : code ≤ 20
+  pub most : code ≤ length refusal_names
 
 -- the name of a refusal
 abbrev pub refusal_name : ℕ → Text

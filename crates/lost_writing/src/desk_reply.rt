@@ -1,5 +1,5 @@
 //! The desk's replies. Rules without a section are this profile's own.
-ghost use Rattle.std.specs.Prelude.{◌≡◌};
+ghost use Rattle.std.specs.Prelude.{◌≡◌, ◌↔◌, IsTrue};
 ghost use Rattle.lost_writing.specs.DeskReplies.{desk_text, IsCode, IsInTable, refusal_name as refusal_name_of};
 ghost use Rattle.lost_writing.specs.PlainNames.{IsPlainName};
 
@@ -16,7 +16,17 @@ pub enum DeskReply {
     Refused(u8),
 }
 
-/// The name of a refusal, which stands in JSON as it is. The caller has: its code is from 1 to 20.
+/// The greatest code of the table of refusals.
+const LAST_CODE: u8 = 22;
+
+/// Whether a number is that of a refusal of the table.
+pub fn is_code(code: u8) -> bool
+    ensures { IsTrue result ↔ IsCode code }
+{
+    code >= 1 && code <= LAST_CODE
+}
+
+/// The name of a refusal, which stands in JSON as it is. The caller has: its code is one of the table.
 #[tactic(auto, unfolding(serde_json::proofs::OnLiterals::serde_json_on_literals))]
 pub fn refusal_name(code: u8) -> &'static str
     requires { IsCode code }
@@ -43,7 +53,9 @@ pub fn refusal_name(code: u8) -> &'static str
         17 => "KeyUnchanged",
         18 => "Full",
         19 => "EditsSpent",
-        _ => "Memory",
+        20 => "Memory",
+        21 => "Withdrawn",
+        _ => "TracesFull",
     }
 }
 
@@ -83,7 +95,7 @@ fn write_refused(code: u8) -> DeskText
     text
 }
 
-/// Writes a desk's reply. The caller has: a refusal is one of the table, 1 to 20.
+/// Writes a desk's reply. The caller has: a refusal is one of the table.
 pub fn write_desk(reply: &DeskReply) -> DeskText
     requires { IsInTable reply.now }
     ensures { result ≡ desk_text reply.now }

@@ -7,6 +7,6 @@ mod token_text;
 mod writing;
 
 pub use constant_lines::{BAD_REQUEST, INTERNAL_ERROR, law_constant_lines};
-pub use desk_reply::{DeskReply, refusal_name, write_desk};
+pub use desk_reply::{DeskReply, is_code, refusal_name, write_desk};
 pub use lost_text::DeskText;
 pub use writing::write_reply;
