@@ -1,9 +1,9 @@
 -- How the two books go with the lists of edits that they are of.
-use Rattle.std.proofs.Common.{◌≡◌, ◌≢◌, ◌+◌, ◌-◌, false, List, [], ◌∷◌, ◌++◌, Option, None, Some, Result, Ok, Err, IfErr, OnOk, OnErr, refl, ap, sym, ◌∙◌, length-append}
+use Rattle.std.proofs.Common.{◌≡◌, ◌≢◌, ◌+◌, ◌-◌, ⊎_elim, false, List, [], ◌∷◌, ◌++◌, Option, None, Some, Result, Ok, Err, IfErr, OnOk, OnErr, refl, ap, sym, ◌∙◌, length-append}
 use Rattle.std.specs.Result.{result_err}
 use Rattle.std.proofs.lemmas.List.Sums.{fold-append}
 use Rattle.lost_spec.specs.declared.faults.EditError.{EditError}
-use Rattle.lost_spec.specs.declared.faults.EditError.TheVariants.{IdentityHeld, IdentityUnknown, NotNewer, KeyHeld, KeyUnchanged, Full, EditsSpent, Memory}
+use Rattle.lost_spec.specs.declared.faults.EditError.TheVariants.{Memory}
 use Rattle.lost_spec.specs.Text.{Text}
 use Rattle.lost_spec.specs.Moment.{Instant}
 use Rattle.lost_spec.specs.Book.{Book, Edit, refusal, after, changed, book_of}
@@ -14,6 +14,7 @@ use Rattle.lost_writing.specs.DeskReplies.{desk_text}
 use Rattle.lost_lines.specs.Run.{Whole, Reply}
 use Rattle.lost_json.specs.Stream.{Lists, Unmarked, RefusedMemory, edit_text}
 use Rattle.lost_json.specs.Step.{IsAnswered}
+use Rattle.lost_json.proofs.FaultLemmas.{memory_or_other}
 use Rattle.lost_replay.specs.Books.{Books, AreBooksOf, BooksStep}
 use Rattle.lost_replay.specs.Pair.{with_staged, with_committed}
 use Rattle.lost_replay.specs.Replay.{replay_terms}
@@ -106,14 +107,11 @@ module _ (name : Text) (t : Instant) (line : Text) (old new : Books) (reply : Re
         → IfErr result (λ e. e ≢ Memory → refusal old.staged edit ≡ Some e) → (result ≡ Err Memory → refusal old.staged edit ≡ None) → OnErr result (new ≡ old)
         → Tells (result_err result) → StepTo
     staged_step (Ok done) accepted changed refused memory unchanged told = taken accepted changed told
-    staged_step (Err IdentityHeld) accepted changed refused memory unchanged told = refused_edit IdentityHeld (refused (λ same. absurd (cc))) unchanged told
-    staged_step (Err IdentityUnknown) accepted changed refused memory unchanged told = refused_edit IdentityUnknown (refused (λ same. absurd (cc))) unchanged told
-    staged_step (Err NotNewer) accepted changed refused memory unchanged told = refused_edit NotNewer (refused (λ same. absurd (cc))) unchanged told
-    staged_step (Err KeyHeld) accepted changed refused memory unchanged told = refused_edit KeyHeld (refused (λ same. absurd (cc))) unchanged told
-    staged_step (Err KeyUnchanged) accepted changed refused memory unchanged told = refused_edit KeyUnchanged (refused (λ same. absurd (cc))) unchanged told
-    staged_step (Err Full) accepted changed refused memory unchanged told = refused_edit Full (refused (λ same. absurd (cc))) unchanged told
-    staged_step (Err EditsSpent) accepted changed refused memory unchanged told = refused_edit EditsSpent (refused (λ same. absurd (cc))) unchanged told
-    staged_step (Err Memory) accepted changed refused memory unchanged told = short (memory refl) unchanged told
+    staged_step (Err e) accepted changed refused memory unchanged told =
+        ⊎_elim
+        (λ is. short (memory (ap Err is)) unchanged (rw is at told))
+        (λ other. refused_edit e (refused other) unchanged told)
+        (memory_or_other e)
 
   -- all that is staged is published
   pub committed_step : desk_line line ≡ Some (Ok Commit) → new ≡ with_committed old → reply ≡ record { text = desk_text (Committed new.published.edits); is_internal_error = false } → StepTo
