@@ -1,7 +1,7 @@
 -- The steps of a desk by an edit and by a commit, by what became of them.
-use Rattle.std.proofs.Common.{◌≡◌, ◌≢◌, ℕ, ◌-◌, false, List, [], ◌∷◌, ◌++◌, length, None, Some, Ok, refl, ap, sym, ◌∙◌, append_assoc, append-nil, length-append, arith}
+use Rattle.std.proofs.Common.{◌≡◌, ◌≢◌, ⊎_elim, ℕ, ◌-◌, false, List, [], ◌∷◌, ◌++◌, length, None, Some, Ok, refl, ap, sym, ◌∙◌, append_assoc, append-nil, length-append, arith}
 use Rattle.lost_spec.specs.declared.faults.EditError.{EditError}
-use Rattle.lost_spec.specs.declared.faults.EditError.TheVariants.{IdentityHeld, IdentityUnknown, NotNewer, KeyHeld, KeyUnchanged, Full, EditsSpent, Memory}
+use Rattle.lost_spec.specs.declared.faults.EditError.TheVariants.{Memory}
 use Rattle.lost_spec.specs.Text.{Text}
 use Rattle.lost_spec.specs.Codes.{edit_code}
 use Rattle.lost_spec.specs.Book.{Edit, refusal}
@@ -11,6 +11,7 @@ use Rattle.lost_writing.specs.DeskReplies.{desk_text}
 use Rattle.lost_desk.specs.Seen.{DeskSeen, staged_book, with_staged, with_committed}
 use Rattle.lost_lines.specs.Run.{Reply}
 use Rattle.lost_json.specs.Stream.{Unmarked, RefusedMemory, refused_text}
+use Rattle.lost_json.proofs.FaultLemmas.{memory_or_other}
 use Rattle.lost_worker.specs.Desking.{IsJudged, IsSameDesk, desk_terms, lists_of}
 
 pub IsSameDesk-from_staged : (old new : DeskSeen) (edit : Edit) → new ≡ with_staged old edit → IsSameDesk old new
@@ -73,14 +74,11 @@ module _ (line : Text) (old new : DeskSeen) (edit : Edit) (reply : Reply) where
   }
 
   pub refused_step : (e : EditError) → (e ≢ Memory → refusal (staged_book old) edit ≡ Some e) → (e ≡ Memory → refusal (staged_book old) edit ≡ None) → new ≡ old → Says (refused_text (edit_code e)) → StepTo
-  refused_step IdentityHeld refused memory unchanged said = refused_edit IdentityHeld (refused (λ same. absurd (cc))) unchanged said
-  refused_step IdentityUnknown refused memory unchanged said = refused_edit IdentityUnknown (refused (λ same. absurd (cc))) unchanged said
-  refused_step NotNewer refused memory unchanged said = refused_edit NotNewer (refused (λ same. absurd (cc))) unchanged said
-  refused_step KeyHeld refused memory unchanged said = refused_edit KeyHeld (refused (λ same. absurd (cc))) unchanged said
-  refused_step KeyUnchanged refused memory unchanged said = refused_edit KeyUnchanged (refused (λ same. absurd (cc))) unchanged said
-  refused_step Full refused memory unchanged said = refused_edit Full (refused (λ same. absurd (cc))) unchanged said
-  refused_step EditsSpent refused memory unchanged said = refused_edit EditsSpent (refused (λ same. absurd (cc))) unchanged said
-  refused_step Memory refused memory unchanged said = short (memory refl) unchanged said
+  refused_step e refused memory unchanged said =
+      ⊎_elim
+      (λ is. short (memory is) unchanged (rw is at said))
+      (λ other. refused_edit e (refused other) unchanged said)
+      (memory_or_other e)
 
 module _ (line : Text) (old new : DeskSeen) (reply : Reply) where
   -- all that is pending is published
