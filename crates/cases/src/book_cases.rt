@@ -7,8 +7,8 @@ use crate::stamp_cases::{identity, stamp};
 use crate::trouble::Trouble;
 use crate::urn_cases::service;
 use crate::words::{owned, refused, yes_or_no};
-use lost_book::{Book, Edit, EditError, Limits};
-use lost_mapping::{Mapping, Moment};
+use lost_book::{Book, Edit, EditError, Limits, Register};
+use lost_mapping::{Identity, Mapping, Moment};
 use lost_query::{Holdings, Place};
 use lost_spec::Coded;
 use std::alloc::Global;
@@ -46,8 +46,10 @@ impl Shelf {
     ) -> Result<String, Trouble> {
         match call {
             "book limits" => new_limits(alloc, limits(fields)?),
+            "book limits with traces" => new_limits(alloc, limits_with_traces(fields)?),
             "book widest limits" => new_limits(alloc, Some(Limits::widest())),
             "book new" => self.begin(alloc, limits(fields)?),
+            "book new with traces" => self.begin(alloc, limits_with_traces(fields)?),
             "book copy" => self.keep_copy(alloc),
             "book turn to the copy" => self.turn(alloc),
             "book publish many" => self.publish_many(alloc, fields.count(1)?, fields.text(2)?),
@@ -116,16 +118,27 @@ fn numbered(alloc: Global, number: u64, description: &str) -> Result<Mapping, Tr
 
 /// The limits of two numbers, which stand in the first two fields.
 fn limits(fields: &Fields) -> Result<Option<Limits>, Trouble> {
-    let mappings = u32::try_from(fields.count(1)?).map_err(|_| Trouble::NoCase)?;
-    let edits = u32::try_from(fields.count(2)?).map_err(|_| Trouble::NoCase)?;
-    Ok(Limits::new(mappings, edits))
+    Ok(Limits::new(limit(fields, 1)?, limit(fields, 2)?))
+}
+
+/// The limits of three numbers, which stand in the first three fields.
+fn limits_with_traces(fields: &Fields) -> Result<Option<Limits>, Trouble> {
+    match limits(fields)? {
+        Some(limits) => Ok(limits.with_traces(limit(fields, 3)?)),
+        None => Ok(None),
+    }
+}
+
+fn limit(fields: &Fields, position: usize) -> Result<u32, Trouble> {
+    u32::try_from(fields.count(position)?).map_err(|_| Trouble::NoCase)
 }
 
 fn new_limits(alloc: Global, limits: Option<Limits>) -> Result<String, Trouble> {
     match limits {
         Some(limits) => {
             let (mappings, edits) = (limits.mappings(), limits.edits());
-            Ok(format!(in alloc; "{mappings} {edits}")?)
+            let traces = limits.traces();
+            Ok(format!(in alloc; "{mappings} {edits} {traces}")?)
         }
         None => owned(alloc, "none"),
     }
@@ -147,11 +160,11 @@ fn edit(alloc: Global, call: &str, fields: &Fields) -> Result<Edit, Trouble> {
 /// Applies a copy of an edit, and the edit itself where memory ran out. What is refused leaves the book as it was, and
 /// `check` says the same.
 fn apply(alloc: Global, book: &mut Book, edit: Edit) -> Result<String, Trouble> {
-    let before = held(alloc, book)?;
+    let before = kept(alloc, book, &edit)?;
     let copy = edit.clone()?;
     let checked = book.check(&edit);
     let mut applied = book.apply(copy);
-    if applied.is_err() && held(alloc, book)? != before {
+    if applied.is_err() && kept(alloc, book, &edit)? != before {
         return owned(alloc, "refused, and the book changed");
     }
     if applied == Err(EditError::Memory) {
@@ -162,6 +175,30 @@ fn apply(alloc: Global, book: &mut Book, edit: Edit) -> Result<String, Trouble> 
         _ if applied != checked => owned(alloc, "at odds with the check"),
         Err(refusal) => refused(alloc, refusal.code()),
         Ok(()) => owned(alloc, "accepted"),
+    }
+}
+
+/// What is held, how many withdrawn identities are remembered, and the stamp of the withdrawal of that of an edit.
+fn kept(alloc: Global, book: &Book, edit: &Edit) -> Result<String, Trouble> {
+    let held = held(alloc, book)?;
+    let count = Register::trace_count(book);
+    let withdrawn = withdrawn(alloc, book, edited(edit))?;
+    Ok(format!(in alloc; "{held} {count} {withdrawn}")?)
+}
+
+/// The identity of an edit.
+fn edited(edit: &Edit) -> &Identity {
+    match edit {
+        Edit::Publish(mapping) | Edit::Replace(mapping) => mapping.identity(),
+        Edit::Withdraw(identity, _) => identity,
+    }
+}
+
+/// The stamp of the withdrawal that is remembered of an identity.
+fn withdrawn(alloc: Global, book: &Book, identity: &Identity) -> Result<String, Trouble> {
+    match Register::withdrawn(book, identity) {
+        Some(stamp) => owned(alloc, stamp.text()),
+        None => owned(alloc, "none"),
     }
 }
 
@@ -187,8 +224,14 @@ fn push_held(text: &mut String, mapping: &Mapping) -> Result<(), Trouble> {
 
 /// What the book answers.
 fn asked(alloc: Global, book: &Book, call: &str, fields: &Fields) -> Result<String, Trouble> {
-    if call == "book held" {
-        return held(alloc, book);
+    match call {
+        "book held" => return held(alloc, book),
+        "book traces" => return Ok(format!(in alloc; "{}", Register::trace_count(book))?),
+        "book withdrawn" => {
+            let identity = identity(alloc, fields.text(1)?, fields.text(2)?)?;
+            return withdrawn(alloc, book, &identity);
+        }
+        _ => {}
     }
     let moment = stamp(alloc, fields.bytes(1)?)?.moment();
     let text = fields.text(2)?;

@@ -3,11 +3,11 @@ use crate::fields::Fields;
 use crate::mapping_cases::shown;
 use crate::stamp_cases::{source, stamp};
 use crate::trouble::Trouble;
-use crate::words::{owned, push_pairs, refused};
+use crate::words::{owned, push_pairs, refused, yes_or_no};
 use lost_book::{Book, Edit};
 use lost_json::{
-    DeskFault, DeskLine, DeskReply, ReadError, read_desk, read_request, reply_line, write_desk,
-    write_reply,
+    DeskFault, DeskLine, DeskReply, ReadError, is_code, read_desk, read_request, reply_line,
+    write_desk, write_reply,
 };
 use lost_mapping::MappingError;
 use lost_query::{AnswerError, Body, Location, Locations, Reply, Request};
@@ -30,6 +30,7 @@ pub(crate) fn said(alloc: Global, call: &str, fields: &Fields) -> Result<String,
             write_desk(&DeskReply::Committed(fields.count(1)?)).bytes(),
         ),
         "line refused" => write_refusal(alloc, fields.count(1)?),
+        "line code" => owned(alloc, yes_or_no(is_code(code(fields.count(1)?)?))),
         "line error" => write_error(alloc, error(fields.text(1)?)?, fields.count(2)?),
         "line bad request" => written(alloc, &Reply::BadRequest),
         "line internal error" => written(alloc, &Reply::InternalError),
@@ -59,9 +60,14 @@ fn without_its_end(alloc: Global, line: &[u8]) -> Result<String, Trouble> {
     }
 }
 
-fn write_refusal(alloc: Global, code: u64) -> Result<String, Trouble> {
-    let code = u8::try_from(code).map_err(|_| Trouble::NoCase)?;
-    if code < 1 || code > 20 {
+/// The code of a number.
+fn code(number: u64) -> Result<u8, Trouble> {
+    u8::try_from(number).map_err(|_| Trouble::NoCase)
+}
+
+fn write_refusal(alloc: Global, number: u64) -> Result<String, Trouble> {
+    let code = code(number)?;
+    if !is_code(code) {
         return Err(Trouble::NoCase);
     }
     without_its_end(alloc, write_desk(&DeskReply::Refused(code)).bytes())
