@@ -29,8 +29,10 @@ REFUSED = {
     b"add refused: 1 2": [b"add again: 1 2"],
     b"holding refused": [],
 }
+# The edits of rows_books for which a growth is refused: a replacement of a plain book takes no memory.
+GROWING = [("book", "publish"), ("book", "withdraw"), ("routing", "publish"), ("routing", "replace"), ("routing", "withdraw")]
 # What an empty book answers to the questions of rows_books.
-EMPTY = b"edition 0, held 0, keys - - - - -, not implemented, holding, at, defaults, of service, below"
+EMPTY = b"edition 0, held 0, keys - - - - -, not implemented, holding, at, defaults, of service, below, withdrawn - - - -"
 
 
 def call(words, library, refused, count=False, given=b"", folder=None):
@@ -295,12 +297,19 @@ class Books(Program):
     def __init__(self, library):
         super().__init__("rows_books", library, "edits")
         self.answers = lines_of(self.wanted)
+        self.verbs = self.verbs_of_answers()
+
+    def verbs_of_answers(self):
+        """For each line of the output the verb of the edit that it answers; None where it answers none."""
+        matches = map(DESK_LINE.match, lines_of(self.given))
+        verbs = iter([match.group(1).decode() for match in matches if match for _ in ("book", "routing")])
+        return [next(verbs) if line.startswith((b"book ", b"routing ")) else None for line in self.answers]
 
     def before(self, place):
         """What the book of the line at a place answered in the line before, without how its edit went; None for an empty one."""
         name = self.answers[place].split(b" ")[0]
         for line in reversed(self.answers[:place]):
-            if line == b"next":
+            if line.startswith(b"limits "):
                 return None
             if line.startswith(name + b" "):
                 return line.split(b": ", 1)[1]
@@ -313,19 +322,26 @@ class Books(Program):
         place = next((place for place, (one, other) in enumerate(zip(answers, self.answers)) if one != other), None)
         if ran.returncode != 0 or place is None:
             return super().judge(refused)
-        told = answers[place]
+        told, wanted = answers[place], self.answers[place]
         if answers[:place] + answers[place + 1 :] != self.answers:
             raise Wrong(f"growth {refused}: {told!r}, and another line is not as ever")
         if told == b"asked again":
             return "asked again"
         how, state = told.split(b": ", 1)
-        if how != self.answers[place].split(b" ")[0] + b" ran out of memory" or state != (self.before(place) or EMPTY):
+        name = wanted.split(b" ")[0]
+        if how != name + b" ran out of memory" or state != (self.before(place) or EMPTY):
             raise Wrong(f"growth {refused}: {told!r}")
-        return how.decode()
+        if wanted.startswith(name + b" refused"):
+            raise Wrong(f"growth {refused}: {wanted!r}, and yet {told!r}")
+        return f"{how.decode()} in a {self.verbs[place]}"
 
     def sweep(self):
         made, ways = super().sweep()
-        for way in ("asked again", "book ran out of memory", "routing ran out of memory"):
+        growing = {f"{name} ran out of memory in a {verb}" for name, verb in GROWING}
+        for way in {"asked again"} | growing:
             if not ways[way]:
                 raise Wrong(f"no growth ends in {way!r}")
+        others = [way for way in ways if "ran out of memory in" in way and way not in growing]
+        if others:
+            raise Wrong(f"a growth ends in {others[0]!r}")
         return made, ways

@@ -2,60 +2,77 @@
 use crate::asking::answers;
 use crate::kinds::Kind;
 use crate::pair::Pair;
+use crate::traces::Publishes;
 use lost_book::{Edit, EditError, Limits};
 use lost_json::{DeskLine, read_desk};
 use lost_spec::Coded;
 use std::alloc::{AllocError, Global};
 use std::io;
+use test_rows::limits_of;
 
-/// Applies the edits of the input to two books, which each line `next` begins anew.
+/// Applies the edits of the input to two books, which each line `limits` begins anew.
 pub(crate) fn edit_books<R: Input + Print + AllocGlobal, A: Kind, B: Kind>(
     rt: &R,
 ) -> io::Result<()> {
+    let publishes = Publishes::new(rt.alloc())?;
+    let mut limits = Limits::widest();
     for _ in 0..u64::MAX {
-        let mut pair = Pair::<A, B>::empty(rt.alloc(), Limits::widest())?;
-        if !edit_pair(rt, &mut pair)? {
-            break;
+        let mut pair = Pair::<A, B>::empty(rt.alloc(), limits)?;
+        match edit_pair(rt, &mut pair, &publishes)? {
+            Some(next) => limits = next,
+            None => break,
         }
     }
     Ok(())
 }
 
-/// Applies the edits up to a line `next`, or to the end: then it prints how many were accepted. Says whether there is more.
+/// Applies the edits up to a line that begins both books anew, or to the end: then it prints how many were accepted. Gives
+/// the limits of the next two books.
 fn edit_pair<R: Input + Print + AllocGlobal, A: Kind, B: Kind>(
     rt: &R,
     pair: &mut Pair<A, B>,
-) -> io::Result<bool> {
+    publishes: &Publishes,
+) -> io::Result<Option<Limits>> {
     let mut line = String::new(rt.alloc());
     for _ in 0..u64::MAX {
         line.clear();
         if rt.read_line(&mut line)? == 0 {
             break;
         }
-        if line.trim_end() == "next" {
-            println!(rt; "next")?;
-            return Ok(true);
+        let order = line.trim_end();
+        if let Some(numbers) = order.strip_prefix("limits ") {
+            if let Some(limits) = limits_of(numbers) {
+                println!(rt; "{order}")?;
+                return Ok(Some(limits));
+            }
+            println!(rt; "not allowed: {numbers}")?;
+        } else {
+            edit_one(rt, &mut pair.first, publishes, order.as_bytes())?;
+            edit_one(rt, &mut pair.second, publishes, order.as_bytes())?;
         }
-        edit_one(rt, &mut pair.first, line.trim_end().as_bytes())?;
-        edit_one(rt, &mut pair.second, line.trim_end().as_bytes())?;
     }
     println!(rt;
         "{} and {} edits",
         pair.first.edition(),
         pair.second.edition()
     )?;
-    Ok(false)
+    Ok(None)
 }
 
 /// Applies the edit of a desk line, and prints how that went and what is answered then.
-fn edit_one<R: Print + AllocGlobal, K: Kind>(rt: &R, book: &mut K, line: &[u8]) -> io::Result<()> {
+fn edit_one<R: Print + AllocGlobal, K: Kind>(
+    rt: &R,
+    book: &mut K,
+    publishes: &Publishes,
+    line: &[u8],
+) -> io::Result<()> {
     let mut outcome = book.apply(edit_of(rt.alloc(), line)?);
     if outcome == Err(EditError::Memory) {
-        let answers = answered(rt, book)?;
+        let answers = answered(rt, book, publishes)?;
         println!(rt; "{} ran out of memory: {answers}", K::NAME)?;
         outcome = book.apply(edit_of(rt.alloc(), line)?);
     }
-    let answers = answered(rt, book)?;
+    let answers = answered(rt, book, publishes)?;
     match outcome {
         Ok(()) => println!(rt; "{} accepted: {answers}", K::NAME),
         Err(error) => println!(rt; "{} refused {}: {answers}", K::NAME, error.code()),
@@ -63,12 +80,27 @@ fn edit_one<R: Print + AllocGlobal, K: Kind>(rt: &R, book: &mut K, line: &[u8]) 
 }
 
 /// What is answered to all questions; where memory is refused for one, says so, and asks all again.
-fn answered<R: Print + AllocGlobal, K: Kind>(rt: &R, book: &K) -> io::Result<String> {
-    if let Ok(text) = answers(rt.alloc(), book) {
+fn answered<R: Print + AllocGlobal, K: Kind>(
+    rt: &R,
+    book: &K,
+    publishes: &Publishes,
+) -> io::Result<String> {
+    if let Ok(text) = all_answers(rt.alloc(), book, publishes) {
         return Ok(text);
     }
     println!(rt; "asked again")?;
-    Ok(answers(rt.alloc(), book)?)
+    Ok(all_answers(rt.alloc(), book, publishes)?)
+}
+
+/// What is answered to all questions, and which identities are remembered as withdrawn.
+fn all_answers<K: Kind>(
+    alloc: Global,
+    book: &K,
+    publishes: &Publishes,
+) -> Result<String, AllocError> {
+    let mut text = answers(alloc, book)?;
+    publishes.add_last_refused(alloc, &mut text, book)?;
+    Ok(text)
 }
 
 /// The edit of a desk line; read again where memory was refused for it.

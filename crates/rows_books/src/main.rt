@@ -2,11 +2,13 @@
 //! commands run in turn; what a command prints stands under its word. The exit status is 1 where the two books differ, and
 //! 2 where there is no word or one that is unknown.
 //!
-//! - `edits`: the desk lines of standard input, which are edits, are applied to both, and what each answers then is printed;
-//!   the line `next` begins both anew. Where memory is refused for an edit, what the book answers then is printed, and the
-//!   edit is applied again; a question that memory was refused for is asked again.
+//! - `edits`: the desk lines of standard input, which are edits, are applied to both, and what each answers then is printed,
+//!   with the identities whose publish it refuses as withdrawn. A line `limits` begins both anew within its numbers. Where
+//!   memory is refused for an edit, what the book answers then is printed, and the edit is applied again; a question that
+//!   memory was refused for is asked again.
 //! - `full`: the indexed book takes as many mappings as the limits allow, the next publish is refused, and goes once a
-//!   mapping is withdrawn.
+//!   mapping is withdrawn. Then both remember as many withdrawals as the limits allow, the next one is refused, and goes
+//!   once a mapping that was withdrawn is published again.
 //! - `runs`: the runs of the table `runs.rows` are drawn at random. After each edit both are asked alike, and each answer is
 //!   compared.
 #![tactic(auto)]
@@ -16,7 +18,10 @@ mod edits;
 mod full;
 mod kinds;
 mod pair;
+mod remembered;
 mod runs;
+mod squares;
+mod traces;
 
 use lost_book::Book;
 use lost_routing::Routing;
@@ -38,7 +43,11 @@ fn run<R: Files + Input + Print + AllocGlobal>(rt: &R, command: &str) -> io::Res
     println!(rt; "== {command}")?;
     match command {
         "edits" => edits::edit_books::<R, Book, Routing>(rt)?,
-        "full" => full::print_full::<R, Routing>(rt)?,
+        "full" => {
+            full::print_full::<R, Routing>(rt)?;
+            remembered::print_remembered::<R, Book>(rt)?;
+            remembered::print_remembered::<R, Routing>(rt)?;
+        }
         _ => return runs::print_runs::<R, Book, Routing>(rt),
     }
     Ok(true)

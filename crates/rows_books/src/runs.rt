@@ -24,8 +24,8 @@ use std::rt::Files;
 /// How many rounds of questions follow each edit.
 const ROUNDS: u64 = 20;
 
-/// What an edit is refused for, by code from 13 to 19.
-const REFUSALS: [EditError; 7] = [
+/// What an edit is refused for, by code.
+const REFUSALS: [EditError; 9] = [
     EditError::IdentityHeld,
     EditError::IdentityUnknown,
     EditError::NotNewer,
@@ -33,6 +33,8 @@ const REFUSALS: [EditError; 7] = [
     EditError::KeyUnchanged,
     EditError::Full,
     EditError::EditsSpent,
+    EditError::Withdrawn,
+    EditError::TracesFull,
 ];
 
 /// What a run came to.

@@ -1,10 +1,12 @@
-//! What the programs of rows share (own rules): the words of the command line, which are commands; the server of every row;
-//! readers and writers in memory, which move as many bytes at once as they are told, count their calls, and fail at the call
-//! that they are told; a diary of what happens to them; and what lines of two threads wait for. Only they use this crate.
+//! What the programs of rows share (own rules): the words of the command line, which are commands; the server of every row,
+//! and the limits of its desks; readers and writers in memory, which move as many bytes at once as they are told, count
+//! their calls, and fail at the call that they are told; a diary of what happens to them; and what lines of two threads wait
+//! for. Only they use this crate.
 #![tactic(auto)]
 
 mod answered;
 mod commands;
+mod desk_limits;
 mod diary;
 mod feed;
 mod setting;
@@ -13,9 +15,10 @@ mod spaces;
 
 pub use answered::{Answered, Meeting};
 pub use commands::{End, given};
+pub use desk_limits::{limits, limits_of};
 pub use diary::{Diary, Event, Noted};
 pub use feed::Feed;
-pub use setting::{Setting, limits};
+pub use setting::Setting;
 pub use sink::Sink;
 pub use spaces::Spaces;
 

@@ -1,5 +1,4 @@
 //! The server of every row.
-use lost_book::Limits;
 use lost_mapping::{Moment, Source, Stamp};
 use std::alloc::{AllocError, Global};
 
@@ -26,9 +25,4 @@ impl Setting {
             moment: now.moment(),
         })
     }
-}
-
-/// The limits of a desk that reads lines: 1,000 mappings and 1,000 edits.
-pub fn limits() -> Limits {
-    Limits::new(1_000, 1_000).unwrap_or(Limits::widest())
 }

@@ -1,9 +1,10 @@
-//! The table of runs: each row has a seed, how many edits are drawn, the limits of mappings and of accepted edits, and how many
-//! ids a source has.
+//! The table of runs: each row has a seed, how many edits are drawn, how many ids a source has, and the limits of mappings, of
+//! accepted edits and of traces.
 use crate::runs::words::unfit;
 use lost_book::Limits;
 use std::rt::Files;
 use std::{fs, io};
+use test_rows::limits_of;
 
 /// The file of the table, in the folder that the program runs in.
 const TABLE: &'static str = "runs.rows";
@@ -15,10 +16,10 @@ pub(crate) struct Row {
     pub(crate) seed: u64,
     /// How many edits are drawn.
     pub(crate) edits: u64,
-    /// How many mappings may be held, and how many edits accepted.
-    pub(crate) limits: Limits,
     /// How many ids a source has.
     pub(crate) ids: u64,
+    /// How many mappings may be held, how many edits accepted, and how many traces remembered.
+    pub(crate) limits: Limits,
 }
 
 /// The rows of the table. An empty line is none, nor is one that begins with `#`.
@@ -34,24 +35,18 @@ pub(crate) fn rows<R: Files + AllocGlobal>(rt: &R) -> io::Result<Vec<Row>> {
     Ok(rows)
 }
 
-/// The run of a line of five numbers.
+/// The run of a line of six numbers, with a space between each two.
 fn read_row(line: &str) -> io::Result<Row> {
-    let mut words = line.split_whitespace();
+    let mut words = line.splitn(4, ' ');
     let seed = number(words.next())?;
     let edits = number(words.next())?;
-    let most_mappings = number(words.next())?;
-    let most_edits = number(words.next())?;
     let ids = number(words.next())?;
-    let limits = Limits::new(
-        u32::try_from(most_mappings).unwrap_or(0),
-        u32::try_from(most_edits).unwrap_or(0),
-    );
-    match limits {
+    match limits_of(words.next().unwrap_or("")) {
         Some(limits) => Ok(Row {
             seed,
             edits,
-            limits,
             ids,
+            limits,
         }),
         None => Err(unfit()),
     }

@@ -1,0 +1,84 @@
+//! Until when a book refuses a publish of an identity because it was withdrawn.
+use crate::kinds::Kind;
+use lost_book::{Edit, EditError};
+use lost_mapping::{Mapping, Parts};
+use std::alloc::{AllocError, Global};
+
+/// The identities that are looked for: two mappings of the rows, another source with the sourceId of the first one, and
+/// another sourceId with its source.
+const IDENTITIES: [(&str, &str); 4] = [
+    ("map.example", "A"),
+    ("map.example", "B"),
+    ("other.example", "A"),
+    ("map.example", "a"),
+];
+
+/// How many days of December 2025 there are with whose first second a publish is stamped, from the first on.
+const DAYS: u64 = 6;
+
+/// Publishes of the identities, each stamped with the days in turn.
+#[derive(Drop)]
+pub(crate) struct Publishes {
+    of_identities: Vec<Vec<Edit>>,
+}
+
+impl Publishes {
+    /// All of them, or want of memory.
+    pub(crate) fn new(alloc: Global) -> Result<Publishes, AllocError> {
+        let mut of_identities = Vec::new(alloc);
+        for (source, source_id) in IDENTITIES {
+            of_identities.push(by_days(alloc, source, source_id)?)?;
+        }
+        Ok(Publishes { of_identities })
+    }
+
+    /// Adds for each identity the last day with whose stamp a book refuses its publish as withdrawn, or a dash.
+    pub(crate) fn add_last_refused<K: Kind>(
+        &self,
+        alloc: Global,
+        text: &mut String,
+        book: &K,
+    ) -> Result<(), AllocError> {
+        text.push_str(", withdrawn")?;
+        for edits in &self.of_identities {
+            let days = edits
+                .iter()
+                .take_while(|edit| book.check(*edit) == Err(EditError::Withdrawn))
+                .count();
+            match days {
+                0 => text.push_str(" -")?,
+                _ => text.push_str(format!(in alloc; " {days}")?.as_str())?,
+            }
+        }
+        Ok(())
+    }
+}
+
+/// Publishes of an identity, one with the stamp of each day.
+fn by_days(alloc: Global, source: &str, source_id: &str) -> Result<Vec<Edit>, AllocError> {
+    let mut edits = Vec::new(alloc);
+    for day in 1..=DAYS {
+        edits.push(Edit::Publish(standby(alloc, source, source_id, day)?))?;
+    }
+    Ok(edits)
+}
+
+/// A default of this identity, stamped with a day.
+fn standby(alloc: Global, source: &str, source_id: &str, day: u64) -> Result<Mapping, AllocError> {
+    let mut uris = Vec::new(alloc);
+    uris.push(String::from_str(alloc, "sip:a")?)?;
+    let parts = Parts {
+        source: String::from_str(alloc, source)?,
+        source_id: String::from_str(alloc, source_id)?,
+        last_updated: format!(in alloc; "2025-12-0{day}T00:00:00Z")?,
+        expires: String::from_str(alloc, "NO-CACHE")?,
+        service: String::from_str(alloc, "urn:service:sos")?,
+        uris,
+        number: None,
+        is_default: true,
+        regions: Vec::new(alloc),
+        display_names: Vec::new(alloc),
+        key: None,
+    };
+    Mapping::build(alloc, parts).map_err(|_| AllocError)
+}
