@@ -5,14 +5,19 @@
 //! - `sessions`: each session of the folder `sessions` is replayed, and then answered by a desk and a reader that keeps 1, 2
 //!   and 1,024 places. `NAME.jsonl` has the lines, `NAME.expected` the replies. A desk has the limits that the file
 //!   `NAME.limits` gives; a session with such a file is not replayed, since a replay has the widest.
-//! - `checks`: the lines of each row of the folder `checks` are checked, and then those of two rows that are made.
+//! - `checks`: the lines of each row of the folder `checks` are checked, and then those of three rows that are made.
 //!   `NAME.jsonl` has the lines, `NAME.expected` what is said of them.
 //! - `worlds`: the worlds of standard input are run, and the events of their steps are printed, one a line. A line
-//!   `world W` begins a world of so many workers, and each line after it is a step, until the next world: `stage EDIT`,
-//!   `publish`, `enter W`, `tell W N` or `answer W REQUEST`, with an edit and a request as lines of JSON. (Own format.)
+//!   `world W LIMITS` begins a world of so many workers, and each line after it is a step, until the next world:
+//!   `stage EDIT`, `publish`, `enter W`, `tell W N` or `answer W REQUEST`, with an edit and a request as lines of JSON.
+//!   (Own format.)
+//!
+//! Limits are three numbers: of the mappings that are held, the edits that are accepted and the withdrawn identities that
+//! are remembered.
 #![tactic(auto)]
 
 mod checks;
+mod limits;
 mod rows;
 mod sessions;
 mod worlds;

@@ -1,9 +1,9 @@
 //! Sessions, each answered in several ways, and the replies that are expected.
 
 mod cached;
-mod limits;
 mod replayed;
 
+use crate::limits::limits;
 use crate::rows::{Row, names};
 use lost_book::Limits;
 use std::io;
@@ -38,7 +38,7 @@ fn is_as_expected<R: Files + Wait + Print + AllocGlobal>(
     setting: &Setting,
 ) -> io::Result<bool> {
     let row = Row::read(rt, FOLDER, name)?;
-    let limits = limits::limits(rt, FOLDER, name)?;
+    let limits = limits(rt, FOLDER, name)?;
     if limits.is_none() {
         let replies = replayed::replies(rt.alloc(), &row.lines, &setting.name, &setting.moment);
         if !is_same(rt, name, "replayed", replies, &row.expected)? {

@@ -9,40 +9,35 @@ use script::Line;
 use std::io;
 use test_rows::Setting;
 
-/// The limits of the books of every world: so few that a list of steps meets them.
-const MAPPINGS: u32 = 1;
-
-const EDITS: u32 = 2;
-
 /// Runs the worlds of standard input, and prints their events.
 pub(crate) fn print_worlds<R: Input + Print + AllocGlobal>(rt: &R) -> io::Result<()> {
     let setting = Setting::new(rt.alloc())?;
     let mut workers = 0;
+    let mut limits = Limits::widest();
     let mut steps = Vec::new(rt.alloc());
     for line in rt.lines(rt.alloc()) {
         match script::read_line(rt.alloc(), setting.moment, line?.as_str())? {
-            Line::World(next) => {
-                run(rt, workers, &setting, steps)?;
+            Line::World(next, within) => {
+                run(rt, workers, limits, &setting, steps)?;
                 workers = next;
+                limits = within;
                 steps = Vec::new(rt.alloc());
             }
             Line::Step(step) => steps.push(step)?,
             Line::Other => println!(rt; "this is no step")?,
         }
     }
-    run(rt, workers, &setting, steps)
+    run(rt, workers, limits, &setting, steps)
 }
 
 /// Runs a world, and prints its events.
 fn run<R: Print + AllocGlobal>(
     rt: &R,
     workers: u8,
+    limits: Limits,
     setting: &Setting,
     steps: Vec<Step>,
 ) -> io::Result<()> {
-    let Some(limits) = Limits::new(MAPPINGS, EDITS) else {
-        return Ok(());
-    };
     for event in &World::run(rt.alloc(), limits, workers, &setting.name, steps)? {
         shown::print(rt, event)?;
     }

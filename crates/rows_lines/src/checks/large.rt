@@ -4,12 +4,19 @@ use std::alloc::{AllocError, Global};
 /// The most mappings that are held.
 const MAX_MAPPINGS: u32 = 65_536;
 
+/// The most withdrawn identities that are remembered.
+const MAX_TRACES: u32 = 65_536;
+
 /// The most bytes of a line.
 const MAX_LINE: usize = 1_048_576;
 
 /// What is said of the line after as many mappings as may be.
 pub(crate) const SAID_OF_FULL: &[u8] =
     b"line 65537: 18 Full: 65536 mappings are held, and no more may be\n";
+
+/// What is said of the withdrawal after as many as are remembered.
+pub(crate) const SAID_OF_GONE: &[u8] =
+    b"line 131074: 22 TracesFull: 65,536 withdrawn mappings are remembered, and no more can be: publish one of them again\n";
 
 /// What is said of a line over the limit.
 pub(crate) const SAID_OF_LONG: &[u8] =
@@ -19,12 +26,43 @@ pub(crate) const SAID_OF_LONG: &[u8] =
 pub(crate) fn full(alloc: Global) -> Result<Vec<u8>, AllocError> {
     let mut lines = Vec::new(alloc);
     for number in 0..=MAX_MAPPINGS {
-        let line = format!(in alloc;
-            "{{\"publish\":{{\"default\":true,\"expires\":\"NO-CACHE\",\"lastUpdated\":\"2025-12-01T00:00:00Z\",\"service\":\"urn:service:sos\",\"source\":\"map.example\",\"sourceId\":\"{number}\",\"uri\":[\"sip:a\"]}}}}\n"
-        )?;
-        lines.extend_from_slice(line.as_bytes())?;
+        push_publish(&mut lines, alloc, number, 1)?;
     }
     Ok(lines)
+}
+
+/// One withdrawal more than is remembered, each of a mapping that was published before it. Then a mapping is published
+/// again, and the last withdrawal comes once more.
+pub(crate) fn gone(alloc: Global) -> Result<Vec<u8>, AllocError> {
+    let mut lines = Vec::new(alloc);
+    for number in 0..=MAX_TRACES {
+        push_publish(&mut lines, alloc, number, 1)?;
+        push_withdrawal(&mut lines, alloc, number)?;
+    }
+    push_publish(&mut lines, alloc, 0, 3)?;
+    push_withdrawal(&mut lines, alloc, MAX_TRACES)?;
+    Ok(lines)
+}
+
+/// Appends the publish of a default with this number as its sourceId, stamped on this day of a month.
+fn push_publish(
+    lines: &mut Vec<u8>,
+    alloc: Global,
+    number: u32,
+    day: u32,
+) -> Result<(), AllocError> {
+    let line = format!(in alloc;
+        "{{\"publish\":{{\"default\":true,\"expires\":\"NO-CACHE\",\"lastUpdated\":\"2025-12-0{day}T00:00:00Z\",\"service\":\"urn:service:sos\",\"source\":\"map.example\",\"sourceId\":\"{number}\",\"uri\":[\"sip:a\"]}}}}\n"
+    )?;
+    lines.extend_from_slice(line.as_bytes())
+}
+
+/// Appends the withdrawal of the mapping with this number as its sourceId, stamped on the second day.
+fn push_withdrawal(lines: &mut Vec<u8>, alloc: Global, number: u32) -> Result<(), AllocError> {
+    let line = format!(in alloc;
+        "{{\"withdraw\":{{\"lastUpdated\":\"2025-12-02T00:00:00Z\",\"source\":\"map.example\",\"sourceId\":\"{number}\"}}}}\n"
+    )?;
+    lines.extend_from_slice(line.as_bytes())
 }
 
 /// A line of one byte more than a line may have, and a good line.

@@ -1,5 +1,6 @@
 //! The lines of standard input.
-
+use crate::limits::read;
+use lost_book::Limits;
 use lost_core::Step;
 use lost_json::{DeskFault, DeskLine, read_desk};
 use lost_mapping::{MappingError, Moment};
@@ -8,8 +9,8 @@ use std::alloc::{AllocError, Global};
 /// What a line of standard input says.
 #[derive(Drop)]
 pub(crate) enum Line {
-    /// A world of so many workers begins.
-    World(u8),
+    /// A world of so many workers, whose book has these limits, begins.
+    World(u8, Limits),
     /// The next step of the world.
     Step(Step),
     /// Neither.
@@ -20,7 +21,7 @@ pub(crate) enum Line {
 pub(crate) fn read_line(alloc: Global, moment: Moment, line: &str) -> Result<Line, AllocError> {
     let (word, rest) = line.split_once(' ').unwrap_or((line, ""));
     match word {
-        "world" => Ok(rest.parse().map_or(Line::Other, Line::World)),
+        "world" => Ok(world(rest)),
         "stage" => stage(alloc, rest.as_bytes()),
         "publish" => Ok(Line::Step(Step::Publish)),
         "enter" => Ok(
@@ -30,6 +31,15 @@ pub(crate) fn read_line(alloc: Global, moment: Moment, line: &str) -> Result<Lin
         "tell" => Ok(tell(rest)),
         "answer" => answer(alloc, moment, rest),
         _ => Ok(Line::Other),
+    }
+}
+
+/// The world of so many workers and of these limits.
+fn world(words: &str) -> Line {
+    let (workers, limits) = words.split_once(' ').unwrap_or((words, ""));
+    match (workers.parse(), read(limits)) {
+        (Ok(workers), Some(limits)) => Line::World(workers, limits),
+        _ => Line::Other,
     }
 }
 
