@@ -13,6 +13,9 @@ TOP = os.path.dirname(os.path.dirname(HERE))
 DESK_LINE = re.compile(rb'\s*\{\s*"(publish|replace|withdraw|commit)"')
 MARK = b"memory ran out"
 NOT_OPENED = b"open: 2"
+NO_CACHE = b"capacity 1: refused, code 2"
+# What a reader answers that got no cache, and what is said of it.
+HANDED_BACK = [NO_CACHE, b'{"errors":{"edition":0,"error":"serviceNotImplemented"}}']
 # A question, an edit that the lines of the command desk do not have, and a commit.
 FURTHER = [
     b'{"findService":{"location":[{"id":"p","pos":[5000000,5000000],"profile":"geodetic-2d"}],'
@@ -22,6 +25,8 @@ FURTHER = [
     b'[10000000,0],[0,0]],"profile":"geodetic-2d"}],"source":"map.example","sourceId":"D","uri":["sip:D@map.example"]}}',
     b'{"commit":{}}',
 ]
+# What serve_desk answers to a line whose growth is refused.
+NO_MEMORY = b'{"refused":{"code":20,"name":"Memory"}}'
 # What rows_index says of a refused call, with the answer of the index after it, and of the same call again.
 REFUSED = {
     b"first put refused:": [b"first put again: 1"],
@@ -139,8 +144,9 @@ class Desk(Lines):
         """In which way the program ends where this growth is refused."""
         ran = self.call(refused)
         answers = lines_of(ran.stdout)
-        if ran.returncode == 0 and answers == self.answers[: self.first - 1] + [NOT_OPENED]:
-            return "not opened"
+        opening = self.first - 1
+        if ran.returncode == 0 and answers == self.answers[:opening] + [NOT_OPENED] + self.answers[opening:]:
+            return "a desk opened again"
         if ran.returncode != 0 or MARK not in answers:
             return super().judge(refused)
         if answers.count(MARK) != 1 or len(answers) != len(self.answers):
@@ -171,26 +177,40 @@ class Desk(Lines):
             raise Wrong(f"growth {refused}: the second pair is not committed, and then {without[-3:]}")
         return f"not {self.answers[place].decode()}"
 
+    def sweep(self):
+        made, ways = super().sweep()
+        if not ways["a desk opened again"]:
+            raise Wrong("no growth has a desk opened again")
+        return made, ways
+
 
 class Cache(Lines):
     """The command cache, over a desk and two readers: a desk line is answered once, a question by both."""
 
+    # How many lines are said at the beginning of a part, and how many at its end.
+    HEAD, END = 4, 2
+    # The ways in which some growth ends.
+    WAYS = ("a desk opened again", "a reader handed back", "a question asked again", "a question not read", "a desk line not done")
+
     def __init__(self, library):
         super().__init__("cache", library)
         # For each answer the number of its line; none for what is said at the beginning and at the end of a part.
-        self.numbers = [None, None, None]
+        self.numbers = [None] * (1 + self.HEAD)
         for number, line in enumerate(self.lines):
-            is_question = line != b"next" and not DESK_LINE.match(line)
-            self.numbers += [None] * 4 if line == b"next" else [number] * (2 if is_question else 1)
-        self.numbers += [None, None]
-        self.unopened = self.outputs_unopened()
+            is_question = not DESK_LINE.match(line)
+            self.numbers += [None] * (self.END + self.HEAD) if line == b"next" else [number] * (2 if is_question else 1)
+        self.numbers += [None] * self.END
+        self.again = list(self.outputs_again())
 
-    def outputs_unopened(self):
-        """What is said where one desk is not opened: nothing of its part but that."""
+    def outputs_again(self):
+        """The outputs where a desk or a cache is refused, and then asked for again: in which way, and the lines."""
         ends = [place + 1 for place, line in enumerate(self.answers) if line.startswith(b"finds ")]
-        parts = [self.answers[begin:end] for begin, end in zip([1, *ends], ends)]
-        outputs = [parts[:place] + [[NOT_OPENED]] + parts[place + 1 :] for place in range(len(parts))]
-        return [self.answers[:1] + sum(output, []) for output in outputs]
+        for begin in [1, *ends[:-1]]:
+            for way, place, said in (
+                ("a desk opened again", begin, [NOT_OPENED]),
+                ("a reader handed back", begin + self.HEAD, HANDED_BACK),
+            ):
+                yield way, self.answers[:place] + said + self.answers[place:]
 
     def is_same(self, got, wanted):
         """Whether two outputs are the same but for the counts."""
@@ -202,27 +222,47 @@ class Cache(Lines):
         """In which way the program ends where this growth is refused."""
         ran = self.call(refused)
         answers = lines_of(ran.stdout)
-        if answers in self.unopened:
-            return "not opened"
+        for way, output in self.again:
+            if ran.returncode == 0 and answers == output:
+                return way
         if ran.returncode == 0 and answers != self.answers and self.is_same(answers, self.answers):
             return "a place not kept"
         if ran.returncode != 0 or MARK not in answers:
             return super().judge(refused)
         place = answers.index(MARK)
+        rest = answers[:place] + answers[place + 1 :]
+        if self.is_same(rest, self.answers):
+            return "a question asked again"
         number = self.numbers[place]
-        if answers.count(MARK) != 1 or number is None:
+        if MARK in rest or number is None:
             raise Wrong(f"growth {refused}: {answers}")
+        self.judge_again(refused, place)
+        return self.judge_rest(refused, place, rest)
+
+    def judge_again(self, refused, place):
+        """The marked line, given once more, has its answers, and all others have theirs."""
+        number = self.numbers[place]
+        again = self.run(self.lines[: number + 1] + self.lines[number:], refused)
+        if not self.is_same(again, self.answers[:place] + [MARK] + self.answers[place:]):
+            raise Wrong(f"growth {refused}: given once more, line {number + 1} gives {again}")
+
+    def judge_rest(self, refused, place, rest):
+        """All else is answered as though the marked line had not been there. Gives the kind of line."""
+        number = self.numbers[place]
         if DESK_LINE.match(self.lines[number]):
-            wanted = self.run(self.lines[:number] + self.lines[number + 1 :])
-            kind = "desk line"
+            kind, wanted = "a desk line not done", self.run(self.lines[:number] + self.lines[number + 1 :])
         else:
-            # One of the two readers, or the line before either was asked.
-            both = len(self.answers) - len(answers)
-            wanted = self.answers[:place] + self.answers[place + 1 + both :]
-            kind = "question"
-        if not self.is_same(answers[:place] + answers[place + 1 :], wanted):
+            kind, wanted = "a question not read", self.answers[:place] + self.answers[place + 2 :]
+        if not self.is_same(rest, wanted):
             raise Wrong(f"growth {refused}: line {number + 1} is marked, and another line is answered otherwise")
-        return f"a {kind} answered memory ran out"
+        return kind
+
+    def sweep(self):
+        made, ways = super().sweep()
+        for way in self.WAYS:
+            if not ways[way]:
+                raise Wrong(f"no growth ends in {way!r}")
+        return made, ways
 
 
 class Streams(Program):
@@ -262,6 +302,66 @@ class Streams(Program):
         if not ways["a line answered refused"]:
             raise Wrong("no growth is answered refused")
         return made, ways
+
+
+class DeskStream(Program):
+    """The command hostile of the program rows_streams, over the desk lines of some input: serve_desk marks the line of a refused growth."""
+
+    def __init__(self, library, name, lines, replies):
+        super().__init__("rows_streams", library, "hostile")
+        self.name, self.lines, self.replies = name, lines, replies
+        self.wanted = self.output(replies)
+        self.replies_without = [self.run(lines[:number] + lines[number + 1 :]) for number in range(len(lines))]
+
+    def output(self, replies):
+        """The text that is printed at such replies."""
+        end = b"lines %d long 0 memory 0 faults 0" % len(replies)
+        return b"".join(line + b"\n" for line in [b"== hostile", b"-- desk whole", *replies, end])
+
+    def run(self, lines):
+        """The replies to these lines where no growth is refused."""
+        return lines_of(self.call(0, lines).stdout)[2:-1]
+
+    def call(self, refused, lines=None, **further):
+        """Runs the command over its lines, or over these."""
+        script = b"".join(b"line " + line + b"\n" for line in (self.lines if lines is None else lines))
+        with tempfile.TemporaryDirectory() as folder:
+            with open(f"{folder}/hostile.lines", "wb") as file:
+                file.write(script + b"desk whole\n")
+            return call(self.words, self.library, refused, folder=folder, **further)
+
+    def judge(self, refused):
+        """In which way the program ends where this growth is refused."""
+        ran = self.call(refused)
+        for number, replies in enumerate(self.replies_without):
+            marked = self.output(replies[:number] + [NO_MEMORY] + replies[number:])
+            if ran.returncode == 0 and ran.stdout == marked:
+                return f"line {number + 1} answered code 20"
+        return super().judge(refused)
+
+    def sweep(self):
+        made, ways = super().sweep()
+        for number, reply in enumerate(self.replies):
+            if reply.startswith(b'{"staged"') and not ways[f"line {number + 1} answered code 20"]:
+                raise Wrong(f"no growth is answered code 20 at line {number + 1}")
+        return made, ways
+
+
+def desk_streams(library):
+    """The sweeps of desk lines through serve_desk: those of row `one-mapping`, and some of an identity that is withdrawn."""
+    publish, commit = [line for line in lines_of(read(f"{TOP}/examples/one-mapping.jsonl")) if DESK_LINE.match(line)]
+    staged = b'{"staged":{"pending":1}}'
+    committed = [b'{"committed":{"edition":%d}}' % edition for edition in range(4)]
+    yield DeskStream(library, "one-mapping", [publish, commit], [staged, committed[1]])
+    withdraw = b'{"withdraw":{"lastUpdated":"2025-12-03T00:00:00Z","source":"map.example","sourceId":"A"}}'
+    same, later = (publish.replace(b"2025-12-01", day) for day in (b"2025-12-03", b"2025-12-04"))
+    gone = b'{"refused":{"code":21,"name":"Withdrawn"}}'
+    yield DeskStream(
+        library,
+        "withdrawn",
+        [publish, commit, withdraw, publish, commit, same, later, commit],
+        [staged, committed[1], staged, gone, committed[2], gone, staged, committed[3]],
+    )
 
 
 class Index(Program):
@@ -345,3 +445,22 @@ class Books(Program):
         if others:
             raise Wrong(f"a growth ends in {others[0]!r}")
         return made, ways
+
+
+class Calls(Program):
+    """The command calls of a program: calls that take no memory, on values that are made before. The command prepared makes the values alone."""
+
+    def __init__(self, name, library):
+        super().__init__(name, library, "calls")
+
+    def sweep(self):
+        alone = call([self.words[0], "prepared"], self.library, 0, count=True, folder=self.folder)
+        ran = self.call(0, count=True)
+        if ran.stdout != self.wanted:
+            raise Wrong("the text differs with no growth refused")
+        made = growths(ran)
+        if made != growths(alone):
+            raise Wrong(f"{growths(alone)} growths make the values, and {made} the values and the calls")
+        if self.call(made + 1).stdout != self.wanted:
+            raise Wrong("the text differs where the first growth of the calls would be refused")
+        return made, Counter({"in the calls": 0})

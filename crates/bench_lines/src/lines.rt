@@ -34,9 +34,18 @@ pub(crate) fn district(
 
 /// The line that publishes the default.
 pub(crate) fn standby(alloc: Global) -> Result<String, AllocError> {
-    String::from_str(
-        alloc,
-        "{\"publish\":{\"default\":true,\"expires\":\"NO-EXPIRATION\",\"lastUpdated\":\"2025-12-01T00:00:00Z\",\"service\":\"urn:service:sos.fire\",\"source\":\"map.example\",\"sourceId\":\"standby\",\"uri\":[\"sip:standby@map.example\"]}}",
+    default_line(alloc, "standby", "2025-12-01T00:00:00Z")
+}
+
+/// The line that publishes one of several defaults, which is withdrawn again.
+pub(crate) fn passing(alloc: Global, number: u32, updated: &str) -> Result<String, AllocError> {
+    default_line(alloc, name(alloc, number)?.as_str(), updated)
+}
+
+/// The line that publishes a default by its name.
+fn default_line(alloc: Global, name: &str, updated: &str) -> Result<String, AllocError> {
+    format!(in alloc;
+        "{{\"publish\":{{\"default\":true,\"expires\":\"NO-EXPIRATION\",\"lastUpdated\":\"{updated}\",\"service\":\"urn:service:sos.fire\",\"source\":\"map.example\",\"sourceId\":\"{name}\",\"uri\":[\"sip:{name}@map.example\"]}}}}"
     )
 }
 
@@ -50,8 +59,8 @@ pub(crate) fn road(alloc: Global, number: u32) -> Result<String, AllocError> {
 }
 
 /// The line that withdraws a mapping.
-pub(crate) fn withdraw(alloc: Global, number: u32) -> Result<String, AllocError> {
-    withdraw_line(alloc, name(alloc, number)?.as_str(), "2025-12-03T00:00:00Z")
+pub(crate) fn withdraw(alloc: Global, number: u32, updated: &str) -> Result<String, AllocError> {
+    withdraw_line(alloc, name(alloc, number)?.as_str(), updated)
 }
 
 /// The line that asks for a service at a point of a drawn district.

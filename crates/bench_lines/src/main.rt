@@ -4,7 +4,8 @@
 //!     bench_lines replay             how many replies maps of 10, 100 and 1,000 squares get, and lines of 1 MiB
 //!     bench_lines replay measure     how many lines a second are answered there
 //!     bench_lines routing            the kinds of the replies over small maps
-//!     bench_lines routing measure    what a line of each kind costs at 1,000 and 60,000 mappings, and what loading them does
+//!     bench_lines routing measure    what a line of each kind costs at 1,000 and 60,000 mappings, and what loading them does;
+//!                                    and what edits cost at 10 and 65,536 withdrawn identities
 //!     bench_lines routing load       loads 60,000 boundaries and says how many bytes their lines have, for a script that
 //!                                    looks at the memory
 //!     bench_lines index              how many boundaries an index finds at some points

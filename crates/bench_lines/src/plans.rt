@@ -1,7 +1,7 @@
 //! The parts that are replayed, in order.
 use crate::maps::Map;
 use crate::parts::Part;
-use crate::tasks::Task;
+use crate::tasks::{AGAIN_LINES, Task};
 use std::alloc::{AllocError, Global};
 
 /// How often something is done.
@@ -105,6 +105,20 @@ pub(crate) fn load(alloc: Global, map: Map) -> Result<Vec<Part>, AllocError> {
 pub(crate) fn settled(alloc: Global, map: Map) -> Result<Vec<Part>, AllocError> {
     let mut parts = load(alloc, map)?;
     parts.push(warm(alloc, Task::Settle, 2))?;
+    Ok(parts)
+}
+
+/// So many withdrawn identities, and then so many rounds in which ten of them are published again and withdrawn again.
+pub(crate) fn withdrawn(alloc: Global, traces: u32, rounds: u32) -> Result<Vec<Part>, AllocError> {
+    let mut parts = Vec::new(alloc);
+    parts.push(warm(alloc, Task::Passing, traces.saturating_mul(2)))?;
+    parts.push(warm(alloc, Task::Commit, 1))?;
+    for round in 0..rounds {
+        for task in [Task::PublishAgain, Task::WithdrawAgain] {
+            let first = round.saturating_mul(AGAIN_LINES);
+            parts.push(Part::new(alloc, task, first, AGAIN_LINES, false))?;
+        }
+    }
     Ok(parts)
 }
 

@@ -2,7 +2,7 @@
 
 use crate::maps::Map;
 use crate::parts::{Part, least};
-use crate::plans::{COLD, FEW, MANY, Plan, Scale, load, settled};
+use crate::plans::{COLD, FEW, MANY, Plan, Scale, load, settled, withdrawn};
 use crate::replaying::{print_replies, replayed};
 use crate::tasks::Task;
 use std::io;
@@ -34,6 +34,23 @@ const SMALL_LOADS: u32 = 5;
 
 const LARGE_LOADS: u32 = 2;
 
+/// The map of no mapping but those that are withdrawn.
+const NONE: Map = Map {
+    mappings: 0,
+    rows: 0,
+    is_square: false,
+};
+
+/// How many withdrawn identities are remembered, of which only the kinds of the replies are looked at, and in a measurement.
+const TINY_TRACES: u32 = 20;
+
+const FEW_TRACES: u32 = 10;
+
+const MANY_TRACES: u32 = 65_536;
+
+/// How often ten of them are published again and withdrawn again.
+const TRACE_ROUNDS: u32 = 1_000;
+
 /// What is compared at the two maps, in the order in which it is printed.
 const COMPARED: [Task; 10] = [
     Task::Hits,
@@ -54,6 +71,9 @@ pub(crate) fn print_counts<R: Print + Clock + AllocGlobal + Drop>(rt: &R) -> io:
         for part in &replayed(rt, TINY, plan.parts(rt.alloc(), TINY, FEW)?)? {
             print_replies(rt, part)?;
         }
+    }
+    for part in &replayed(rt, NONE, withdrawn(rt.alloc(), TINY_TRACES, 1)?)? {
+        print_replies(rt, part)?;
     }
     Ok(())
 }
@@ -82,7 +102,22 @@ pub(crate) fn print_ratios<R: Print + Clock + AllocGlobal + Drop>(rt: &R) -> io:
         print_scale(rt, Plan::Districts, scale, &COMPARED)?;
         print_scale(rt, Plan::Roads, scale, &[Task::Validations])?;
     }
-    Ok(())
+    print_traces(rt)
+}
+
+/// Measures edits of the same ten identities where they alone are remembered as withdrawn, and where as many are as may be,
+/// and prints what a line of them costs.
+fn print_traces<R: Print + Clock + AllocGlobal + Drop>(rt: &R) -> io::Result<()> {
+    let few = replayed(rt, NONE, withdrawn(rt.alloc(), FEW_TRACES, TRACE_ROUNDS)?)?;
+    let many = replayed(rt, NONE, withdrawn(rt.alloc(), MANY_TRACES, TRACE_ROUNDS)?)?;
+    println!(rt; "one line after another, of the same ten identities:")?;
+    print_costs(
+        rt,
+        "10 and 65,536 withdrawn",
+        &[Task::PublishAgain, Task::WithdrawAgain],
+        few.as_slice(),
+        many.as_slice(),
+    )
 }
 
 /// Measures what a plan takes at a scale, and prints what a line of each task costs.
@@ -94,7 +129,13 @@ fn print_scale<R: Print + Clock + AllocGlobal + Drop>(
 ) -> io::Result<()> {
     let few = replayed(rt, SMALL, plan.parts(rt.alloc(), SMALL, scale)?)?;
     let many = replayed(rt, LARGE, plan.parts(rt.alloc(), LARGE, scale)?)?;
-    print_costs(rt, tasks, few.as_slice(), many.as_slice())
+    print_costs(
+        rt,
+        "1,000 and 60,000",
+        tasks,
+        few.as_slice(),
+        many.as_slice(),
+    )
 }
 
 /// Measures the loads of both maps, and prints the least of each.
@@ -130,9 +171,10 @@ fn least_load<R: Print + Clock + AllocGlobal + Drop>(
     Ok((least, bytes))
 }
 
-/// Prints what a line of each task costs at least at each map.
+/// Prints what a line of each task costs at least at both sizes.
 fn print_costs<R: Print + AllocGlobal>(
     rt: &R,
+    sizes: &str,
     tasks: &[Task],
     few: &[Part],
     many: &[Part],
@@ -141,7 +183,7 @@ fn print_costs<R: Print + AllocGlobal>(
     for task in tasks {
         let (few, many) = (least(alloc, few, *task)?, least(alloc, many, *task)?);
         println!(rt;
-            "{}: {few} and {many} nanoseconds a line at 1,000 and 60,000, {} of a hundred",
+            "{}: {few} and {many} nanoseconds a line at {sizes}, {} of a hundred",
             task.words(),
             share(many, few)
         )?;

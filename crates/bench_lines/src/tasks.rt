@@ -6,6 +6,12 @@ use crate::replies::Reply;
 use std::alloc::{AllocError, Global};
 use test_districts::{COMMIT, SERVICE};
 
+/// How many defaults are published again, and then withdrawn again.
+const AGAIN: u32 = 10;
+
+/// How many lines that takes, the commit behind them too.
+pub(crate) const AGAIN_LINES: u32 = AGAIN + 1;
+
 /// What the lines of a part do.
 #[derive(Clone, Copy, PartialEq, Eq)]
 pub(crate) enum Task {
@@ -39,6 +45,12 @@ pub(crate) enum Task {
     Replacements,
     /// Publish a new district, commit, withdraw the first one that is held, and commit, in turn.
     Turnover,
+    /// Publish a default and withdraw it, one after another.
+    Passing,
+    /// Publish the first of these again, and commit.
+    PublishAgain,
+    /// Withdraw them again, and commit.
+    WithdrawAgain,
     /// Ask for a service that nobody holds, in a line of 1 MiB.
     Filled,
     /// Publish a mapping that is crowded with URIs, in a line of 1 MiB: there are too many.
@@ -66,6 +78,9 @@ impl Task {
             Task::Settle => "first replace and commit",
             Task::Replacements => "replace and commit",
             Task::Turnover => "publish, commit, withdraw, commit",
+            Task::Passing => "publish and withdraw",
+            Task::PublishAgain => "10 publishes and commit",
+            Task::WithdrawAgain => "10 withdrawals and commit",
             Task::Filled => "lines of 1 MiB",
             Task::ManyUris => "1 MiB of URIs",
             Task::ManyLocations => "1 MiB of locations",
@@ -75,7 +90,7 @@ impl Task {
     /// Whether a reply to such a line is as it should be.
     pub(crate) fn allows(self, reply: Reply) -> bool {
         match self {
-            Task::Load | Task::LoadRoads | Task::Standby => reply == Reply::Staged,
+            Task::Load | Task::LoadRoads | Task::Standby | Task::Passing => reply == Reply::Staged,
             Task::Commit => reply == Reply::Committed,
             Task::Hits => reply == Reply::Found,
             Task::Misses => reply == Reply::NotFound,
@@ -85,9 +100,11 @@ impl Task {
             Task::ServicesAt => reply == Reply::ServicesAt,
             Task::Boundaries => reply == Reply::Boundary,
             Task::Validations => reply == Reply::Validated,
-            Task::Settle | Task::Replacements | Task::Turnover => {
-                reply == Reply::Staged || reply == Reply::Committed
-            }
+            Task::Settle
+            | Task::Replacements
+            | Task::Turnover
+            | Task::PublishAgain
+            | Task::WithdrawAgain => reply == Reply::Staged || reply == Reply::Committed,
             Task::ManyUris => reply == Reply::Refused,
             Task::ManyLocations => reply == Reply::BadRequest,
         }
@@ -111,6 +128,9 @@ impl Task {
             Task::Settle => replacement(alloc, map, number),
             Task::Replacements => replacement(alloc, map, number.saturating_add(2)),
             Task::Turnover => turn(alloc, map, number),
+            Task::Passing => passing(alloc, number),
+            Task::PublishAgain => again(alloc, number, true),
+            Task::WithdrawAgain => again(alloc, number, false),
             Task::Filled => {
                 lines::filled(lines::find(alloc, map, "urn:service:physician", number)?)
             }
@@ -141,7 +161,32 @@ fn turn(alloc: Global, map: Map, number: u32) -> Result<String, AllocError> {
             map.mappings.saturating_add(turn),
             "2025-12-01T00:00:00Z",
         ),
-        2 => lines::withdraw(alloc, turn),
+        2 => lines::withdraw(alloc, turn, "2025-12-03T00:00:00Z"),
         _ => String::from_str(alloc, COMMIT),
     }
+}
+
+/// A publish of a default, or its withdrawal.
+fn passing(alloc: Global, number: u32) -> Result<String, AllocError> {
+    if number % 2 == 0 {
+        lines::passing(alloc, number / 2, "2025-12-01T00:00:00Z")
+    } else {
+        lines::withdraw(alloc, number / 2, "2025-12-02T00:00:00Z")
+    }
+}
+
+/// A publish or a withdrawal of one of the first defaults, with a stamp that is newer each time, or a commit.
+fn again(alloc: Global, number: u32, is_publish: bool) -> Result<String, AllocError> {
+    let (turn, place) = (number / AGAIN_LINES, number % AGAIN_LINES);
+    if place == AGAIN {
+        return String::from_str(alloc, COMMIT);
+    }
+    let half = turn.saturating_mul(2).saturating_add(100_000_000);
+    if is_publish {
+        let updated = format!(in alloc; "2025-12-03T00:00:00.{half}Z")?;
+        return lines::passing(alloc, place, updated.as_str());
+    }
+    let fraction = half.saturating_add(1);
+    let updated = format!(in alloc; "2025-12-03T00:00:00.{fraction}Z")?;
+    lines::withdraw(alloc, place, updated.as_str())
 }

@@ -9,11 +9,14 @@
 //! - `full`: the indexed book takes as many mappings as the limits allow, the next publish is refused, and goes once a
 //!   mapping is withdrawn. Then both remember as many withdrawals as the limits allow, the next one is refused, and goes
 //!   once a mapping that was withdrawn is published again.
+//! - `calls`: the calls that take no memory are made, on values that were made before: of a book on those of the table
+//!   `calls.rows`. `prepared` makes the values alone.
 //! - `runs`: the runs of the table `runs.rows` are drawn at random. After each edit both are asked alike, and each answer is
 //!   compared.
 #![tactic(auto)]
 
 mod asking;
+mod calls;
 mod edits;
 mod full;
 mod kinds;
@@ -30,8 +33,11 @@ use std::process::ExitCode;
 use std::rt::Files;
 use test_rows::given;
 
+/// The commands.
+const WORDS: [&str; 5] = ["edits", "full", "calls", "prepared", "runs"];
+
 fn main(rt: HostRuntime) -> io::Result<ExitCode> {
-    let (words, mut end) = given(&rt, "rows_books", &["edits", "full", "runs"])?;
+    let (words, mut end) = given(&rt, "rows_books", &WORDS)?;
     for word in &words {
         end.note(run(&rt, word.as_str())?);
     }
@@ -48,6 +54,8 @@ fn run<R: Files + Input + Print + AllocGlobal>(rt: &R, command: &str) -> io::Res
             remembered::print_remembered::<R, Book>(rt)?;
             remembered::print_remembered::<R, Routing>(rt)?;
         }
+        "calls" => calls::print_calls::<R, Book, Routing>(rt, true)?,
+        "prepared" => calls::print_calls::<R, Book, Routing>(rt, false)?,
         _ => return runs::print_runs::<R, Book, Routing>(rt),
     }
     Ok(true)

@@ -7,7 +7,7 @@ mod regions;
 mod rounds;
 mod rows;
 mod shown;
-mod words;
+pub(crate) mod words;
 
 use crate::kinds::Kind;
 use crate::pair::{Outcome, Pair};

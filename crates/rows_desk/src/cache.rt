@@ -1,11 +1,12 @@
 //! A desk and two readers: one has a cache of one place, and the other one answers over a keeper of one set that counts its
-//! calls. First come the capacities that are refused, and last the counts.
+//! calls. First come the capacities that are refused, and what the reader that is handed back then answers, and last the
+//! counts. A desk, a cache and a question that are refused for want of memory are asked for again.
 
 use crate::counting::Counting;
-use crate::orders::{is_ordered, print_reply};
+use crate::orders::{QUESTION, is_ordered, print_reply, say_memory};
 use lost_desk::{Desk, Reader, Readers, open_desk};
 use lost_spec::Coded;
-use lost_worker::CachedReader;
+use lost_worker::{CacheRefusal, CachedReader};
 use std::alloc::AllocError;
 use std::rt::Files;
 use std::sync::Wait;
@@ -19,20 +20,26 @@ const NEXT: &str = "next\n";
 pub(crate) fn run<R: Files + Wait + Print + AllocGlobal>(rt: &R) -> io::Result<()> {
     let text = fs::read_to_string(rt, "cache.lines")?;
     for session in text.as_str().split(NEXT) {
-        run_session(rt, session)?;
+        if !is_run(rt, session)? {
+            is_run(rt, session)?;
+        }
     }
     Ok(())
 }
 
-/// Runs the lines of a session.
-fn run_session<R: Wait + Print + AllocGlobal>(rt: &R, text: &str) -> io::Result<()> {
+/// Runs the lines of a session; false where its desk is refused, which is said.
+fn is_run<R: Wait + Print + AllocGlobal>(rt: &R, text: &str) -> io::Result<bool> {
     match open_desk(rt, rt.alloc(), limits(), 2) {
         Ok((mut desk, mut readers)) => {
             let result = take_and_answer(rt, &mut desk, &mut readers, text);
             desk.close(rt);
-            result
+            result?;
+            Ok(true)
         }
-        Err(error) => println!(rt; "open: {}", error.code()),
+        Err(error) => {
+            println!(rt; "open: {}", error.code())?;
+            Ok(false)
+        }
     }
 }
 
@@ -44,7 +51,7 @@ fn take_and_answer<R: Wait + Print + AllocGlobal>(
     text: &str,
 ) -> io::Result<()> {
     let setting = Setting::new(rt.alloc())?;
-    let Some(mut cached) = cached(rt, readers)? else {
+    let Some(mut cached) = cached(rt, readers, &setting)? else {
         return Ok(());
     };
     let Some(mut reader) = readers.take() else {
@@ -57,33 +64,43 @@ fn take_and_answer<R: Wait + Print + AllocGlobal>(
 fn cached<R: Print + AllocGlobal>(
     rt: &R,
     readers: &mut Readers,
+    setting: &Setting,
 ) -> io::Result<Option<CachedReader>> {
-    let Some(reader) = readers.take() else {
+    let Some(mut reader) = readers.take() else {
         return Ok(None);
     };
-    let reader = refused(rt, reader, 0)?;
-    let reader = refused(rt, reader, 65_537)?;
+    for capacity in [0, 65_537, 1] {
+        match CachedReader::new(rt.alloc(), reader, capacity) {
+            Ok(cached) => return Ok(Some(cached)),
+            Err(refusal) => reader = handed_back(rt, refusal, capacity, setting)?,
+        }
+    }
     match CachedReader::new(rt.alloc(), reader, 1) {
         Ok(cached) => Ok(Some(cached)),
         Err(_) => Err(AllocError.into()),
     }
 }
 
-/// Says how a reader is refused a cache of so many places, and gives the reader that is handed back.
-fn refused<R: Print + AllocGlobal>(rt: &R, reader: Reader, capacity: u32) -> io::Result<Reader> {
-    match CachedReader::new(rt.alloc(), reader, capacity) {
-        Ok(_) => {
-            println!(rt; "capacity {capacity}: taken")?;
-            Err(AllocError.into())
-        }
-        Err(refusal) => {
-            println!(rt;
-                "capacity {capacity}: refused, code {}",
-                refusal.code.code()
-            )?;
-            Ok(refusal.reader)
-        }
+/// Says how a reader is refused a cache of so many places, and gives the reader that is handed back, once it has answered.
+fn handed_back<R: Print + AllocGlobal>(
+    rt: &R,
+    refusal: CacheRefusal,
+    capacity: u32,
+    setting: &Setting,
+) -> io::Result<Reader> {
+    println!(rt;
+        "capacity {capacity}: refused, code {}",
+        refusal.code.code()
+    )?;
+    let mut reader = refusal.reader;
+    let (name, moment) = (&setting.name, &setting.moment);
+    let mut reply = reader.reply_line(rt.alloc(), name, moment, QUESTION);
+    if reply.is_err() {
+        say_memory(rt)?;
+        reply = reader.reply_line(rt.alloc(), name, moment, QUESTION);
     }
+    print_reply(rt, reply)?;
+    Ok(reader)
 }
 
 /// Answers each line that is not empty, and prints the counts.
@@ -101,11 +118,18 @@ fn answer_lines<R: Wait + Print + AllocGlobal>(
     for line in text.lines() {
         if !line.is_empty() && !is_ordered(rt, desk, line)? {
             let bytes = line.as_bytes();
-            print_reply(rt, cached.reply_line(rt.alloc(), name, moment, bytes))?;
-            print_reply(
-                rt,
-                reader.reply_line_over(rt.alloc(), &mut sets, name, moment, bytes),
-            )?;
+            let mut reply = cached.reply_line(rt.alloc(), name, moment, bytes);
+            if reply.is_err() {
+                say_memory(rt)?;
+                reply = cached.reply_line(rt.alloc(), name, moment, bytes);
+            }
+            print_reply(rt, reply)?;
+            let mut reply = reader.reply_line_over(rt.alloc(), &mut sets, name, moment, bytes);
+            if reply.is_err() {
+                say_memory(rt)?;
+                reply = reader.reply_line_over(rt.alloc(), &mut sets, name, moment, bytes);
+            }
+            print_reply(rt, reply)?;
         }
     }
     println!(rt; "hits {}", cached.hits())?;

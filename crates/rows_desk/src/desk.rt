@@ -1,4 +1,5 @@
-//! A desk and one reader. First come the numbers of workers that are refused, and whether there is a second reader.
+//! A desk and one reader. First come the numbers of workers that are refused, and whether there is a second reader. A desk
+//! that is refused for want of memory is opened again.
 ghost use Rattle.std.specs.Prelude.{◌≡◌};
 
 use crate::orders::{is_ordered, print_reply};
@@ -15,13 +16,25 @@ pub(crate) fn run<R: Files + Wait + Print + AllocGlobal>(rt: &R) -> io::Result<(
     for workers in [0, 65] {
         refused(rt, workers)?;
     }
+    if !is_run(rt, text.as_str())? {
+        is_run(rt, text.as_str())?;
+    }
+    Ok(())
+}
+
+/// Runs lines by a desk of their own; false where it is refused, which is said.
+fn is_run<R: Wait + Print + AllocGlobal>(rt: &R, text: &str) -> io::Result<bool> {
     match open_desk(rt, rt.alloc(), limits(), 1) {
         Ok((mut desk, mut readers)) => {
-            let result = take_and_answer(rt, &mut desk, &mut readers, text.as_str());
+            let result = take_and_answer(rt, &mut desk, &mut readers, text);
             desk.close(rt);
-            result
+            result?;
+            Ok(true)
         }
-        Err(error) => println!(rt; "open: {}", error.code()),
+        Err(error) => {
+            println!(rt; "open: {}", error.code())?;
+            Ok(false)
+        }
     }
 }
 

@@ -7,11 +7,14 @@
 //!   has a desk of its own.
 //! - `many`: a desk's connection on which two thousand edits are staged before each of two commits.
 //! - `threads`: a desk in one thread and a reader in another, a thousand times.
+//! - `calls`: the calls that take no memory, on the desks of the table `calls.lines` and their readers. `prepared` makes these
+//!   alone.
 //!
 //! Each answer is a line of the output.
 #![tactic(auto)]
 
 mod cache;
+mod calls;
 mod counting;
 mod desk;
 mod many;
@@ -25,8 +28,11 @@ use std::sync::Wait;
 use std::thread::Threads;
 use test_rows::given;
 
+/// The commands.
+const WORDS: [&str; 6] = ["desk", "cache", "many", "threads", "calls", "prepared"];
+
 fn main(rt: HostRuntime) -> io::Result<ExitCode> {
-    let (words, end) = given(&rt, "rows_desk", &["desk", "cache", "many", "threads"])?;
+    let (words, end) = given(&rt, "rows_desk", &WORDS)?;
     for word in &words {
         run(&rt, word.as_str())?;
     }
@@ -43,6 +49,7 @@ fn run<R: Files + Threads + Wait + Sync + Print + AllocGlobal>(
         "desk" => desk::run(rt),
         "cache" => cache::run(rt),
         "many" => many::run(rt),
-        _ => threads::run(rt),
+        "threads" => threads::run(rt),
+        _ => calls::run(rt, command == "calls"),
     }
 }

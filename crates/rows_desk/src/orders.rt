@@ -10,6 +10,10 @@ use std::alloc::AllocError;
 use std::io;
 use std::sync::Wait;
 
+/// The line that is asked: a point in the ring of the mapping `A`.
+pub(crate) const QUESTION: &[u8] =
+    br#"{"findService":{"location":[{"id":"p","pos":[5000000,5000000],"profile":"geodetic-2d"}],"service":"urn:service:sos.police"}}"#;
+
 /// Has the desk do what a line orders, and prints what it answers; false where the line is a question.
 pub(crate) fn is_ordered<R: Wait + Print + AllocGlobal>(
     rt: &R,
@@ -56,6 +60,6 @@ pub(crate) fn print_reply<R: Print>(rt: &R, reply: Result<Vec<u8>, AllocError>) 
 }
 
 /// Prints the answer to a line that is refused for want of memory.
-fn say_memory<R: Print>(rt: &R) -> io::Result<()> {
+pub(crate) fn say_memory<R: Print>(rt: &R) -> io::Result<()> {
     println!(rt; "memory ran out")
 }

@@ -28,10 +28,6 @@ use test_rows::Setting;
 /// How often the desk commits and the reader answers.
 const ROUNDS: u64 = 1_000;
 
-/// The line that is asked.
-const QUESTION: &[u8] =
-    br#"{"findService":{"location":[{"id":"p","pos":[5000000,5000000],"profile":"geodetic-2d"}],"service":"urn:service:sos.police"}}"#;
-
 /// Runs all rounds, and prints how many there were.
 pub(crate) fn run<R: Threads + Wait + Sync + Print + AllocGlobal>(rt: &R) -> io::Result<()> {
     match run_rounds(rt, rt.alloc()) {

@@ -122,6 +122,8 @@ fn edit_texts(alloc: Global) -> Result<String, AllocError> {
             EditError::Full,
             EditError::EditsSpent,
             EditError::Memory,
+            EditError::Withdrawn,
+            EditError::TracesFull,
         ],
     )?;
     Ok(text)

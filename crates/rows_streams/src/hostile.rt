@@ -2,7 +2,7 @@
 use crate::by::By;
 use crate::faults::{tell_faults, tell_marks};
 use crate::stream::{Stream, no_command};
-use crate::sweeps::{Sweep, reads, spaces, whole, writes};
+use crate::sweeps::{Sweep, prefixes, reads, spaces, whole, writes};
 use crate::worker::work;
 use std::io;
 use std::sync::Wait;
@@ -60,6 +60,7 @@ fn serve_by<R: Wait + Print + AllocGlobal>(
             "whole" => whole(rt, &sweep, usize::MAX),
             "bytes" => whole(rt, &sweep, 1),
             "writes" => writes(rt, &sweep),
+            "prefixes" => prefixes(rt, &sweep),
             "spaces" => spaces(rt, &sweep),
             _ => no_command(rt),
         },

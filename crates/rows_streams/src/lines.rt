@@ -13,6 +13,7 @@
 use crate::lengths::Lengths;
 use crate::noting::Noting;
 use crate::plan::Plan;
+use crate::spelled::add_spelled;
 use crate::stream::no_command;
 use crate::telling::{tell_events, tell_folded};
 use lost_lines::{Counts, Gate, NoGate, ServeError, Turns, Watched, run_lines};
@@ -59,29 +60,6 @@ fn add(bytes: &mut Vec<u8>, count: u64, spelled: &str) -> Result<(), AllocError>
         add_spelled(bytes, spelled)?;
     }
     Ok(())
-}
-
-/// Adds a text, in which `\n` and `\r` are spelled.
-fn add_spelled(bytes: &mut Vec<u8>, spelled: &str) -> Result<(), AllocError> {
-    let mut is_escaped = false;
-    for byte in spelled.bytes() {
-        if byte == b'\\' {
-            is_escaped = true;
-        } else {
-            bytes.push(if is_escaped { escaped(byte) } else { byte })?;
-            is_escaped = false;
-        }
-    }
-    Ok(())
-}
-
-/// The byte that a byte stands for behind a `\`.
-fn escaped(byte: u8) -> u8 {
-    match byte {
-        b'n' => b'\n',
-        b'r' => b'\r',
-        other => other,
-    }
 }
 
 /// Serves a stream as a command says.

@@ -6,13 +6,14 @@
 //! - `hostile`: the script `hostile.lines`, over readers and writers that fail. A command that begins with `replay`, `desk`
 //!   or `queries` has a stream served by a replay, by a desk or by a reader of a desk: `whole`; `bytes`, a byte at a time;
 //!   `reads NUMBER`, in pieces of so many bytes, once for each read, which fails; `writes`, once for each write, which fails
-//!   or takes no byte; `spaces`, where spaces come for ever. `worker` has one worker serve it twice, first where the first
+//!   or takes no byte; `prefixes`, each proper prefix alone; `spaces`, where spaces come for ever. `worker` has one worker serve it twice, first where the first
 //!   read fails. `faults` prints the texts of all faults, and `marks` the answers where memory is refused.
 //! - `lines`: the script `lines.lines`, whose lines are answered by their lengths. [`lines`] says how it is written.
 //!
 //! Other lines of the first two scripts prepare the next stream: `line TEXT`, `last TEXT` (without byte 10), `long NUMBER` (so
-//! many bytes), `byte NUMBER` and `filled NUMBER TEXT` (with spaces behind it, so many bytes in all) add to it; `turns LINES`
-//! says how many lines are answered at most; `refuse LINE` has the gate refuse a line.
+//! many bytes), `byte NUMBER`, `filled NUMBER TEXT` (with spaces behind it, so many bytes in all) and `each NUMBER TEXT` (so
+//! many times, with the number of the time for `#`) add to it; `turns LINES` says how many lines are answered at most; `refuse
+//! LINE` has the gate refuse a line.
 #![tactic(auto)]
 
 mod always;
@@ -25,6 +26,7 @@ mod lines;
 mod noting;
 mod pair;
 mod plan;
+mod spelled;
 mod stream;
 mod streams;
 mod sweeps;

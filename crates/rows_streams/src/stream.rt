@@ -1,7 +1,9 @@
 //! A stream that is prepared.
+use crate::spelled::add_spelled;
 use lost_worker::Turns;
 use std::alloc::{AllocError, Global};
 use std::io;
+use std::io::Write;
 
 /// The bytes of a stream, how long it is served, and which line the gate refuses.
 #[derive(Drop)]
@@ -22,7 +24,7 @@ impl Stream {
     }
 
     /// Prepares the stream as a line of a script says; false where the line does not prepare it.
-    pub(crate) fn is_prepared(&mut self, line: &str) -> Result<bool, AllocError> {
+    pub(crate) fn is_prepared(&mut self, line: &str) -> io::Result<bool> {
         let Some((word, rest)) = line.split_once(' ') else {
             return Ok(false);
         };
@@ -34,6 +36,10 @@ impl Stream {
             "filled" => {
                 let (count, text) = rest.split_once(' ').unwrap_or(("", rest));
                 self.add_filled(text, number(count))?;
+            }
+            "each" => {
+                let (count, text) = rest.split_once(' ').unwrap_or(("", rest));
+                self.add_each(number(count), text)?;
             }
             "turns" => self.turns.lines = number(rest),
             "refuse" => self.refused = Some(number(rest)),
@@ -47,6 +53,27 @@ impl Stream {
         self.bytes.extend_from_slice(text.as_bytes())?;
         for _ in text.len() as u64..least {
             self.bytes.push(b' ')?;
+        }
+        self.bytes.push(b'\n')?;
+        Ok(())
+    }
+
+    /// Adds so many times a text and byte 10, where `#` in the text stands for the number of the time, from 1, and `\n` and
+    /// `\r` are spelled.
+    fn add_each(&mut self, count: u64, text: &str) -> io::Result<()> {
+        for number in 1..=count {
+            self.add_numbered(number, text)?;
+        }
+        Ok(())
+    }
+
+    /// Adds a text and byte 10, where `#` in the text stands for a number.
+    fn add_numbered(&mut self, number: u64, text: &str) -> io::Result<()> {
+        for (place, part) in text.split('#').enumerate() {
+            if place > 0 {
+                write!(self.bytes, "{number}")?;
+            }
+            add_spelled(&mut self.bytes, part)?;
         }
         self.bytes.push(b'\n')?;
         Ok(())

@@ -1,6 +1,6 @@
 //! A stream over each reader and writer that fails.
 use crate::by::{By, Outcome, served};
-use crate::telling::{tell_counts, tell_text};
+use crate::telling::{tell_counts, tell_folded, tell_text};
 use lost_spec::Coded;
 use lost_worker::{ServeError, Turns};
 use std::alloc::AllocError;
@@ -81,6 +81,27 @@ pub(crate) fn writes<R: Wait + Print + AllocGlobal>(rt: &R, sweep: &Sweep) -> io
         )?;
     }
     Ok(())
+}
+
+/// Serves each proper prefix of a stream as a stream of its own, and prints what was written in all, how many lines were
+/// answered, and for how many prefixes nothing was written.
+pub(crate) fn prefixes<R: Wait + Print + AllocGlobal>(rt: &R, sweep: &Sweep) -> io::Result<()> {
+    let mut text = Vec::new(rt.alloc());
+    let (mut lines, mut silent) = (0u64, 0u64);
+    for length in 0..sweep.bytes.len() {
+        let feed = Feed::of(&sweep.bytes[..length], usize::MAX);
+        let outcome = run(rt, sweep, feed, usize::MAX, NEVER, false)?;
+        if let Ok(counts) = outcome.result {
+            lines = lines.saturating_add(counts.lines);
+        }
+        silent = silent.saturating_add(u64::from(outcome.text.is_empty()));
+        text.extend_from_slice(outcome.text.as_slice())?;
+    }
+    tell_folded(rt, text.as_slice())?;
+    println!(rt;
+        "{} prefixes, {lines} lines, {silent} with no output",
+        sweep.bytes.len()
+    )
 }
 
 /// Serves spaces that never end, for at most 10 lines and 1,000 reads.

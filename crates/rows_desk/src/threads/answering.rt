@@ -1,10 +1,11 @@
 //! The thread of the reader.
 ghost use Rattle.std.specs.Prelude.{◌≡◌};
 
+use super::ROUNDS;
 use super::beside::Beside;
 use super::fault::Fault;
 use super::letter::{Letter, Naming};
-use super::{QUESTION, ROUNDS};
+use crate::orders::QUESTION;
 use crossbeam_channel::Receiver;
 use lost_book::Limits;
 use lost_desk::{Reader, Told};

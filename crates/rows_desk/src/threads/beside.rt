@@ -1,23 +1,25 @@
 //! The book beside, to which the reader's thread applies the same edits.
-use super::QUESTION;
 use super::fault::Fault;
+use crate::orders::QUESTION;
 use lost_book::{Book, Edit, Limits};
 use lost_json::{DeskLine, read_desk, reply_line};
 use std::alloc::Global;
 use test_rows::Setting;
 
-/// The edit of each even round.
-const PUBLISH: &[u8] =
-    br#"{"publish":{"expires":"NO-EXPIRATION","key":"A-1","lastUpdated":"2025-12-01T00:00:00Z","service":"urn:service:sos.police","serviceBoundary":[{"polygon":[[0,0],[0,10000000],[10000000,10000000],[10000000,0],[0,0]],"profile":"geodetic-2d"}],"source":"map.example","sourceId":"A","uri":["sip:A@map.example"]}}"#;
-
-/// The edit of each odd round.
-const WITHDRAW: &[u8] =
-    br#"{"withdraw":{"lastUpdated":"2025-12-02T00:00:00Z","source":"map.example","sourceId":"A"}}"#;
-
-/// The edit of a round, which makes the next edition.
+/// The edit of a round, which makes the next edition: an even round publishes the mapping, and an odd one withdraws it. Each
+/// edit has a later stamp than the one before.
 pub(crate) fn edit_before(alloc: Global, round: u64) -> Result<Edit, Fault> {
-    let line = if round % 2 == 0 { PUBLISH } else { WITHDRAW };
-    match read_desk(alloc, line) {
+    let fraction = round.saturating_add(100_000_000);
+    let line = if round % 2 == 0 {
+        format!(in alloc;
+            "{{\"publish\":{{\"expires\":\"NO-EXPIRATION\",\"key\":\"A-1\",\"lastUpdated\":\"2025-12-01T00:00:00.{fraction}Z\",\"service\":\"urn:service:sos.police\",\"serviceBoundary\":[{{\"polygon\":[[0,0],[0,10000000],[10000000,10000000],[10000000,0],[0,0]],\"profile\":\"geodetic-2d\"}}],\"source\":\"map.example\",\"sourceId\":\"A\",\"uri\":[\"sip:A@map.example\"]}}}}"
+        )
+    } else {
+        format!(in alloc;
+            "{{\"withdraw\":{{\"lastUpdated\":\"2025-12-01T00:00:00.{fraction}Z\",\"source\":\"map.example\",\"sourceId\":\"A\"}}}}"
+        )
+    }?;
+    match read_desk(alloc, line.as_bytes()) {
         Ok(Some(DeskLine::Edit(edit))) => Ok(edit),
         _ => Err(Fault::Refused),
     }

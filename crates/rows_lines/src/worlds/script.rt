@@ -1,10 +1,10 @@
 //! The lines of standard input.
-use crate::limits::read;
 use lost_book::Limits;
 use lost_core::Step;
 use lost_json::{DeskFault, DeskLine, read_desk};
 use lost_mapping::{MappingError, Moment};
 use std::alloc::{AllocError, Global};
+use test_rows::limits_of;
 
 /// What a line of standard input says.
 #[derive(Drop)]
@@ -37,7 +37,7 @@ pub(crate) fn read_line(alloc: Global, moment: Moment, line: &str) -> Result<Lin
 /// The world of so many workers and of these limits.
 fn world(words: &str) -> Line {
     let (workers, limits) = words.split_once(' ').unwrap_or((words, ""));
-    match (workers.parse(), read(limits)) {
+    match (workers.parse(), limits_of(limits.trim_end())) {
         (Ok(workers), Some(limits)) => Line::World(workers, limits),
         _ => Line::Other,
     }

@@ -1,6 +1,6 @@
 //! What desks do.
 use super::bench::Line;
-use super::lines::{COMMIT, PUBLISH, WITHDRAW};
+use super::lines::{COMMIT, PUBLISH, WITHDRAW, stamped};
 use std::alloc::Global;
 use std::io;
 use std::thread::sleep;
@@ -15,12 +15,13 @@ pub(crate) fn ask(alloc: Global, desk: &mut Line, line: &[u8]) -> io::Result<Str
     desk.reply(alloc)
 }
 
-/// Publishes the mapping and withdraws it, in turn, each with a commit of its own. Says whether each edit was staged and
-/// each commit gave the next edition.
+/// Publishes the mapping and withdraws it, in turn, each with a later stamp and with a commit of its own. Says whether each
+/// edit was staged and each commit gave the next edition.
 pub(crate) fn commit_all<R: Clock>(rt: &R, alloc: Global, desk: &mut Line) -> io::Result<bool> {
     for edition in 1..=EDITIONS {
         let edit = if edition % 2 == 1 { PUBLISH } else { WITHDRAW };
-        let staged = ask(alloc, desk, edit)?;
+        let line = stamped(alloc, edit, edition)?;
+        let staged = ask(alloc, desk, line.as_bytes())?;
         let committed = ask(alloc, desk, COMMIT)?;
         let wanted = format!(in alloc; "{{\"committed\":{{\"edition\":{edition}}}}}")?;
         if staged.as_str() != "{\"staged\":{\"pending\":1}}"

@@ -2,7 +2,7 @@
 //! after it, so that a slow machine gives the same output.
 use super::bench::{Bench, Line};
 use super::desks::ask;
-use super::lines::{COMMIT, QUESTION, WITHDRAW, is_found, is_nothing, publish_until};
+use super::lines::{COMMIT, QUESTION, WITHDRAW, is_found, is_nothing, publish_until, stamped};
 use jiff::Timestamp;
 use std::alloc::Global;
 use std::io;
@@ -43,9 +43,9 @@ pub(crate) fn desk_and_expiry<R: Net<Listener = TcpListener, Stream = TcpStream>
 ) -> io::Result<(String, Seen)> {
     let mut desk = Line::to_desk(rt, alloc, bench)?;
     let mut query = Line::to_queries(rt, alloc, bench)?;
-    publish(alloc, &mut desk, LONG_AGO)?;
+    publish(alloc, &mut desk, LONG_AGO, 0)?;
     let long_ago = ask(alloc, &mut query, QUESTION)?;
-    withdraw(alloc, &mut desk)?;
+    withdraw(alloc, &mut desk, 1)?;
     let mut seen = Seen::default();
     for seconds in SECONDS {
         if !seen.is_answered {
@@ -55,7 +55,8 @@ pub(crate) fn desk_and_expiry<R: Net<Listener = TcpListener, Stream = TcpStream>
     Ok((long_ago, seen))
 }
 
-/// Publishes a mapping that expires in so many seconds, and asks for it until it has.
+/// Publishes a mapping that expires in so many seconds, and asks for it until it has. Its stamps are those of the number of
+/// seconds and of the next one.
 fn attempt<R: Clock>(
     rt: &R,
     alloc: Global,
@@ -65,14 +66,14 @@ fn attempt<R: Clock>(
     seen: &mut Seen,
 ) -> io::Result<()> {
     let end = rt.since_1970()?.as_secs().saturating_add(seconds);
-    publish(alloc, desk, stamp_of(alloc, end)?.as_str())?;
+    publish(alloc, desk, stamp_of(alloc, end)?.as_str(), seconds)?;
     for _ in 0..ROUNDS {
         if is_over(rt, alloc, query, Duration::from_secs(end), seen)? {
             break;
         }
         sleep(rt, Duration::from_millis(PAUSE));
     }
-    withdraw(alloc, desk)
+    withdraw(alloc, desk, seconds.saturating_add(1))
 }
 
 /// Asks for a mapping that expires at `end`, and keeps what was seen. Says whether it had expired before.
@@ -112,17 +113,18 @@ fn stamp_of(alloc: Global, seconds: u64) -> io::Result<String> {
     }
 }
 
-/// Publishes the mapping, which expires at this stamp, and commits it.
-fn publish(alloc: Global, desk: &mut Line, expires: &str) -> io::Result<()> {
-    let line = publish_until(alloc, expires)?;
+/// Publishes the mapping, which expires at this moment, with the stamp of a number, and commits it.
+fn publish(alloc: Global, desk: &mut Line, expires: &str, number: u64) -> io::Result<()> {
+    let line = publish_until(alloc, expires, number)?;
     let _staged = ask(alloc, desk, line.as_bytes())?;
     let _committed = ask(alloc, desk, COMMIT)?;
     Ok(())
 }
 
-/// Withdraws the mapping, and commits that.
-fn withdraw(alloc: Global, desk: &mut Line) -> io::Result<()> {
-    let _staged = ask(alloc, desk, WITHDRAW)?;
+/// Withdraws the mapping, with the stamp of a number, and commits that.
+fn withdraw(alloc: Global, desk: &mut Line, number: u64) -> io::Result<()> {
+    let line = stamped(alloc, WITHDRAW, number)?;
+    let _staged = ask(alloc, desk, line.as_bytes())?;
     let _committed = ask(alloc, desk, COMMIT)?;
     Ok(())
 }

@@ -2,13 +2,16 @@
 use std::alloc::Global;
 use std::io;
 
+/// The stamp of the lines of a desk.
+const STAMP: &str = "2025-12-01T00:00:00Z";
+
 /// How a mapping begins whose boundary is a square.
 pub(crate) const PUBLISH: &[u8] =
     b"{\"publish\":{\"expires\":\"NO-EXPIRATION\",\"key\":\"A-1\",\"lastUpdated\":\"2025-12-01T00:00:00Z\",\"service\":\"urn:service:sos.police\",\"serviceBoundary\":[{\"polygon\":[[0,0],[0,10000000],[10000000,10000000],[10000000,0],[0,0]],\"profile\":\"geodetic-2d\"}],\"source\":\"map.example\",\"sourceId\":\"A\",\"uri\":[\"sip:A@map.example\"]}}\n";
 
-/// The end of that mapping.
+/// The end of that mapping, which is sent with a later stamp.
 pub(crate) const WITHDRAW: &[u8] =
-    b"{\"withdraw\":{\"lastUpdated\":\"2025-12-02T00:00:00Z\",\"source\":\"map.example\",\"sourceId\":\"A\"}}\n";
+    b"{\"withdraw\":{\"lastUpdated\":\"2025-12-01T00:00:00Z\",\"source\":\"map.example\",\"sourceId\":\"A\"}}\n";
 
 /// A commit.
 pub(crate) const COMMIT: &[u8] = b"{\"commit\":{}}\n";
@@ -17,33 +20,57 @@ pub(crate) const COMMIT: &[u8] = b"{\"commit\":{}}\n";
 pub(crate) const QUESTION: &[u8] =
     b"{\"findService\":{\"location\":[{\"id\":\"p\",\"pos\":[5000000,5000000],\"profile\":\"geodetic-2d\"}],\"service\":\"urn:service:sos.police\"}}\n";
 
-/// What stands before the edition of a reply that has found the mapping, and what stands after it.
-const FOUND: (&str, &str) = (
+/// What stands before the edition of a reply that has found the mapping, between it and the number of the stamp, and
+/// behind that.
+const FOUND: (&str, &str, &str) = (
     "{\"findServiceResponse\":{\"edition\":",
-    ",\"locationUsed\":\"p\",\"mapping\":[{\"expires\":\"NO-EXPIRATION\",\"lastUpdated\":\"2025-12-01T00:00:00Z\",\"service\":\"urn:service:sos.police\",\"serviceBoundaryReference\":{\"key\":\"A-1\",\"source\":\"map.example\"},\"source\":\"map.example\",\"sourceId\":\"A\",\"uri\":[\"sip:A@map.example\"]}],\"path\":[\"lost.example\"]}}",
+    ",\"locationUsed\":\"p\",\"mapping\":[{\"expires\":\"NO-EXPIRATION\",\"lastUpdated\":\"2025-12-03T00:00:00.1",
+    "Z\",\"service\":\"urn:service:sos.police\",\"serviceBoundaryReference\":{\"key\":\"A-1\",\"source\":\"map.example\"},\"source\":\"map.example\",\"sourceId\":\"A\",\"uri\":[\"sip:A@map.example\"]}],\"path\":[\"lost.example\"]}}",
 );
 
-/// The same of a reply where nothing is held.
+/// What stands before and behind the edition of a reply where nothing is held.
 const NOTHING: (&str, &str) = (
     "{\"errors\":{\"edition\":",
     ",\"error\":\"serviceNotImplemented\"}}",
 );
 
-/// The edition of a reply to the question, where the reply is right for it: the mapping is held at each odd edition.
+/// The edition of a reply to the question, where the reply is right for it: the mapping is held at each odd edition, with the
+/// stamp of this number.
 pub(crate) fn edition_of(reply: &str) -> Option<u64> {
-    let found = between(reply, FOUND);
-    match found {
-        Some(edition) if edition % 2 == 1 => found,
-        Some(_) => None,
-        None => between(reply, NOTHING).filter(|edition| edition % 2 == 0),
+    match between(reply, NOTHING) {
+        Some(edition) => Some(edition).filter(|edition| edition % 2 == 0),
+        None => found_edition(reply).filter(|edition| edition % 2 == 1),
     }
 }
 
-/// The line that publishes the mapping with another `expires`.
-pub(crate) fn publish_until(alloc: Global, expires: &str) -> io::Result<String> {
-    let line = std::str::from_utf8(PUBLISH).unwrap_or("");
-    match line.split_once("NO-EXPIRATION") {
-        Some((front, back)) => Ok(format!(in alloc; "{front}{expires}{back}")?),
+/// The edition of a reply that has found the mapping with the stamp of this number.
+fn found_edition(reply: &str) -> Option<u64> {
+    let (edition, rest) = reply.strip_prefix(FOUND.0)?.split_once(FOUND.1)?;
+    let number = rest.strip_suffix(FOUND.2)?.parse::<u64>().ok()?;
+    edition
+        .parse::<u64>()
+        .ok()
+        .filter(|edition| *edition == number)
+}
+
+/// A desk line with the stamp of a number: it is later than that of the line, and than those of the numbers below it.
+pub(crate) fn stamped(alloc: Global, line: &[u8], number: u64) -> io::Result<String> {
+    let fraction = number.saturating_add(100_000_000);
+    let stamp = format!(in alloc; "2025-12-03T00:00:00.{fraction}Z")?;
+    with(alloc, line, STAMP, stamp.as_str())
+}
+
+/// The line that publishes the mapping with the stamp of a number and another `expires`.
+pub(crate) fn publish_until(alloc: Global, expires: &str, number: u64) -> io::Result<String> {
+    let line = stamped(alloc, PUBLISH, number)?;
+    with(alloc, line.as_bytes(), "NO-EXPIRATION", expires)
+}
+
+/// A line with one text in the place of another.
+fn with(alloc: Global, line: &[u8], old: &str, new: &str) -> io::Result<String> {
+    let line = std::str::from_utf8(line).unwrap_or("");
+    match line.split_once(old) {
+        Some((front, back)) => Ok(format!(in alloc; "{front}{new}{back}")?),
         None => Err(io::Error::from(io::ErrorKind::InvalidData)),
     }
 }

@@ -2,7 +2,7 @@
 use super::bench::{Bench, Line};
 use super::clients::{Found, ask_all};
 use super::desks::{ask, commit_all};
-use super::lines::{COMMIT, PUBLISH, QUESTION, edition_of};
+use super::lines::{COMMIT, PUBLISH, QUESTION, WITHDRAW, edition_of, stamped};
 use std::alloc::Global;
 use std::io;
 use std::net::{Net, TcpListener, TcpStream};
@@ -12,7 +12,7 @@ use std::time::Clock;
 /// How many clients there are beside the commits.
 const CLIENTS: usize = 8;
 
-/// The replies to an edit, a commit and a query, in this order. The desk's connection ends last.
+/// The replies to an edit, a commit and a query, and to edits that are not committed, in this order. The desk's connection ends last.
 pub(crate) fn desk_and_query<R: Net<Listener = TcpListener, Stream = TcpStream>>(
     rt: &R,
     alloc: Global,
@@ -24,7 +24,7 @@ pub(crate) fn desk_and_query<R: Net<Listener = TcpListener, Stream = TcpStream>>
     Ok(replies)
 }
 
-/// Adds the replies to an edit and a commit of a desk, and to a query.
+/// Adds the replies to an edit and a commit of a desk, to a query, and to further edits.
 fn edit_and_query<R: Net<Listener = TcpListener, Stream = TcpStream>>(
     rt: &R,
     alloc: Global,
@@ -37,6 +37,20 @@ fn edit_and_query<R: Net<Listener = TcpListener, Stream = TcpStream>>(
     }
     let mut query = Line::to_queries(rt, alloc, bench)?;
     replies.push(ask(alloc, &mut query, QUESTION)?)?;
+    withdraw_and_publish(alloc, desk, replies)
+}
+
+/// Adds the replies to a withdrawal, to the publish of the mapping as it was before, and to one with a later stamp.
+fn withdraw_and_publish(
+    alloc: Global,
+    desk: &mut Line,
+    replies: &mut Vec<String>,
+) -> io::Result<()> {
+    let withdrawal = stamped(alloc, WITHDRAW, 1)?;
+    let later = stamped(alloc, PUBLISH, 2)?;
+    for line in [withdrawal.as_bytes(), PUBLISH, later.as_bytes()] {
+        replies.push(ask(alloc, desk, line)?)?;
+    }
     Ok(())
 }
 

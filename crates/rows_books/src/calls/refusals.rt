@@ -1,0 +1,141 @@
+//! Calls on books: what they hold, and each refusal but want of memory.
+use crate::edits::edit_of;
+use crate::kinds::Kind;
+use crate::runs::words::unfit;
+use lost_book::{Edit, EditError};
+use lost_mapping::Moment;
+use lost_spec::Coded;
+use lost_urn::ServiceUrn;
+use std::alloc::Global;
+use std::io;
+use test_rows::limits_of;
+
+/// The day, from 1970-01-01, at whose first moment a book is asked.
+const DAY: i32 = 20_454;
+
+/// The key that is asked for.
+const KEY: &str = "B-1";
+
+/// A book, and edits that it refuses.
+#[derive(Drop)]
+struct Refusing<K: Kind> {
+    book: K,
+    refused: Vec<Edit>,
+}
+
+/// Books, and what they are asked for.
+#[derive(Drop)]
+pub(crate) struct Refusals<K: Kind> {
+    books: Vec<Refusing<K>>,
+    service: ServiceUrn,
+    moment: Moment,
+}
+
+impl<K: Kind> Refusals<K> {
+    /// The books of a table. A line `limits` begins one within its numbers; a line `accepted` has an edit that it accepts,
+    /// and a line `refused` one that it refuses then.
+    pub(crate) fn read(alloc: Global, table: &str) -> io::Result<Refusals<K>> {
+        let mut books = Vec::new(alloc);
+        for part in table.split("limits ").skip(1) {
+            books.push(refusing(alloc, part)?)?;
+        }
+        let Ok(service) = ServiceUrn::parse(alloc, b"urn:service:sos.police") else {
+            return Err(unfit());
+        };
+        let Some(moment) = Moment::new(DAY, 0) else {
+            return Err(unfit());
+        };
+        Ok(Refusals {
+            books,
+            service,
+            moment,
+        })
+    }
+
+    /// Makes the calls, and prints what is answered.
+    pub(crate) fn print<R: Print>(self, rt: &R) -> io::Result<()> {
+        let Refusals {
+            books,
+            service,
+            moment,
+        } = self;
+        for refusing in books.into_iter() {
+            print_book(rt, refusing, &service, &moment)?;
+        }
+        Ok(())
+    }
+}
+
+/// The book of a part of the table.
+fn refusing<K: Kind>(alloc: Global, part: &str) -> io::Result<Refusing<K>> {
+    let (numbers, lines) = part.split_once('\n').unwrap_or((part, ""));
+    let Some(limits) = limits_of(numbers) else {
+        return Err(unfit());
+    };
+    let mut book = K::empty(alloc, limits)?;
+    let mut refused = Vec::new(alloc);
+    for line in lines.lines() {
+        match line.split_once(' ') {
+            Some(("accepted", edit)) => accept(alloc, &mut book, edit)?,
+            Some(("refused", edit)) => refused.push(edit_of(alloc, edit.as_bytes())?)?,
+            _ => return Err(unfit()),
+        }
+    }
+    Ok(Refusing { book, refused })
+}
+
+/// Applies an edit, which must be accepted.
+fn accept<K: Kind>(alloc: Global, book: &mut K, line: &str) -> io::Result<()> {
+    match book.apply(edit_of(alloc, line.as_bytes())?) {
+        Ok(()) => Ok(()),
+        Err(_) => Err(unfit()),
+    }
+}
+
+/// Prints what a book holds, how it refuses each edit, and what it holds then.
+fn print_book<R: Print, K: Kind>(
+    rt: &R,
+    refusing: Refusing<K>,
+    service: &ServiceUrn,
+    moment: &Moment,
+) -> io::Result<()> {
+    let Refusing { mut book, refused } = refusing;
+    print_held(rt, &book, service, moment)?;
+    for edit in refused.into_iter() {
+        let checked = code_of(book.check(&edit));
+        let applied = code_of(book.apply(edit));
+        println!(rt; "checked {checked}, applied {applied}")?;
+    }
+    print_held(rt, &book, service, moment)
+}
+
+/// The code of a refusal; 0 where there is none.
+fn code_of(answer: Result<(), EditError>) -> u8 {
+    match answer {
+        Ok(()) => 0,
+        Err(error) => error.code(),
+    }
+}
+
+/// Prints what a book holds: the sourceId of the first mapping, and where the one with the key stands.
+fn print_held<R: Print, K: Kind>(
+    rt: &R,
+    book: &K,
+    service: &ServiceUrn,
+    moment: &Moment,
+) -> io::Result<()> {
+    print!(rt;
+        "{}: edition {}, held {}, implemented {}",
+        K::NAME,
+        book.edition(),
+        book.len(),
+        book.implemented(moment, service)
+    )?;
+    if book.len() > 0 {
+        print!(rt; ", first {}", book.mapping(0).identity().source_id())?;
+    }
+    match book.by_key(moment, KEY) {
+        Some(position) => println!(rt; ", {KEY} at {position}"),
+        None => println!(rt; ", no {KEY}"),
+    }
+}

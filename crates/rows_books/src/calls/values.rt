@@ -1,0 +1,279 @@
+//! Calls on services, points, rings, civic addresses, mappings, moments and limits.
+use crate::edits::edit_of;
+use crate::runs::words::unfit;
+use lost_book::{Edit, Limits};
+use lost_civic::{CivicAddress, Element};
+use lost_geo::{GeoPoint, Polygon};
+use lost_mapping::{Expires, Mapping, Moment};
+use lost_spec::Coded;
+use lost_urn::ServiceUrn;
+use std::alloc::{AllocError, Global};
+use std::cmp::Ordering;
+use std::hash::{DefaultHasher, Hash, Hasher};
+use std::io;
+
+/// A mapping with all that a mapping may have.
+const MAPPING: &[u8] =
+    br#"{"publish":{"displayName":[{"lang":"en","text":"Police"}],"expires":"2026-06-01T00:00:00Z","key":"A-1","lastUpdated":"2025-12-01T00:00:00.5Z","service":"urn:service:SOS.Police","serviceBoundary":[{"polygon":[[0,0],[0,10000000],[10000000,10000000],[10000000,0],[0,0]],"profile":"geodetic-2d"},{"pattern":{"A3":"Leonia","country":"US"},"profile":"civic"}],"serviceNumber":"112","source":"Map.Example","sourceId":"A","uri":["sip:A@map.example","tel:112"]}}"#;
+
+/// The positions of its ring.
+const RING: [(i64, i64); 5] = [
+    (0, 0),
+    (0, 10_000_000),
+    (10_000_000, 10_000_000),
+    (10_000_000, 0),
+    (0, 0),
+];
+
+/// The days of its stamp and of its end, from 1970-01-01, and the last nanosecond of a day.
+const STAMPED: i32 = 20_423;
+
+const ENDED: i32 = 20_605;
+
+const LAST_NANOSECOND: u64 = 86_399_999_999_999;
+
+/// What the calls are made on.
+#[derive(Drop)]
+pub(crate) struct Values {
+    mapping: Mapping,
+    above: ServiceUrn,
+    same: ServiceUrn,
+    ring: Vec<GeoPoint>,
+    three: Vec<GeoPoint>,
+    near: CivicAddress,
+    far: CivicAddress,
+}
+
+impl Values {
+    /// All of them.
+    pub(crate) fn new(alloc: Global) -> io::Result<Values> {
+        let Edit::Publish(mapping) = edit_of(alloc, MAPPING)? else {
+            return Err(unfit());
+        };
+        Ok(Values {
+            mapping,
+            above: service(alloc, "urn:service:sos")?,
+            same: service(alloc, "urn:service:sos.police")?,
+            ring: points(alloc, &RING)?,
+            three: points(alloc, &RING[..3])?,
+            near: address(alloc, " leonia")?,
+            far: address(alloc, "Fort Lee")?,
+        })
+    }
+
+    /// Makes the calls, and prints what is answered.
+    pub(crate) fn print<R: Print>(self, rt: &R) -> io::Result<()> {
+        let Values {
+            mapping,
+            above,
+            same,
+            ring,
+            three,
+            near,
+            far,
+        } = self;
+        print_services(rt, mapping.service(), &above, &same)?;
+        print_points(rt)?;
+        print_rings(rt, ring, three)?;
+        print_civic(rt, &mapping, &near, &far)?;
+        print_mapping(rt, &mapping)?;
+        print_lists(rt, &mapping)?;
+        print_moments(rt, &mapping)?;
+        print_limits(rt)
+    }
+}
+
+/// The service of a text.
+fn service(alloc: Global, text: &str) -> io::Result<ServiceUrn> {
+    ServiceUrn::parse(alloc, text.as_bytes()).map_err(|_| unfit())
+}
+
+/// The points of positions.
+fn points(alloc: Global, positions: &[(i64, i64)]) -> io::Result<Vec<GeoPoint>> {
+    let mut points = Vec::new(alloc);
+    for (lat, lon) in positions {
+        match GeoPoint::new(*lat, *lon) {
+            Ok(point) => points.push(point)?,
+            Err(_) => return Err(unfit()),
+        }
+    }
+    Ok(points)
+}
+
+/// An address in a town.
+fn address(alloc: Global, town: &str) -> io::Result<CivicAddress> {
+    let mut pairs = Vec::new(alloc);
+    for (name, value) in [("country", "US"), ("A3", town), ("FLR", "2")] {
+        pairs.push(pair(alloc, name, value)?)?;
+    }
+    CivicAddress::from_pairs(alloc, pairs).map_err(|_| unfit())
+}
+
+/// A name and a value.
+fn pair(alloc: Global, name: &str, value: &str) -> Result<(String, String), AllocError> {
+    Ok((
+        String::from_str(alloc, name)?,
+        String::from_str(alloc, value)?,
+    ))
+}
+
+/// Prints what a service, one above it and the same one once more are.
+fn print_services<R: Print>(
+    rt: &R,
+    service: &ServiceUrn,
+    above: &ServiceUrn,
+    same: &ServiceUrn,
+) -> io::Result<()> {
+    println!(rt;
+        "service {}, {} labels, below {} {}, and the other way {}",
+        service.text(),
+        service.depth(),
+        above.text(),
+        service.is_at_or_below(above),
+        above.is_at_or_below(service)
+    )?;
+    println!(rt;
+        "equal {}, before {}, the same equal {}, with an equal hash {}",
+        service == above,
+        service.cmp(above) == Ordering::Less,
+        service == same,
+        hash_of(service) == hash_of(same)
+    )
+}
+
+/// The hash of a service.
+fn hash_of(service: &ServiceUrn) -> u64 {
+    let mut hasher = DefaultHasher::new();
+    service.hash(&mut hasher);
+    hasher.finish()
+}
+
+/// Prints what points there are.
+fn print_points<R: Print>(rt: &R) -> io::Result<()> {
+    for (lat, lon) in [
+        (900_000_000, 1_800_000_000),
+        (900_000_001, 0),
+        (0, 1_800_000_001),
+    ] {
+        match GeoPoint::new(lat, lon) {
+            Ok(point) => println!(rt;
+                "point {} {}, normal {} {}",
+                point.lat(),
+                point.lon(),
+                point.normal().lat(),
+                point.normal().lon()
+            )?,
+            Err(error) => println!(rt; "point refused {}", error.code())?,
+        }
+    }
+    Ok(())
+}
+
+/// Prints what rings these points make.
+fn print_rings<R: Print>(rt: &R, ring: Vec<GeoPoint>, three: Vec<GeoPoint>) -> io::Result<()> {
+    for points in [ring, three] {
+        match Polygon::new(points) {
+            Ok(polygon) => print_ring(rt, &polygon)?,
+            Err(error) => println!(rt; "ring refused {}", error.code())?,
+        }
+    }
+    Ok(())
+}
+
+/// Prints how many positions a ring has, its bounds, and whether its corners are inside.
+fn print_ring<R: Print>(rt: &R, polygon: &Polygon) -> io::Result<()> {
+    let bounds = polygon.bounds();
+    print!(rt;
+        "ring of {}, from {} {} to {} {}, inside",
+        polygon.positions().len(),
+        bounds.lat_min,
+        bounds.lon_min,
+        bounds.lat_max,
+        bounds.lon_max
+    )?;
+    for point in polygon.positions() {
+        print!(rt; " {}", polygon.inside(point))?;
+    }
+    println!(rt)
+}
+
+/// Prints which names are elements, and which addresses the patterns of a mapping match.
+fn print_civic<R: Print>(
+    rt: &R,
+    mapping: &Mapping,
+    near: &CivicAddress,
+    far: &CivicAddress,
+) -> io::Result<()> {
+    for name in ["A3", "a3"] {
+        match Element::by_name(name) {
+            Some(element) => println!(rt; "element {}", element.name())?,
+            None => println!(rt; "no element")?,
+        }
+    }
+    for pattern in mapping.patterns() {
+        println!(rt;
+            "pattern matches {} {}",
+            pattern.matches(near),
+            pattern.matches(far)
+        )?;
+    }
+    Ok(())
+}
+
+/// Prints the texts of a mapping.
+fn print_mapping<R: Print>(rt: &R, mapping: &Mapping) -> io::Result<()> {
+    let expires = match mapping.expires() {
+        Expires::NoCache => "NO-CACHE",
+        Expires::NoExpiration => "NO-EXPIRATION",
+        Expires::At(stamp) => stamp.text(),
+    };
+    println!(rt;
+        "mapping {} {} {} {}, key {}, number {}, default {}",
+        mapping.identity().source().text(),
+        mapping.identity().source_id(),
+        mapping.stamp().text(),
+        expires,
+        mapping.key().unwrap_or("-"),
+        mapping.number().unwrap_or("-"),
+        mapping.is_default()
+    )
+}
+
+/// Prints how long the lists of a mapping are.
+fn print_lists<R: Print>(rt: &R, mapping: &Mapping) -> io::Result<()> {
+    println!(rt;
+        "{} uris, {} display names, {} polygons, {} patterns",
+        mapping.uris().len(),
+        mapping.display_names().len(),
+        mapping.polygons().len(),
+        mapping.patterns().len()
+    )
+}
+
+/// Prints when a mapping was stamped, and whether it is live before its end and at it.
+fn print_moments<R: Print>(rt: &R, mapping: &Mapping) -> io::Result<()> {
+    println!(rt;
+        "stamped {}, live {} {}, past the day {}",
+        Moment::new(STAMPED, 500_000_000) == Some(mapping.stamp().moment()),
+        is_live(mapping, ENDED - 1, LAST_NANOSECOND),
+        is_live(mapping, ENDED, 0),
+        Moment::new(0, LAST_NANOSECOND + 1).is_some()
+    )
+}
+
+/// Whether a mapping is live at a nanosecond of a day.
+fn is_live(mapping: &Mapping, day: i32, nanosecond: u64) -> bool {
+    match Moment::new(day, nanosecond) {
+        Some(moment) => mapping.is_live(&moment),
+        None => false,
+    }
+}
+
+/// Prints which limits are allowed.
+fn print_limits<R: Print>(rt: &R) -> io::Result<()> {
+    for (mappings, edits, traces) in [(1, 1, 1), (0, 1, 1), (1, 0, 1), (1, 1, 0)] {
+        let limits = Limits::new(mappings, edits).and_then(|limits| limits.with_traces(traces));
+        println!(rt; "limits {mappings} {edits} {traces}: {}", limits.is_some())?;
+    }
+    Ok(())
+}
