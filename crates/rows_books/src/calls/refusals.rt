@@ -37,7 +37,7 @@ impl<K: Kind> Refusals<K> {
     pub(crate) fn read(alloc: Global, table: &str) -> io::Result<Refusals<K>> {
         let mut books = Vec::new(alloc);
         for part in table.split("limits ").skip(1) {
-            books.push(refusing(alloc, part)?)?;
+            books.push(refusing_book(alloc, part)?)?;
         }
         let Ok(service) = ServiceUrn::parse(alloc, b"urn:service:sos.police") else {
             return Err(unfit());
@@ -67,7 +67,7 @@ impl<K: Kind> Refusals<K> {
 }
 
 /// The book of a part of the table.
-fn refusing<K: Kind>(alloc: Global, part: &str) -> io::Result<Refusing<K>> {
+fn refusing_book<K: Kind>(alloc: Global, part: &str) -> io::Result<Refusing<K>> {
     let (numbers, lines) = part.split_once('\n').unwrap_or((part, ""));
     let Some(limits) = limits_of(numbers) else {
         return Err(unfit());
