@@ -22,7 +22,7 @@ use Rattle.lost_index.specs.Entries.{numbers, holders}
 use Rattle.lost_index.specs.declared.note.Note.{Note}
 use Rattle.lost_index.specs.Notes.{notes_of, is_note, has_note, numbers_that_pass, is_holder, IsIndexed}
 use Rattle.lost_index.proofs.EntryLemmas.{at_same}
-use Rattle.lost_index.proofs.NoteChangeLemmas.{any-from_contained}
+use Rattle.lost_index.proofs.NoteChangeLemmas.{any-from_contained, any-alike}
 
 same_number : (n k : ℕ) → nat_eq n k ≡ true → n ≡ k
 same_number n k same = search (arith, nat_tests)
@@ -118,10 +118,6 @@ same_from_both : (a b : Bool) → (a ≡ true → b ≡ true) → (b ≡ true �
 same_from_both true b there back = sym (there refl)
 same_from_both false true there back = back refl
 same_from_both false false there back = refl
-
-any-alike : {X : Type 0} (p q : X → Bool) → ((x : X) → p x ≡ q x) → (xs : List X) → list_any p xs ≡ list_any q xs
-any-alike p q alike [] = refl
-any-alike p q alike (x ∷ xs) = rw (alike x, any-alike p q alike xs) refl
 
 -- two rising lists with the same members are one
 same_rising : (xs ys : List ℕ) → IsStrictlySortedBy nat_cmp xs → IsStrictlySortedBy nat_cmp ys

@@ -2,6 +2,10 @@ pub mod NoteChangeLemmas
 pub mod NoteLemmas
 pub mod CellLemmas
 pub mod CutLemmas
+pub mod RemovalLemmas
+pub mod StayLemmas
+pub mod OnlyLemmas
+pub mod DistinctLemmas
 pub mod EntryLemmas
 pub mod IndexLemmas
 pub mod FilterLemmas

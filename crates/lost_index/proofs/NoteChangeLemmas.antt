@@ -1,5 +1,5 @@
 -- That notes are there, region by region, and key by key.
-use Rattle.std.proofs.Common.{◌≡◌, ℕ, ◌+◌, ◌<◌, inl, inr, Bool, true, List, [], ◌∷◌, ◌++◌, length, take, get_or, All, Contains, sym, subst, ap, ◌∙◌, arith}
+use Rattle.std.proofs.Common.{◌≡◌, ℕ, ◌+◌, ◌<◌, inl, inr, Bool, true, List, [], ◌∷◌, ◌++◌, length, take, get_or, All, Contains, refl, sym, subst, ap, ◌∙◌, arith}
 use Rattle.std.specs.HashMap.{HashMap}
 use Rattle.std.specs.List.{list_any}
 use Rattle.std.proofs.lemmas.List.{take_more}
@@ -11,6 +11,11 @@ use Rattle.lost_index.specs.Notes.{HasNote, KeepsNotes, HaveNotes}
 -- what a list contains, and passes a test, is found by it
 pub any-from_contained : {X : Type 0} (test : X → Bool) (xs : List X) (x : X) → Contains xs x → test x ≡ true → list_any test xs ≡ true
 any-from_contained test xs x stands passes = list_any_at test xs stands.0 x stands.1 (ap test stands.2 ∙ passes)
+
+-- tests that agree find the same
+pub any-alike : {X : Type 0} (p q : X → Bool) → ((x : X) → p x ≡ q x) → (xs : List X) → list_any p xs ≡ list_any q xs
+any-alike p q alike [] = refl
+any-alike p q alike (x ∷ xs) = rw (alike x, any-alike p q alike xs) refl
 
 -- the notes of no region are there
 pub HaveNotes-none : {R K O S : Type 0} (eq : K → K → Bool) (same : O → O → Bool) (cover_of : R → List K) (outline_of : R → O) (number : ℕ) (cells : HashMap K (List (Note O)) S)

@@ -1,9 +1,10 @@
 -- What is noted of numbers under keys (own).
-use Rattle.std.specs.Prelude.{◌≡◌, ℕ, Bool, true, false, ◌&&◌, Option, None, Some, List, [], Contains, map, filter, nat_eq}
+use Rattle.std.specs.Prelude.{◌≡◌, ◌≢◌, ◌⊎◌, ℕ, Bool, true, false, not, ◌&&◌, ◌||◌, Option, None, Some, List, [], AllPairs, Contains, IfSome, map, filter, nat_eq}
 use Rattle.std.specs.BTreeMap as tree
 use Rattle.std.specs.BTreeMap.{BTreeMap}
 use Rattle.std.specs.HashMap.{HashMap, get}
 use Rattle.std.specs.List.{list_any}
+use Rattle.std.specs.List.Sorted.{IsNonDecreasingBy}
 use Rattle.std.specs.Option.{option_map_or}
 use Rattle.std.specs.Ordering.{nat_cmp}
 use Rattle.lost_index.specs.declared.note.Note.{Note}
@@ -13,6 +14,14 @@ abbrev pub notes_of : {O : Type 0} → Option (List (Note O)) → List (Note O)
 notes_of None = []
 notes_of (Some notes) = notes
 
+-- no list of notes is empty
+abbrev pub HasNoEmptyList : {K O S : Type 0} → (K → K → Bool) → HashMap K (List (Note O)) S → Type 0
+HasNoEmptyList {K} eq cells = (key : K) → IfSome (get eq cells key) (λ notes. notes ≢ [])
+
+-- the number of a note
+abbrev pub number_of : {O : Type 0} → Note O → ℕ
+number_of note = note.number
+
 -- whether a note is of the number, with an equal outline
 abbrev pub is_note : {O : Type 0} → (O → O → Bool) → ℕ → O → Note O → Bool
 is_note same number outline note = nat_eq number note.number && same outline note.outline
@@ -21,12 +30,34 @@ is_note same number outline note = nat_eq number note.number && same outline not
 abbrev pub has_note : {O : Type 0} → (O → O → Bool) → ℕ → O → List (Note O) → Bool
 has_note same number outline notes = list_any (is_note same number outline) notes
 
+-- what a cell is: its numbers rise, and no note is of the number and the outline of an earlier one
+pub record IsCell {O : Type 0} (same : O → O → Bool) (notes : List (Note O)) : Type 0 where
+  pub rising : IsNonDecreasingBy number_of notes
+  pub distinct : AllPairs (λ note later. is_note same note.number note.outline later ≡ false) notes
+
 -- one of the regions has the key in its cover, and has the outline
 pub record IsUnder {R K O : Type 0} (cover_of : R → List K) (outline_of : R → O) (regions : List R) (key : K) (outline : O) : Type 0 where
   pub region : R
   pub stands : Contains regions region
   pub covered : Contains (cover_of region) key
   pub outlined : outline ≡ outline_of region
+
+-- whether one of the regions has the key in its cover
+abbrev pub covers : {R K : Type 0} → (K → K → Bool) → (R → List K) → List R → K → Bool
+covers eq cover_of regions key = list_any (λ region. list_any (eq key) (cover_of region)) regions
+
+module _ {R K O : Type 0} (eq : K → K → Bool) (same : O → O → Bool) (cover_of : R → List K) (outline_of : R → O) where
+  -- whether one of the regions has the key in its cover, and an equal outline
+  abbrev pub covers_with : List R → K → O → Bool
+  covers_with regions key outline = list_any (λ region. same outline (outline_of region) && list_any (eq key) (cover_of region)) regions
+
+  -- whether there are regions, of which one does
+  abbrev pub some_covers : Option (List R) → K → O → Bool
+  some_covers regions key outline = option_map_or (λ regions. covers_with regions key outline) regions false
+
+  -- whether a note under the key stays where those of the number go, but for those of the regions
+  abbrev pub stays : ℕ → List R → K → Note O → Bool
+  stays number regions key note = not (nat_eq number note.number) || covers_with regions key note.outline
 
 module _ {K O S : Type 0} (eq : K → K → Bool) (same : O → O → Bool) where
   -- the number is noted under the key, with an equal outline
@@ -52,6 +83,22 @@ module _ {K O S : Type 0} (eq : K → K → Bool) (same : O → O → Bool) wher
   HaveNotes cover_of outline_of number regions cells = (key : K) (outline : O) → IsUnder cover_of outline_of regions key outline
       → HasNote cells key number outline
 
+  -- nothing is noted that was not, and no list became empty
+  pub record TakesBack (old new : HashMap K (List (Note O)) S) : Type 0 where
+    pub noted : KeepsNotes new old
+    pub no_empty : HasNoEmptyList eq old → HasNoEmptyList eq new
+
+  -- of the number at most such notes are new, of others none, and no list became empty
+  pub record AddsAtMost (number : ℕ) (may : K → O → Bool) (old new : HashMap K (List (Note O)) S) : Type 0 where
+    pub own : (key : K) (outline : O) → HasNote new key number outline → HasNote old key number outline ⊎ (may key outline ≡ true)
+    pub others : KeepsOthers number new old
+    pub no_empty : HasNoEmptyList eq old → HasNoEmptyList eq new
+
+  -- under such keys the number is noted for the regions alone
+  abbrev pub IsNotedOnlyFor : {R : Type 0} → (R → List K) → (R → O) → ℕ → List R → (K → Bool) → HashMap K (List (Note O)) S → Type 0
+  IsNotedOnlyFor cover_of outline_of number regions at cells = (key : K) (outline : O) → at key ≡ true
+      → HasNote cells key number outline → covers_with eq same cover_of outline_of regions key outline ≡ true
+
 -- whether the number is held, with a region that contains the location
 abbrev pub is_holder : {R L : Type 0} → (R → L → Bool) → L → BTreeMap ℕ (List R) → ℕ → Bool
 is_holder holds location held number =
@@ -61,10 +108,13 @@ is_holder holds location held number =
 abbrev pub numbers_that_pass : {O : Type 0} → (O → Bool) → (ℕ → Bool) → List (Note O) → List ℕ
 numbers_that_pass near passes notes = map (λ note. note.number) (filter (λ note. near note.outline && passes note.number) notes)
 
--- what an index keeps: regions, each noted under its cover's keys; a note more does no harm
+-- what an index keeps: regions, each noted under its cover's keys, and nothing else is noted
 pub record IsIndexed {R K O S : Type 0} (is_region : R → Type 0) (cover_of : R → List K) (outline_of : R → O) (eq : K → K → Bool)
     (same : O → O → Bool) (held : BTreeMap ℕ (List R)) (cells : HashMap K (List (Note O)) S) : Type 0 where
   pub are_regions : (number : ℕ) (regions : List R) → tree.get nat_cmp held number ≡ Some regions
       → (region : R) → Contains regions region → is_region region
   pub have_notes : (number : ℕ) (regions : List R) → tree.get nat_cmp held number ≡ Some regions
       → HaveNotes eq same cover_of outline_of number regions cells
+  pub only_notes : (key : K) (number : ℕ) (outline : O) → HasNote eq same cells key number outline
+      → some_covers eq same cover_of outline_of (tree.get nat_cmp held number) key outline ≡ true
+  pub no_empty : HasNoEmptyList eq cells

@@ -1,7 +1,8 @@
 //! The notes under one key.
-ghost use Rattle.std.specs.Prelude.{◌≡◌, ◌≤◌, ◌∷◌, [], true, false, nat_eq, length, Contains, IfOk, OnOk, OnErr, IsTrue, ◌↔◌};
-ghost use Rattle.std.specs.List.{list_any};
-ghost use Rattle.lost_index.specs.Notes.{has_note};
+ghost use Rattle.std.specs.Prelude.{◌≡◌, ◌≤◌, ◌<◌, ◌∷◌, [], true, false, if◌then◌else◌, length, filter, remove, slice_get, IfOk, IfSome, OnOk, OnErr, IsTrue, ◌↔◌};
+ghost use Rattle.std.specs.List.{AllWithin};
+ghost use Rattle.std.specs.Option.{option_map_or};
+ghost use Rattle.lost_index.specs.Notes.{number_of, is_note, has_note, stays};
 
 use crate::entry;
 use crate::indexed_region::IndexedRegion;
@@ -20,10 +21,13 @@ pub(crate) struct Cell<P: Profile> {
 impl<P: Profile> Model for Cell<P> {
     ghost use Rattle.std.specs.Prelude.{List};
     ghost use Rattle.lost_index.specs.declared.note.Note.{Note};
+    ghost use Rattle.lost_index.specs.Notes.{IsCell};
 
     ghost Value = { List (Note P.Outline) };
 
     ghost view = { λ a. a.notes.items };
+
+    ghost invariant = { λ a. IsCell P.Outline.eq a.notes.items };
 }
 
 impl<P: Profile> Cell<P> {
@@ -56,6 +60,8 @@ impl<P: Profile> Cell<P> {
         ensures added { OnOk result (has_note P.Outline.eq note.number note.outline self.new ≡ true) }
         ensures keeps { (number : _) (outline : _) → has_note P.Outline.eq number outline self.old ≡ true
             → has_note P.Outline.eq number outline self.new ≡ true }
+        ensures only { (number : _) (outline : _) → has_note P.Outline.eq number outline self.new ≡ true
+            → has_note P.Outline.eq number outline (note ∷ self.old) ≡ true }
         ensures refused { OnErr result (self.new ≡ self.old) }
     {
         if self.has(&note) {
@@ -68,13 +74,11 @@ impl<P: Profile> Cell<P> {
 
     /// Takes the notes of a number out, but for the outlines of those regions in whose cover the key is.
     pub(crate) fn remove(&mut self, number: u64, key: &P::Key, remaining: &[IndexedRegion<P>])
-        ensures others { (other : _) (outline : _) → nat_eq number other ≡ false → has_note P.Outline.eq other outline self.old ≡ true
-            → has_note P.Outline.eq other outline self.new ≡ true }
-        ensures remaining { (other : _) (region : _) → Contains remaining.now region → list_any (P.Key.eq key.now) (P.cover_of region) ≡ true
-            → has_note P.Outline.eq other (P.outline_of region) self.old ≡ true
-            → has_note P.Outline.eq other (P.outline_of region) self.new ≡ true }
+        ensures { self.new ≡ filter (stays P.Key.eq P.Outline.eq P.cover_of P.outline_of number remaining.now key.now) self.old }
     {
-        for position in (self.start_of(number)..self.end_of(number)).rev() {
+        let start = self.start_of(number);
+        let end = self.end_of(number);
+        for position in (start..end).rev() {
             self.remove_at(position, number, key, remaining);
         }
     }
@@ -87,11 +91,8 @@ impl<P: Profile> Cell<P> {
         key: &P::Key,
         remaining: &[IndexedRegion<P>],
     )
-        ensures others { (other : _) (outline : _) → nat_eq number other ≡ false → has_note P.Outline.eq other outline self.old ≡ true
-            → has_note P.Outline.eq other outline self.new ≡ true }
-        ensures remaining { (other : _) (region : _) → Contains remaining.now region → list_any (P.Key.eq key.now) (P.cover_of region) ≡ true
-            → has_note P.Outline.eq other (P.outline_of region) self.old ≡ true
-            → has_note P.Outline.eq other (P.outline_of region) self.new ≡ true }
+        ensures { IfSome (slice_get self.old position) (λ note. self.new
+            ≡ (if stays P.Key.eq P.Outline.eq P.cover_of P.outline_of number remaining.now key.now note then self.old else remove self.old position)) }
     {
         let Some(note) = self.notes.get(position) else {
             return;
@@ -101,11 +102,13 @@ impl<P: Profile> Cell<P> {
         }
     }
 
-    /// Whether a note of the same number with an equal outline was found.
+    /// Whether a note of the same number with an equal outline stands there.
     fn has(&self, note: &Note<P::Outline>) -> bool
-        ensures { IsTrue result → has_note P.Outline.eq note.now.number note.now.outline self.now ≡ true }
+        ensures { result ≡ has_note P.Outline.eq note.now.number note.now.outline self.now }
     {
-        for position in self.start_of(note.number)..self.end_of(note.number) {
+        let start = self.start_of(note.number);
+        let end = self.end_of(note.number);
+        for position in start..end {
             if self.has_at(position, note) {
                 return true;
             }
@@ -113,9 +116,9 @@ impl<P: Profile> Cell<P> {
         false
     }
 
-    /// Whether the note at a position is of the same number, with an equal outline.
+    /// Whether there is a note at a position, and it is of the same number, with an equal outline.
     fn has_at(&self, position: usize, note: &Note<P::Outline>) -> bool
-        ensures { IsTrue result → has_note P.Outline.eq note.now.number note.now.outline self.now ≡ true }
+        ensures { result ≡ option_map_or (is_note P.Outline.eq note.now.number note.now.outline) (slice_get self.now position) false }
     {
         let Some(here) = self.notes.get(position) else {
             return false;
@@ -124,13 +127,18 @@ impl<P: Profile> Cell<P> {
     }
 
     /// Where the notes of a number begin, or would.
-    fn start_of(&self, number: u64) -> usize {
+    fn start_of(&self, number: u64) -> usize
+        ensures within { result ≤ length self.now }
+        ensures below { AllWithin (λ note. number_of note < number) self.now 0 result }
+    {
         self.notes.partition_point(|note| note.number < number)
     }
 
     /// Where the notes of a number end, or would.
     fn end_of(&self, number: u64) -> usize
-        ensures { result ≤ length self.now }
+        ensures within { result ≤ length self.now }
+        ensures up_to { AllWithin (λ note. number_of note ≤ number) self.now 0 result }
+        ensures above { AllWithin (λ note. number < number_of note) self.now result (length self.now) }
     {
         self.notes.partition_point(|note| note.number <= number)
     }

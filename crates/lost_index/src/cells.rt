@@ -1,7 +1,7 @@
 //! The cells: the notes under each key.
-ghost use Rattle.std.specs.Prelude.{◌≡◌, [], OnOk, IsTrue};
+ghost use Rattle.std.specs.Prelude.{◌≡◌, ◌≢◌, ◌&&◌, [], false, OnOk, IfSome, IsTrue, IsFalse};
 ghost use Rattle.std.specs.HashMap.{get};
-ghost use Rattle.lost_index.specs.Notes.{notes_of, HasNote, IsUnder, KeepsNotes, KeepsOthers, KeepsUnder};
+ghost use Rattle.lost_index.specs.Notes.{notes_of, HasNote, IsUnder, KeepsNotes, KeepsOthers, KeepsUnder, AddsAtMost, TakesBack, IsNotedOnlyFor};
 
 use crate::cell::Cell;
 use crate::indexed_region::IndexedRegion;
@@ -19,6 +19,7 @@ pub(crate) fn add_note<P: Profile>(
 ) -> Result<(), AllocError>
     ensures added { OnOk result (HasNote P.Key.eq P.Outline.eq cells.new key note.number note.outline) }
     ensures keeps { KeepsNotes P.Key.eq P.Outline.eq cells.old cells.new }
+    ensures only { AddsAtMost P.Key.eq P.Outline.eq note.number (λ other outline. P.Outline.eq outline note.outline && P.Key.eq other key) cells.old cells.new }
 {
     if let Some(cell) = cells.get_mut(&key) {
         return cell.add(note);
@@ -37,6 +38,8 @@ pub(crate) fn remove_note<P: Profile>(
 )
     ensures others { KeepsOthers P.Key.eq P.Outline.eq number cells.old cells.new }
     ensures remaining { KeepsUnder P.Key.eq P.Outline.eq (IsUnder P.cover_of P.outline_of remaining.now) cells.old cells.new }
+    ensures fewer { TakesBack P.Key.eq P.Outline.eq cells.old cells.new }
+    ensures gone { IsNotedOnlyFor P.Key.eq P.Outline.eq P.cover_of P.outline_of number remaining.now (λ other. P.Key.eq other key.now) cells.new }
 {
     if remove_from_cell(cells, key, number, remaining) {
         cells.remove(key);
@@ -53,7 +56,11 @@ fn remove_from_cell<P: Profile>(
 ) -> bool
     ensures others { KeepsOthers P.Key.eq P.Outline.eq number cells.old cells.new }
     ensures remaining { KeepsUnder P.Key.eq P.Outline.eq (IsUnder P.cover_of P.outline_of remaining.now) cells.old cells.new }
+    ensures noted { KeepsNotes P.Key.eq P.Outline.eq cells.new cells.old }
+    ensures gone { IsNotedOnlyFor P.Key.eq P.Outline.eq P.cover_of P.outline_of number remaining.now (λ other. P.Key.eq other key.now) cells.new }
+    ensures elsewhere { (other : _) → P.Key.eq key.now other ≡ false → get P.Key.eq cells.new other ≡ get P.Key.eq cells.old other }
     ensures empty { IsTrue result → notes_of (get P.Key.eq cells.new key.now) ≡ [] }
+    ensures some { IsFalse result → IfSome (get P.Key.eq cells.new key.now) (λ notes. notes ≢ []) }
 {
     let Some(cell) = cells.get_mut(key) else {
         return false;

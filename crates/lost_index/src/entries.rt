@@ -1,5 +1,5 @@
 //! The entries of the numbers that are held.
-ghost use Rattle.std.specs.Prelude.{◌≡◌, ◌≤◌, ◌++◌, ◌∷◌, [], Some, cond, length, IfOk, OnOk, OnErr};
+ghost use Rattle.std.specs.Prelude.{◌≡◌, ◌≤◌, ◌++◌, ◌∷◌, [], Some, cond, length, IfOk, IfErr, OnOk, OnErr};
 ghost use Rattle.std.specs.BTreeMap.{get, is_at};
 ghost use Rattle.std.specs.List.{slice_range};
 ghost use Rattle.std.specs.Ordering.{nat_cmp};
@@ -35,6 +35,7 @@ pub(crate) fn put<P: Profile>(
     ensures put { OnOk result (held.new.entries ≡ held.old.entries ++ (number, entry) ∷ []) }
     ensures updates { OnOk result ((k : _) → get nat_cmp held.new k ≡ cond (is_at (nat_cmp number) k) (Some entry) (get nat_cmp held.old k)) }
     ensures refused { OnErr result (held.new.entries ≡ held.old.entries) }
+    ensures given_back { IfErr result (λ back. back ≡ entry) }
 {
     match held.insert(number, entry) {
         Ok(_) => Ok(()),

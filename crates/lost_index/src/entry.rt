@@ -1,6 +1,7 @@
 //! The regions of one number.
-ghost use Rattle.std.specs.Prelude.{◌≡◌, ◌≤◌, ◌++◌, ◌&&◌, [], length, All, IfOk, OnOk, OnErr};
+ghost use Rattle.std.specs.Prelude.{◌≡◌, ◌≤◌, ◌++◌, [], length, All, IfOk, OnOk, OnErr};
 ghost use Rattle.std.specs.List.{list_any, slice_range};
+ghost use Rattle.lost_index.specs.Notes.{covers_with as are_covering_with};
 
 use crate::indexed_region::IndexedRegion;
 use lost_profile::Profile;
@@ -82,8 +83,7 @@ pub(crate) fn covers_with<P: Profile>(
     key: &P::Key,
     outline: &P::Outline,
 ) -> bool
-    ensures { result ≡ list_any
-        (λ region. P.Outline.eq (P.outline_of region) outline.now && list_any (P.Key.eq key.now) (P.cover_of region)) kept.now }
+    ensures { result ≡ are_covering_with P.Key.eq P.Outline.eq P.cover_of P.outline_of kept.now key.now outline.now }
 {
     for one in kept {
         if one.covers_with(key, outline) {

@@ -14,7 +14,8 @@ use std::collections::{BTreeMap, HashMap};
 use std::marker::Model;
 
 /// Numbers with their regions, by which the numbers of a location are found. Contracts see it as the list of (number,
-/// regions); the numbers rise along it.
+/// regions); the numbers rise along it. Each region is noted in the cells of its cover's keys, and nothing else is: that is
+/// its invariant.
 #[derive(Drop)]
 pub struct Index<P: Profile> {
     alloc: Global,
@@ -124,6 +125,8 @@ impl<P: Profile> Index<P> {
 }
 
 /// None of what is kept.
-fn none<P: Profile>(kept: &[IndexedRegion<P>]) -> &[IndexedRegion<P>] {
+fn none<P: Profile>(kept: &[IndexedRegion<P>]) -> &[IndexedRegion<P>]
+    ensures { result.now ≡ [] }
+{
     &kept[..0]
 }

@@ -62,9 +62,9 @@ impl<P: Profile> IndexedRegion<P> {
 
     /// Whether its outline is equal to this one, and the key is one of its cover.
     pub(crate) fn covers_with(&self, key: &P::Key, outline: &P::Outline) -> bool
-        ensures { result ≡ (P.Outline.eq (P.outline_of self.now) outline.now && list_any (P.Key.eq key.now) (P.cover_of self.now)) }
+        ensures { result ≡ (P.Outline.eq outline.now (P.outline_of self.now) && list_any (P.Key.eq key.now) (P.cover_of self.now)) }
     {
-        self.outline == *outline && self.keys.contains(key)
+        *outline == self.outline && self.keys.contains(key)
     }
 
     /// Whether the region contains the location; most that don't are refused by their outline.

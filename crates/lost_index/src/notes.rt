@@ -1,7 +1,7 @@
 //! Noting a number under the keys of its regions, and taking those notes back.
-ghost use Rattle.std.specs.Prelude.{◌≤◌, length, All, OnOk};
-ghost use Rattle.std.specs.List.{slice_range};
-ghost use Rattle.lost_index.specs.Notes.{HasNote, IsUnder, KeepsNotes, KeepsOthers, KeepsUnder, HaveNotes};
+ghost use Rattle.std.specs.Prelude.{◌≤◌, ◌&&◌, true, length, All, OnOk, OnErr};
+ghost use Rattle.std.specs.List.{list_any, slice_range};
+ghost use Rattle.lost_index.specs.Notes.{HasNote, IsUnder, KeepsNotes, KeepsOthers, KeepsUnder, HaveNotes, AddsAtMost, TakesBack, IsNotedOnlyFor, covers, covers_with};
 
 use crate::cell::Cell;
 use crate::cells;
@@ -23,6 +23,10 @@ pub(crate) fn add_notes<P: Profile>(
     ensures added { OnOk result (HaveNotes P.Key.eq P.Outline.eq P.cover_of P.outline_of number new.now cells.new) }
     ensures others { KeepsOthers P.Key.eq P.Outline.eq number cells.old cells.new }
     ensures remaining { KeepsUnder P.Key.eq P.Outline.eq (IsUnder P.cover_of P.outline_of remaining.now) cells.old cells.new }
+    ensures only { OnOk result (AddsAtMost P.Key.eq P.Outline.eq number
+        (covers_with P.Key.eq P.Outline.eq P.cover_of P.outline_of new.now) cells.old cells.new) }
+    ensures refused { OnErr result (AddsAtMost P.Key.eq P.Outline.eq number
+        (covers_with P.Key.eq P.Outline.eq P.cover_of P.outline_of remaining.now) cells.old cells.new) }
 {
     if add_all_notes(cells, alloc, number, new).is_err() {
         remove_notes(cells, number, new, remaining);
@@ -40,6 +44,8 @@ fn add_all_notes<P: Profile>(
 ) -> Result<(), AllocError>
     ensures added { OnOk result (HaveNotes P.Key.eq P.Outline.eq P.cover_of P.outline_of number new.now cells.new) }
     ensures keeps { KeepsNotes P.Key.eq P.Outline.eq cells.old cells.new }
+    ensures only { AddsAtMost P.Key.eq P.Outline.eq number
+        (covers_with P.Key.eq P.Outline.eq P.cover_of P.outline_of new.now) cells.old cells.new }
 {
     for one in new {
         let note = Note {
@@ -60,6 +66,8 @@ fn add_notes_under<P: Profile>(
 ) -> Result<(), AllocError>
     ensures added { OnOk result (All (λ key. HasNote P.Key.eq P.Outline.eq cells.new key note.number note.outline) keys.items) }
     ensures keeps { KeepsNotes P.Key.eq P.Outline.eq cells.old cells.new }
+    ensures only { AddsAtMost P.Key.eq P.Outline.eq note.number
+        (λ key outline. P.Outline.eq outline note.outline && list_any (P.Key.eq key) keys.items) cells.old cells.new }
 {
     for key in keys {
         cells::add_note(cells, alloc, key, note)?;
@@ -77,6 +85,9 @@ pub(crate) fn remove_notes<P: Profile>(
 )
     ensures others { KeepsOthers P.Key.eq P.Outline.eq number cells.old cells.new }
     ensures remaining { KeepsUnder P.Key.eq P.Outline.eq (IsUnder P.cover_of P.outline_of remaining.now) cells.old cells.new }
+    ensures fewer { TakesBack P.Key.eq P.Outline.eq cells.old cells.new }
+    ensures gone { IsNotedOnlyFor P.Key.eq P.Outline.eq P.cover_of P.outline_of number remaining.now
+        (covers P.Key.eq P.cover_of gone.now) cells.new }
 {
     for one in gone {
         remove_notes_under(cells, number, one.keys(), remaining);
@@ -96,6 +107,9 @@ pub(crate) fn remove_rest_notes<P: Profile>(
     requires within { to ≤ length kept.now }
     ensures others { KeepsOthers P.Key.eq P.Outline.eq number cells.old cells.new }
     ensures remaining { KeepsUnder P.Key.eq P.Outline.eq (IsUnder P.cover_of P.outline_of (slice_range kept.now from to)) cells.old cells.new }
+    ensures fewer { TakesBack P.Key.eq P.Outline.eq cells.old cells.new }
+    ensures gone { IsNotedOnlyFor P.Key.eq P.Outline.eq P.cover_of P.outline_of number kept.now (λ key. true) cells.old
+        → IsNotedOnlyFor P.Key.eq P.Outline.eq P.cover_of P.outline_of number (slice_range kept.now from to) (λ key. true) cells.new }
 {
     let remaining = &kept[from..to];
     remove_notes(cells, number, &kept[..from], remaining);
@@ -111,6 +125,9 @@ fn remove_notes_under<P: Profile>(
 )
     ensures others { KeepsOthers P.Key.eq P.Outline.eq number cells.old cells.new }
     ensures remaining { KeepsUnder P.Key.eq P.Outline.eq (IsUnder P.cover_of P.outline_of remaining.now) cells.old cells.new }
+    ensures fewer { TakesBack P.Key.eq P.Outline.eq cells.old cells.new }
+    ensures gone { IsNotedOnlyFor P.Key.eq P.Outline.eq P.cover_of P.outline_of number remaining.now
+        (λ key. list_any (P.Key.eq key) keys.now) cells.new }
 {
     for key in keys {
         cells::remove_note(cells, key, number, remaining);

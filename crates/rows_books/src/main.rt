@@ -13,10 +13,15 @@
 //!   `calls.rows`. `prepared` makes the values alone.
 //! - `runs`: the runs of the table `runs.rows` are drawn at random. After each edit both are asked alike, and each answer is
 //!   compared.
+//! - `changes`, `many-changes`: a hundred thousand edits of the indexed book, or a million, after each round of which a thousand
+//!   mappings are held, and then the time that it takes to list the services.
+//!
+//! All but `prepared`, `changes` and `many-changes` run in the gate.
 #![tactic(auto)]
 
 mod asking;
 mod calls;
+mod changes;
 mod edits;
 mod full;
 mod kinds;
@@ -30,11 +35,19 @@ use lost_book::Book;
 use lost_routing::Routing;
 use std::io;
 use std::process::ExitCode;
-use std::rt::Files;
+use std::rt::{Clock, Files};
 use test_rows::given;
 
 /// The commands.
-const WORDS: [&str; 5] = ["edits", "full", "calls", "prepared", "runs"];
+const WORDS: [&str; 7] = [
+    "edits",
+    "full",
+    "calls",
+    "prepared",
+    "runs",
+    "changes",
+    "many-changes",
+];
 
 fn main(rt: HostRuntime) -> io::Result<ExitCode> {
     let (words, mut end) = given(&rt, "rows_books", &WORDS)?;
@@ -45,7 +58,7 @@ fn main(rt: HostRuntime) -> io::Result<ExitCode> {
 }
 
 /// Runs a command. Says whether the two books are alike.
-fn run<R: Files + Input + Print + AllocGlobal>(rt: &R, command: &str) -> io::Result<bool> {
+fn run<R: Files + Input + Print + Clock + AllocGlobal>(rt: &R, command: &str) -> io::Result<bool> {
     println!(rt; "== {command}")?;
     match command {
         "edits" => edits::edit_books::<R, Book, Routing>(rt)?,
@@ -56,6 +69,8 @@ fn run<R: Files + Input + Print + AllocGlobal>(rt: &R, command: &str) -> io::Res
         }
         "calls" => calls::print_calls::<R, Book, Routing>(rt, true)?,
         "prepared" => calls::print_calls::<R, Book, Routing>(rt, false)?,
+        "changes" => changes::print_changes::<R, Routing>(rt, changes::MANY)?,
+        "many-changes" => changes::print_changes::<R, Routing>(rt, changes::MOST)?,
         _ => return runs::print_runs::<R, Book, Routing>(rt),
     }
     Ok(true)

@@ -1,9 +1,9 @@
 //! The runs of the table, and what they came to.
 
 mod drawn_edits;
-mod draws;
+pub(crate) mod draws;
 pub(crate) mod questions;
-mod regions;
+pub(crate) mod regions;
 mod rounds;
 mod rows;
 mod shown;

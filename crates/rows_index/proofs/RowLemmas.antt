@@ -31,3 +31,20 @@ module _ {R : Type 0} where
       → more ≡ with_number 1 (λ held. held ++ far) both → length near ≡ 1 → length far ≡ 1 → HasRegions 2 1 more
   two_held none one both more near twice far empty first second added single further =
       rw (added, second, first, empty) (two_of_first near twice far single further)
+
+  -- ---- of one number that is put with two regions
+  pub one_held : (none one : List (ℕ × List R)) (both : List R) → none ≡ [] → one ≡ none ++ (1, both) ∷ [] → IsHeld 1 one
+  one_held none one both empty put = rw (put, empty) (0, omega arith, refl)
+
+  two_of_one : (both : List R) → length both ≡ 2 → HasRegions 2 1 ((1, both) ∷ [])
+  two_of_one both two regions stands =
+      let enough = λ (e : ℕ × List R). e.0 ≡ 1 → 2 ≤ length e.1 in
+      All-contains enough ((1, both) ∷ []) (1, regions) (All-cons enough (1, both) [] (λ _. omega arith) (All-nil enough)) stands refl
+
+  pub has_both : (none one : List (ℕ × List R)) (both : List R) → none ≡ [] → one ≡ none ++ (1, both) ∷ [] → length both ≡ 2 → HasRegions 2 1 one
+  has_both none one both empty put two = rw (put, empty) (two_of_one both two)
+
+  -- and it is held once it is cut
+  pub cut_held : (none one less : List (ℕ × List R)) (both : List R) (change : List R → List R)
+      → none ≡ [] → one ≡ none ++ (1, both) ∷ [] → less ≡ with_number 1 change one → IsHeld 1 less
+  cut_held none one less both change empty put cut = rw (cut, put, empty) (0, omega arith, refl)

@@ -8,10 +8,12 @@
 //! - `tens`: the same row over whole numbers that are kept by their tens, and runs drawn at random beside a scan.
 //! - `edits`, `many-edits`: ten thousand edits, or a million, over a thousand such numbers, and then the same scan.
 //! - `chunks`: a list in chunks, which is edited beside a plain list.
+//! - `calls`: the calls that take no memory are made, on values that were made before. `prepared` makes the values alone.
 //!
-//! All but `many-edits` run in the gate.
+//! All but `many-edits` and `prepared` run in the gate.
 #![tactic(auto)]
 
+mod calls;
 mod chunks;
 mod civic;
 mod covers;
@@ -27,7 +29,7 @@ use std::{env, io};
 use tens::profile::Tens;
 
 /// The commands.
-const COMMANDS: [&str; 7] = [
+const COMMANDS: [&str; 9] = [
     "covers",
     "index",
     "civic",
@@ -35,6 +37,8 @@ const COMMANDS: [&str; 7] = [
     "edits",
     "many-edits",
     "chunks",
+    "calls",
+    "prepared",
 ];
 
 /// The status where no command is given, or one that is unknown.
@@ -56,7 +60,7 @@ fn main(rt: HostRuntime) -> io::Result<ExitCode> {
         return Ok(status);
     }
     eprintln!(rt;
-        "rows_index: give one or more of the words covers, index, civic, tens, edits, many-edits, chunks"
+        "rows_index: give one or more of the words covers, index, civic, tens, edits, many-edits, chunks, calls, prepared"
     )?;
     Ok(ExitCode::from(COMMAND_LINE))
 }
@@ -74,7 +78,9 @@ fn run<R: Input + Print + AllocGlobal>(rt: &R, command: &str) -> io::Result<bool
         }
         "edits" => return tens::edits::print_edits(rt, tens::edits::FEW),
         "many-edits" => return tens::edits::print_edits(rt, tens::edits::MANY),
-        _ => return chunks::print_edits(rt),
+        "chunks" => return chunks::print_edits(rt),
+        "calls" => calls::print_all(rt, true)?,
+        _ => calls::print_all(rt, false)?,
     }
     Ok(true)
 }

@@ -2,9 +2,9 @@
 use crate::edits::edit_of;
 use crate::runs::words::unfit;
 use lost_book::{Edit, Limits};
-use lost_civic::{CivicAddress, Element};
+use lost_civic::{CivicAddress, CivicPattern, Element};
 use lost_geo::{GeoPoint, Polygon};
-use lost_mapping::{Expires, Mapping, Moment};
+use lost_mapping::{Expires, Mapping, Moment, Parts, Region};
 use lost_spec::Coded;
 use lost_urn::ServiceUrn;
 use std::alloc::{AllocError, Global};
@@ -32,10 +32,15 @@ const ENDED: i32 = 20_605;
 
 const LAST_NANOSECOND: u64 = 86_399_999_999_999;
 
+/// One byte more than a value of a pattern may have.
+const LONG: usize = 513;
+
 /// What the calls are made on.
 #[derive(Drop)]
 pub(crate) struct Values {
     mapping: Mapping,
+    parts: Vec<Parts>,
+    long: String,
     above: ServiceUrn,
     same: ServiceUrn,
     ring: Vec<GeoPoint>,
@@ -52,6 +57,8 @@ impl Values {
         };
         Ok(Values {
             mapping,
+            parts: parts(alloc)?,
+            long: long_text(alloc)?,
             above: service(alloc, "urn:service:sos")?,
             same: service(alloc, "urn:service:sos.police")?,
             ring: points(alloc, &RING)?,
@@ -65,6 +72,8 @@ impl Values {
     pub(crate) fn print<R: Print>(self, rt: &R) -> io::Result<()> {
         let Values {
             mapping,
+            parts,
+            long,
             above,
             same,
             ring,
@@ -76,6 +85,8 @@ impl Values {
         print_points(rt)?;
         print_rings(rt, ring, three)?;
         print_civic(rt, &mapping, &near, &far)?;
+        print_pairs(rt, long.as_str())?;
+        print_checks(rt, parts.as_slice())?;
         print_mapping(rt, &mapping)?;
         print_lists(rt, &mapping)?;
         print_moments(rt, &mapping)?;
@@ -86,6 +97,48 @@ impl Values {
 /// The service of a text.
 fn service(alloc: Global, text: &str) -> io::Result<ServiceUrn> {
     ServiceUrn::parse(alloc, text.as_bytes()).map_err(|_| unfit())
+}
+
+/// The parts of a mapping, and then of one whose number is none.
+fn parts(alloc: Global) -> Result<Vec<Parts>, AllocError> {
+    let mut parts = Vec::new(alloc);
+    for number in ["112", "11x"] {
+        parts.push(parts_with(alloc, number)?)?;
+    }
+    Ok(parts)
+}
+
+/// The parts of a mapping with a number.
+fn parts_with(alloc: Global, number: &str) -> Result<Parts, AllocError> {
+    let mut regions = Vec::new(alloc);
+    regions.push(Region::Ring(Vec::from_slice(alloc, &RING)?))?;
+    let mut pairs = Vec::new(alloc);
+    pairs.push(pair(alloc, "A3", "Leonia")?)?;
+    regions.push(Region::Pattern(pairs))?;
+    let mut uris = Vec::new(alloc);
+    uris.push(String::from_str(alloc, "sip:A@map.example")?)?;
+    Ok(Parts {
+        source: String::from_str(alloc, "map.example")?,
+        source_id: String::from_str(alloc, "A")?,
+        last_updated: String::from_str(alloc, "2025-12-01T00:00:00Z")?,
+        expires: String::from_str(alloc, "NO-EXPIRATION")?,
+        service: String::from_str(alloc, "urn:service:sos.police")?,
+        uris,
+        number: Some(String::from_str(alloc, number)?),
+        regions,
+        is_default: false,
+        display_names: Vec::new(alloc),
+        key: Some(String::from_str(alloc, "A-1")?),
+    })
+}
+
+/// A text that is too long for a pattern.
+fn long_text(alloc: Global) -> Result<String, AllocError> {
+    let mut text = String::new(alloc);
+    for _ in 0..LONG {
+        text.push('x')?;
+    }
+    Ok(text)
 }
 
 /// The points of positions.
@@ -216,6 +269,27 @@ fn print_civic<R: Print>(
             pattern.matches(near),
             pattern.matches(far)
         )?;
+    }
+    Ok(())
+}
+
+/// Prints which pairs a pattern takes: one, one with a name of no element, and one with a long value.
+fn print_pairs<R: Print>(rt: &R, long: &str) -> io::Result<()> {
+    println!(rt;
+        "pairs taken {} {} {}",
+        CivicPattern::takes_pair("A3", "Leonia"),
+        CivicPattern::takes_pair("a3", "Leonia"),
+        CivicPattern::takes_pair("A3", long)
+    )
+}
+
+/// Prints whether parts make a mapping.
+fn print_checks<R: Print>(rt: &R, parts: &[Parts]) -> io::Result<()> {
+    for one in parts {
+        match Mapping::check::<Parts>(&one.borrowed()) {
+            Ok(()) => println!(rt; "parts allowed")?,
+            Err(error) => println!(rt; "parts refused {}", error.code())?,
+        }
     }
     Ok(())
 }

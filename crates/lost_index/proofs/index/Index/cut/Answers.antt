@@ -12,7 +12,7 @@ invariant_of-self g c =
     IsIndexed-kept g.P.Profile.is_region g.P.Profile.cover_of g.P.Profile.outline_of g.P.Key.PartialEq.eq g.P.Outline.PartialEq.eq c.self.inside.held c.cut.new.held
     c.self.inside.cells c.remove_rest_notes.new.cells c.args.number regions (slice_range regions c.args.from c.args.to) c.self.invariant
     c.kept_of-kept.ensures (Contains-slice_range regions c.args.from c.args.to) (c.cut.ensures.updates regions c.kept_of-kept.ensures)
-    c.remove_rest_notes.ensures.others c.remove_rest_notes.ensures.remaining
+    c.remove_rest_notes.ensures.others c.remove_rest_notes.ensures.remaining c.remove_rest_notes.ensures.fewer c.remove_rest_notes.ensures.gone
 
 pub remove_rest_notes-requires-clause-within : goal.remove_rest_notes-requires-clause-within
 remove_rest_notes-requires-clause-within g c =

@@ -1,0 +1,96 @@
+//! Calls that take no memory, over each profile: whether a region contains a location, and the cut and the take of an index.
+//! The values that they are made on are made first.
+ghost use Rattle.std.specs.Prelude.{◌≡◌, IfOk, length};
+
+use crate::reading::{address, pattern, required};
+use crate::rings::{FAR, NEAR, point, square};
+use crate::tens::profile::Tens;
+use crate::tens::stretch::Stretch;
+use lost_civic::CivicPattern;
+use lost_civicdex::{Civic, References};
+use lost_geo::Polygon;
+use lost_grid::Geodetic2d;
+use lost_index::Index;
+use lost_profile::Profile;
+use std::alloc::{AllocError, Global};
+use std::io;
+
+/// The address of the questions, and the elements of it that are required.
+const ADDRESS: &str = "country=US;A3= leonia ;HNO=6";
+
+const REQUIRED: &str = "country=US;A3= leonia ;HNO=6 / country A3";
+
+/// Makes the values of each profile, and prints what is answered to the calls, where they are made.
+pub(crate) fn print_all<R: Print + AllocGlobal>(rt: &R, are_made: bool) -> io::Result<()> {
+    let alloc = rt.alloc();
+    let place = point(5_000_000, 5_000_000)?;
+    let asked = squares(alloc)?;
+    print_calls::<R, Geodetic2d>(rt, squares(alloc)?, &asked, &place, are_made)?;
+    let place = address(alloc, ADDRESS).ok_or_else(unreadable)?;
+    let asked = patterns(alloc)?;
+    print_calls::<R, Civic>(rt, patterns(alloc)?, &asked, &place, are_made)?;
+    let place = required(alloc, REQUIRED).ok_or_else(unreadable)?;
+    print_calls::<R, References>(rt, patterns(alloc)?, &asked, &place, are_made)?;
+    let asked = stretches(alloc)?;
+    print_calls::<R, Tens>(rt, stretches(alloc)?, &asked, &21, are_made)
+}
+
+/// Makes an index of two regions, and prints which of others contain a location, cuts one of the two away, and takes the
+/// other one out, where the calls are made.
+fn print_calls<R: Print + AllocGlobal, P: Profile>(
+    rt: &R,
+    kept: Vec<P::Region>,
+    asked: &[P::Region],
+    location: &P::Location,
+    are_made: bool,
+) -> io::Result<()>
+    requires { length kept.items ≡ 2 }
+{
+    let mut index: Index<P> = Index::new(rt.alloc());
+    index.put(1, kept)?;
+    println!(rt; "{} prepared", P::NAME)?;
+    if !are_made {
+        return Ok(());
+    }
+    for region in asked {
+        println!(rt; "contains {}", P::contains(region, location))?;
+    }
+    index.cut(1, 1, 2);
+    index.take(1);
+    println!(rt; "cut and taken")
+}
+
+/// A square that holds the point of the questions, and one that is far from it.
+fn squares(alloc: Global) -> io::Result<Vec<Polygon>>
+    ensures { IfOk result (λ regions. length regions.items ≡ 2) }
+{
+    let mut regions = Vec::new(alloc);
+    regions.push(square(alloc, NEAR)?)?;
+    regions.push(square(alloc, FAR)?)?;
+    Ok(regions)
+}
+
+/// A pattern that the address matches, and one of another town.
+fn patterns(alloc: Global) -> io::Result<Vec<CivicPattern>>
+    ensures { IfOk result (λ regions. length regions.items ≡ 2) }
+{
+    let mut regions = Vec::new(alloc);
+    regions.push(pattern(alloc, "country=US;A3=Leonia").ok_or_else(unreadable)?)?;
+    regions.push(pattern(alloc, "country=US;A3=Fort Lee").ok_or_else(unreadable)?)?;
+    Ok(regions)
+}
+
+/// A stretch that holds the number of the questions, and one that is far from it.
+fn stretches(alloc: Global) -> Result<Vec<Stretch>, AllocError>
+    ensures { IfOk result (λ regions. length regions.items ≡ 2) }
+{
+    let mut regions = Vec::new(alloc);
+    regions.push(Stretch::of(15, 9))?;
+    regions.push(Stretch::of(1_000, 9))?;
+    Ok(regions)
+}
+
+/// A text is no pattern and no address, or memory ran out.
+fn unreadable() -> io::Error {
+    io::Error::from(io::ErrorKind::InvalidData)
+}
