@@ -1,0 +1,28 @@
+//! How connections are accepted. Rules without a section are this profile's own.
+ghost use Rattle.std.specs.Prelude.{IfSome};
+ghost use Rattle.lost_sockets.specs.Kind.{AreOfKind};
+
+use crate::listener::Listener;
+use crate::peer::Peer;
+use crate::stream::Stream;
+use std::thread::sleep;
+use std::time::{Clock, Duration};
+
+/// How often in a row an accept may fail before the listener is given up.
+const MAX_ATTEMPTS: u32 = 360_000;
+
+/// How long to wait after an accept that failed, as it does where too many files are open, in milliseconds.
+const PAUSE: u64 = 10;
+
+/// Waits for the next connection. An accept that fails is made again after a pause; after 360,000 failures in a row, an hour, the listener is given up.
+pub fn accept<R: Clock>(rt: &R, listener: &Listener) -> Option<(Stream, Peer)>
+    ensures { IfSome result (AreOfKind listener.now) }
+{
+    for _ in 0..MAX_ATTEMPTS {
+        if let Ok(accepted) = listener.accept_once() {
+            return Some(accepted);
+        }
+        sleep(rt, Duration::from_millis(PAUSE));
+    }
+    None
+}

@@ -1,0 +1,91 @@
+//! What connections are accepted from. Rules without a section are this profile's own.
+ghost use Rattle.std.specs.Prelude.{◌≡◌, ◌<◌, [], Some, Err, IfOk, IfSome, is_some, length};
+ghost use Rattle.lost_sockets.specs.Kind.{unix_path, is_unix_listener, AreOfKind};
+
+use crate::address::Address;
+use crate::listen_error::{ListenError, tcp_error_of};
+use crate::peer::Peer;
+use crate::stream::Stream;
+use crate::unix::listen_unix;
+use std::io;
+use std::net::{Net, TcpListener, TcpStream};
+use std::os::unix::net::UnixListener;
+use std::random::RandomSource;
+use std::rt::Files;
+
+/// What connections are accepted from, over TCP or a Unix socket. It is closed when it is dropped; the file of a Unix
+/// socket stays ([`crate::remove_socket`] removes it).
+#[derive(Debug, Drop)]
+pub enum Listener {
+    /// A listener of TCP.
+    Tcp(TcpListener),
+    /// A listener of a Unix socket.
+    Unix(UnixListener),
+}
+
+impl Listener {
+    /// Says whether `accept_once` waits for a connection, as it does at first, or fails where none is there.
+    ///
+    /// # Errors
+    ///
+    /// Those of the system.
+    pub fn set_nonblocking(&self, is_nonblocking: bool) -> io::Result<()> {
+        match self {
+            Listener::Tcp(listener) => listener.set_nonblocking(is_nonblocking),
+            Listener::Unix(listener) => listener.set_nonblocking(is_nonblocking),
+        }
+    }
+
+    /// Waits for the next connection, which sends at once what is written to it.
+    ///
+    /// # Errors
+    ///
+    /// Those of the system, as where too many files are open.
+    pub fn accept_once(&self) -> io::Result<(Stream, Peer)>
+        ensures { IfOk result (AreOfKind self.now) }
+    {
+        match self {
+            Listener::Tcp(listener) => {
+                let (stream, address) = listener.accept()?;
+                // Where it cannot be set, replies come later, and no other.
+                let _set = stream.set_nodelay(true);
+                Ok((Stream::Tcp(stream), Peer::Tcp(address)))
+            }
+            Listener::Unix(listener) => {
+                let (stream, _nameless) = listener.accept()?;
+                Ok((Stream::Unix(stream), Peer::Unix))
+            }
+        }
+    }
+}
+
+/// Listens on an address.
+///
+/// Of TCP it is one address of this machine. Where a name has several, they are tried in the order in which the system
+/// gives them, and the first that can be listened on is the one: `localhost` is `::1` or `127.0.0.1`, and never both. On
+/// `[::]` clients over IPv4 are served too, where the system lets them.
+///
+/// The file of a Unix socket has `mode` (at most `0o777`) from the first moment on. It replaces one that a dead server
+/// left. Where the path is relative, it begins at the folder in which the program was started.
+///
+/// # Errors
+///
+/// Of TCP: [`ListenError::InUse`], [`ListenError::PortRights`], [`ListenError::NotHere`], [`ListenError::Memory`], and else
+/// [`ListenError::NotAnAddress`]. Of a Unix socket: [`ListenError::NotAPath`], [`ListenError::PathTooLong`],
+/// [`ListenError::InUse`], [`ListenError::NotASocket`], [`ListenError::FileRights`], [`ListenError::NoFolder`],
+/// [`ListenError::Memory`], and else [`ListenError::NotMade`]; what stands at the path is left as it was.
+pub fn listen<
+    R: Files + Net<Listener = TcpListener, Stream = TcpStream> + RandomSource + AllocGlobal,
+>(rt: &R, address: Address<'_>, mode: u32) -> Result<Listener, ListenError>
+    ensures kind { IfOk result (λ listener. is_unix_listener listener ≡ is_some (unix_path address.entry)) }
+    ensures empty { unix_path address.entry ≡ Some [] → result ≡ Err ListenError.NotAPath }
+    ensures long { IfSome (unix_path address.entry) (λ path. 96 < length path → result ≡ Err ListenError.PathTooLong) }
+{
+    match address {
+        Address::Tcp(host_and_port) => match TcpListener::bind(rt, host_and_port) {
+            Ok(listener) => Ok(Listener::Tcp(listener)),
+            Err(error) => Err(tcp_error_of(error.kind())),
+        },
+        Address::Unix(path) => Ok(Listener::Unix(listen_unix(rt, path, mode)?)),
+    }
+}

@@ -1,0 +1,27 @@
+//! Whom a connection comes from. Rules without a section are this profile's own.
+ghost use Rattle.std.specs.Prelude.{Some};
+ghost use Rattle.lost_sockets.specs.Peer.{peer_text};
+
+use std::fmt;
+use std::fmt::{Display, Formatter};
+use std::net::SocketAddr;
+
+/// Whom a connection comes from. It is written as its address, or as `a unix socket`.
+#[derive(Clone, Copy, PartialEq, Eq, Debug)]
+pub enum Peer {
+    /// A client over TCP, with its address.
+    Tcp(SocketAddr),
+    /// A client over a Unix socket, which has no address.
+    Unix,
+}
+
+impl Display for Peer {
+    ghost output = { λ peer. Some (peer_text peer) };
+
+    fn fmt<W: fmt::Write>(&self, f: &mut Formatter<W>) -> fmt::Result {
+        match self {
+            Peer::Tcp(address) => write!(f, "{address}"),
+            Peer::Unix => f.write_str("a unix socket"),
+        }
+    }
+}

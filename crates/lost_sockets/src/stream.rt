@@ -1,0 +1,90 @@
+//! A connection. Rules without a section are this profile's own.
+ghost use Rattle.std.specs.Prelude.{◌≡◌, true, false, None, IfSome};
+ghost use Rattle.std.specs.Duration.{as_nanos};
+ghost use Rattle.std.specs.Io.{ReadsAtMost, WritesAtMost};
+
+use std::io;
+use std::io::{Read, Write};
+use std::net::TcpStream;
+use std::os::unix::net::UnixStream;
+use std::time::Duration;
+
+/// A connection over TCP or over a Unix socket, which threads may share. It is closed when it is dropped.
+#[derive(Debug, Drop)]
+pub enum Stream {
+    /// A connection over TCP.
+    Tcp(TcpStream),
+    /// A connection over a Unix socket.
+    Unix(UnixStream),
+}
+
+impl Stream {
+    /// Has each read and each write fail that waits longer than `idle`; none does where `idle` is `None`. Says whether that
+    /// could be set: a time of 0 never is.
+    pub fn limit_waiting(&self, idle: Option<Duration>) -> bool
+        ensures unlimited { idle ≡ None → result ≡ true }
+        ensures no_time { IfSome idle (λ d. as_nanos d ≡ 0 → result ≡ false) }
+    {
+        if idle.is_none() {
+            return true;
+        }
+        match self {
+            Stream::Tcp(stream) => stream.set_read_timeout(idle).is_ok()
+                && stream.set_write_timeout(idle).is_ok(),
+            Stream::Unix(stream) => stream.set_read_timeout(idle).is_ok()
+                && stream.set_write_timeout(idle).is_ok(),
+        }
+    }
+
+    /// Reads what has come, and waits where nothing has.
+    fn receive(&self, buf: &mut [u8]) -> io::Result<usize>
+        ensures { ReadsAtMost result buf.new }
+    {
+        match self {
+            Stream::Tcp(stream) => (&mut &*stream).read(buf),
+            Stream::Unix(stream) => (&mut &*stream).read(buf),
+        }
+    }
+
+    /// Writes as much as is taken, and waits where nothing is.
+    fn send(&self, buf: &[u8]) -> io::Result<usize>
+        ensures { WritesAtMost result buf.now }
+    {
+        match self {
+            Stream::Tcp(stream) => (&mut &*stream).write(buf),
+            Stream::Unix(stream) => (&mut &*stream).write(buf),
+        }
+    }
+}
+
+impl Read for Stream {
+    fn read(&mut self, buf: &mut [u8]) -> io::Result<usize> {
+        self.receive(buf)
+    }
+}
+
+impl Write for Stream {
+    fn write(&mut self, buf: &[u8]) -> io::Result<usize> {
+        self.send(buf)
+    }
+
+    fn flush(&mut self) -> io::Result<()> {
+        Ok(())
+    }
+}
+
+impl Read for &Stream {
+    fn read(&mut self, buf: &mut [u8]) -> io::Result<usize> {
+        self.receive(buf)
+    }
+}
+
+impl Write for &Stream {
+    fn write(&mut self, buf: &[u8]) -> io::Result<usize> {
+        self.send(buf)
+    }
+
+    fn flush(&mut self) -> io::Result<()> {
+        Ok(())
+    }
+}

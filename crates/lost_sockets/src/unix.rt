@@ -1,0 +1,51 @@
+//! How a Unix socket comes to its path. Rules without a section are this profile's own.
+ghost use Rattle.std.specs.Prelude.{◌≡◌, ◌<◌, ◌↔◌, [], Err, length};
+
+use crate::closed_folder::ClosedFolder;
+use crate::listen_error::{ListenError, unix_error_of};
+use crate::socket_file::look_at;
+use std::net::Net;
+use std::os::unix::net::UnixListener;
+use std::random::RandomSource;
+use std::rt::Files;
+
+/// The most bytes of a path: the system takes 107, of which 11 go to the name of the socket before it comes to its path.
+const MAX_PATH: usize = 96;
+
+/// Listens at a path. The socket is made in a folder that no other user may enter, gets its mode there, and then comes to
+/// its path in one step. So it is never open to more users than the mode says.
+///
+/// Two servers that find no file there cannot both come to the path. Two that find the file of one dead server can: the
+/// second then takes the place of the first.
+pub(crate) fn listen_unix<R: Files + Net + RandomSource + AllocGlobal>(
+    rt: &R,
+    path: &str,
+    mode: u32,
+) -> Result<UnixListener, ListenError>
+    ensures empty { path.now ≡ [] → result ≡ Err ListenError.NotAPath }
+    ensures long { 96 < length path.now → result ≡ Err ListenError.PathTooLong }
+{
+    check_path(path)?;
+    let standing = look_at(rt, path)?;
+    let folder = ClosedFolder::beside(rt, path)?;
+    let listened = folder.listen_at(rt, path, mode, standing);
+    folder.remove(rt);
+    match listened {
+        Ok(listener) => Ok(listener),
+        Err(error) => Err(unix_error_of(error.kind())),
+    }
+}
+
+/// Refuses a path that is empty, and one that leaves no room for the name which the socket has before it comes to its path.
+fn check_path(path: &str) -> Result<(), ListenError>
+    ensures empty { (result ≡ Err ListenError.NotAPath) ↔ (path.now ≡ []) }
+    ensures long { (result ≡ Err ListenError.PathTooLong) ↔ (96 < length path.now) }
+{
+    if path.is_empty() {
+        return Err(ListenError::NotAPath);
+    }
+    if path.len() > MAX_PATH {
+        return Err(ListenError::PathTooLong);
+    }
+    Ok(())
+}

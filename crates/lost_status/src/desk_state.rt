@@ -1,0 +1,100 @@
+//! What the desk tells. Rules without a section are this profile's own.
+use std::array;
+use std::sync::atomic::{AtomicBool, AtomicU64, Ordering};
+use std::time::Duration;
+
+/// The greatest code of the table of refusals, which begins at 1.
+pub(crate) const LAST_CODE: u8 = 22;
+
+/// How many codes that table has.
+pub(crate) const CODES: usize = 22;
+
+/// What the desk holds, when it last published, and what it refused.
+#[derive(Drop)]
+pub(crate) struct DeskState {
+    edition: AtomicU64,
+    mappings: AtomicU64,
+    pending: AtomicU64,
+    /// In seconds since 1970; 0 where there was no commit.
+    last_commit: AtomicU64,
+    is_open: AtomicBool,
+    refusals: [AtomicU64; CODES],
+}
+
+/// What the desk holds at one moment, and what it refused so far.
+#[derive(Clone, Copy)]
+pub(crate) struct DeskNow {
+    /// How many edits are published.
+    pub(crate) edition: u64,
+    /// How many mappings are held.
+    pub(crate) mappings: u64,
+    /// How many edits are staged and not published.
+    pub(crate) pending: u64,
+    /// When it last published, in seconds since 1970; 0 where it never did.
+    pub(crate) last_commit: u64,
+    /// Whether a desk is connected.
+    pub(crate) is_open: bool,
+    /// How many lines were refused, by code, from code 1 on.
+    pub(crate) refusals: [u64; CODES],
+}
+
+impl DeskState {
+    /// Nothing is held, and no desk is connected.
+    pub(crate) fn new() -> DeskState {
+        DeskState {
+            edition: AtomicU64::new(0),
+            mappings: AtomicU64::new(0),
+            pending: AtomicU64::new(0),
+            last_commit: AtomicU64::new(0),
+            is_open: AtomicBool::new(false),
+            refusals: array::from_fn(|_| AtomicU64::new(0)),
+        }
+    }
+
+    /// One more line was refused with this code. A code that is not of the table is not counted.
+    pub(crate) fn count_refusal(&self, code: u8) {
+        let place = usize::from(code).wrapping_sub(1);
+        if let Some(count) = self.refusals.as_slice().get(place) {
+            count.fetch_add(1, Ordering::SeqCst);
+        }
+    }
+
+    /// What is held. The three are told one after another.
+    pub(crate) fn set_book(&self, edition: u64, mappings: u64, pending: u64) {
+        self.edition.store(edition, Ordering::SeqCst);
+        self.mappings.store(mappings, Ordering::SeqCst);
+        self.pending.store(pending, Ordering::SeqCst);
+    }
+
+    /// When it last published.
+    pub(crate) fn set_commit(&self, since_1970: Duration) {
+        self.last_commit
+            .store(since_1970.as_secs(), Ordering::SeqCst);
+    }
+
+    /// Whether a desk is connected.
+    pub(crate) fn set_desk(&self, is_open: bool) {
+        self.is_open.store(is_open, Ordering::SeqCst);
+    }
+
+    /// What is held now.
+    pub(crate) fn now(&self) -> DeskNow {
+        DeskNow {
+            edition: self.edition.load(Ordering::SeqCst),
+            mappings: self.mappings.load(Ordering::SeqCst),
+            pending: self.pending.load(Ordering::SeqCst),
+            last_commit: self.last_commit.load(Ordering::SeqCst),
+            is_open: self.is_open.load(Ordering::SeqCst),
+            refusals: self.refusals_now(),
+        }
+    }
+
+    /// How many lines were refused, by code.
+    fn refusals_now(&self) -> [u64; CODES] {
+        let mut counts = [0; CODES];
+        for (count, refusals) in counts.iter_mut().zip(self.refusals.as_slice()) {
+            *count = refusals.load(Ordering::SeqCst);
+        }
+        counts
+    }
+}

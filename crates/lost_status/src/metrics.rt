@@ -1,0 +1,183 @@
+//! The numbers of a server in the text format 0.0.4 of Prometheus. The names of the metrics are this profile's own.
+ghost use Rattle.std.specs.Prelude.{◌≡◌, ◌∷◌, ◌++◌, OnOk, codes, decimal, string_bytes};
+ghost use Rattle.lost_writing.specs.DeskReplies.{IsCode, refusal_name as refusal_name_of};
+ghost use Rattle.lost_status.specs.Exposition.{counted, label, labelled};
+
+use crate::connection_counts::Connections;
+use crate::desk_state::{CODES, DeskNow, LAST_CODE};
+use crate::exposition::{describe_counter, describe_gauge, write_counter, write_gauge};
+use crate::reply_kind::{KINDS, ReplyKind};
+use crate::snapshot::Snapshot;
+use crate::status::VERSION;
+use lost_writing::refusal_name;
+use std::alloc::{AllocError, Global};
+use std::fmt::Write;
+
+/// The room that the text has at first, in bytes.
+const ROOM: usize = 8_192;
+
+/// All numbers, each with what it is.
+pub(crate) fn metrics_text(alloc: Global, now: &Snapshot) -> Result<String, AllocError> {
+    let mut text = String::with_capacity(alloc, ROOM)?;
+    write_server(&mut text, now)?;
+    write_desk(&mut text, &now.desk)?;
+    write_replies(&mut text, &now.replies)?;
+    write_refusals(&mut text, &now.desk.refusals)?;
+    write_connections(&mut text, &now.connections)?;
+    write_workers(&mut text, now)?;
+    Ok(text)
+}
+
+/// Writes what the server is, and for how long it has run.
+fn write_server(text: &mut String, now: &Snapshot) -> Result<(), AllocError> {
+    describe_gauge(
+        text,
+        "lostd_build_info",
+        "The version of the program, as a label; the value is 1.",
+    )?;
+    write!(text, "lostd_build_info{{version=\"{VERSION}\"}} 1\n")?;
+    write_gauge(
+        text,
+        "lostd_ready",
+        "Whether the server answers from its map: 1 once it does, 0 before.",
+        u64::from(now.is_ready),
+    )?;
+    write_gauge(
+        text,
+        "lostd_uptime_seconds",
+        "For how long the server has run, in seconds.",
+        now.uptime,
+    )
+}
+
+/// Writes what the desk holds, and when it last committed.
+fn write_desk(text: &mut String, desk: &DeskNow) -> Result<(), AllocError> {
+    write_gauge(
+        text,
+        "lostd_edition",
+        "The edition that is published: how many edits were accepted in all.",
+        desk.edition,
+    )?;
+    write_gauge(
+        text,
+        "lostd_mappings",
+        "How many mappings are held.",
+        desk.mappings,
+    )?;
+    write_gauge(
+        text,
+        "lostd_pending",
+        "How many edits are staged and not committed.",
+        desk.pending,
+    )?;
+    write_gauge(
+        text,
+        "lostd_last_commit_timestamp_seconds",
+        "When the desk last committed, in seconds since 1970; 0 before its first commit.",
+        desk.last_commit,
+    )?;
+    write_gauge(
+        text,
+        "lostd_desk_connected",
+        "Whether a desk is connected: 1 or 0.",
+        u64::from(desk.is_open),
+    )
+}
+
+/// Writes how many replies were given, by kind.
+fn write_replies(text: &mut String, replies: &[u64; KINDS]) -> Result<(), AllocError> {
+    describe_counter(
+        text,
+        "lostd_replies_total",
+        "Replies to request lines, by kind; each error is a kind of its own.",
+    )?;
+    for kind in ReplyKind::ALL {
+        write_kind(text, kind.name(), replies[kind.index()])?;
+    }
+    Ok(())
+}
+
+/// Writes how many replies of the kind with this name were given.
+fn write_kind(text: &mut String, name: &str, count: u64) -> Result<(), AllocError>
+    ensures { OnOk result (string_bytes text.new ≡ string_bytes text.old
+        ++ labelled (codes "lostd_replies_total") (label (codes "kind") name.now (counted count))) }
+{
+    write!(text, "lostd_replies_total{{kind=\"{name}\"}} {count}\n")
+}
+
+/// Writes how many lines of the desk were refused, by code.
+fn write_refusals(text: &mut String, refusals: &[u64; CODES]) -> Result<(), AllocError> {
+    describe_counter(
+        text,
+        "lostd_refusals_total",
+        "Lines of the desk that were refused, by code.",
+    )?;
+    for code in 1..=LAST_CODE {
+        write_code(text, code, refusals[usize::from(code) - 1])?;
+    }
+    Ok(())
+}
+
+/// Writes how many lines were refused with a code. The caller has: the code is one of the table.
+fn write_code(text: &mut String, code: u8, count: u64) -> Result<(), AllocError>
+    requires { IsCode code }
+    ensures { OnOk result (string_bytes text.new ≡ string_bytes text.old
+        ++ labelled (codes "lostd_refusals_total") (label (codes "code") (decimal code)
+        (44 ∷ label (codes "name") (refusal_name_of code) (counted count)))) }
+{
+    let name = refusal_name(code);
+    write!(
+        text,
+        "lostd_refusals_total{{code=\"{code}\",name=\"{name}\"}} {count}\n"
+    )
+}
+
+/// Writes how many query connections there are.
+fn write_connections(text: &mut String, connections: &Connections) -> Result<(), AllocError> {
+    write_counter(
+        text,
+        "lostd_connections_total",
+        "Query connections that were accepted.",
+        connections.accepted,
+    )?;
+    write_gauge(
+        text,
+        "lostd_connections_open",
+        "Query connections that have not ended, those that wait included.",
+        connections.open,
+    )?;
+    write_gauge(
+        text,
+        "lostd_connections_waiting",
+        "Query connections that wait for a worker.",
+        connections.waiting,
+    )?;
+    write_counter(
+        text,
+        "lostd_faults_total",
+        "Query connections that ended in a fault.",
+        connections.faults,
+    )
+}
+
+/// Writes how many workers there are, and what they are about.
+fn write_workers(text: &mut String, now: &Snapshot) -> Result<(), AllocError> {
+    write_gauge(
+        text,
+        "lostd_workers",
+        "How many workers there are.",
+        now.workers,
+    )?;
+    write_gauge(
+        text,
+        "lostd_workers_busy",
+        "How many workers serve a connection.",
+        now.busy,
+    )?;
+    write_counter(
+        text,
+        "lostd_cache_hits_total",
+        "How often a worker found the place of a request in its cache.",
+        now.cache_hits,
+    )
+}

@@ -1,0 +1,49 @@
+//! The answers of HTTP/1.1 on one connection (RFC 9112).
+ghost use Rattle.lost_status.specs.Answered.{IsAnswered, IsNarrow};
+
+use crate::pages::Pages;
+use crate::status::Status;
+use http_server::{Config, Connection, serve};
+use std::alloc::Global;
+use std::hash::RandomState;
+use std::io::{Read, Write};
+use std::time::Clock;
+
+/// The most bytes of a request's head.
+const MAX_HEAD: usize = 8_192;
+
+/// Answers one request of HTTP/1.1 or 1.0 on a connection, and returns when the caller is to close it: then, after a
+/// refusal, or where a read, a write or memory fails. `GET` and `HEAD` are answered: `/health` with 200, the text `ready` and
+/// the edition once the server is ready, and with 503 before; `/metrics` with the numbers for Prometheus; `/status` with
+/// them as a JSON object. Any other path is 404, with these three paths as its text, and any other method on one of them
+/// is 405. A head of more than 8,192 bytes or 64 fields is refused, and so is a body. `keys` are secret, since the peer
+/// chooses the names of fields.
+///
+/// How long it takes is up to `input` and `output`, whose reads and writes are to fail in time: see
+/// [`Deadline`](crate::Deadline).
+pub fn serve_status<R: Clock, I: Read, O: Write>(
+    rt: &R,
+    alloc: Global,
+    keys: RandomState,
+    status: &Status,
+    input: &mut I,
+    output: &mut O,
+)
+    ensures { IsAnswered (I.remaining input.old) (I.remaining input.new)
+        (O.contents output.old) (O.contents output.new) }
+{
+    let mut connection = Connection::new(alloc, keys, narrow());
+    let mut pages = Pages { rt, alloc, status };
+    // Whatever came of it, the connection is over.
+    let _outcome = serve(&mut connection, &mut pages, input, output);
+}
+
+/// The limits of a connection: a head of at most 8,192 bytes, and no body.
+fn narrow() -> Config
+    ensures { IsNarrow result }
+{
+    let mut config = Config::default();
+    config.limits.max_head_len = MAX_HEAD;
+    config.max_body_len = 0;
+    config
+}
