@@ -1,6 +1,6 @@
 -- What staging, queueing and publishing do to what a desk holds.
 use Rattle.std.proofs.Common.{◌≡◌, ℕ, ◌+◌, ◌-◌, ◌≤◌, Bool, true, IsTrue, ◌&&◌, List, [], ◌∷◌, ◌++◌, map, length, None, Result, Ok, Err, MatchResult, fold, is_none, refl, ap, sym, ◌∙◌, subst, arith, append_assoc, length-append}
-use Rattle.std.proofs.lemmas.List.{append-nil}
+use Rattle.std.proofs.lemmas.List.{append-nil, length-map}
 use Rattle.std.proofs.lemmas.List.Sums.{fold-append}
 use Rattle.std.proofs.lemmas.Bool.{and_parts}
 use Rattle.lost_spec.specs.Laws.{BeginsWith}
@@ -9,11 +9,11 @@ use Rattle.lost_spec.proofs.BookLemmas.{accepted_book}
 use Rattle.lost_message.specs.declared.edit.Edit.{Edit as CodeEdit}
 use Rattle.lost_message.specs.Edit.{edit_of}
 use Rattle.lost_history.specs.History.{Opening, Beginning, beginning}
-use Rattle.lost_history.proofs.Beginnings.{begins_itself, begins_trans}
+use Rattle.lost_history.proofs.Beginnings.{begins_itself, begins_trans, shorter_begins}
 use Rattle.lost_desk.specs.declared.version.Version.{Version}
 use Rattle.lost_desk.specs.declared.version.Operation.{Operation}
 use Rattle.lost_desk.specs.declared.version.Operation.TheVariants.{Change, Mark}
-use Rattle.lost_desk.specs.Seen.{DeskSeen, with_staged, with_committed}
+use Rattle.lost_desk.specs.Seen.{DeskSeen, with_staged, with_committed, with_none_pending}
 use Rattle.lost_desk.specs.Copies.{IsBookOfItsList, taken, taken_all, edits_in}
 use Rattle.lost_desk.specs.States.{CopiesSeen, IsDesk, IsReady, MayFollow, published_version, pending_of, desk_seen, next_of, with_waiting, with_published}
 
@@ -190,6 +190,44 @@ module _ (c : CopiesSeen) (queue : List CodeEdit) (book : Book) (history : Begin
       ap (λ v. P v (pending_of c' queue')) shown ∙ ap (P (published_version c (beginning history.opening all))) pending
       ∙ ap (λ (o : Opening). record { opening = o; limits = (book_of c.shown.book.limits all).limits; published = all; pending = [] }) d.opening
       ∙ ap (λ (l : Limits). record { opening = c.shown.front.opening; limits = l; published = all; pending = [] }) limits
+
+  -- nothing waits in the copies where the queue has all that is pending
+  none_waits : book.edits ≡ length c.shown.front.list + length queue → edits_in c.waiting ≡ []
+  none_waits e =
+      let both : length (pending_of c queue) ≡ length (edits_in c.waiting) + length (map edit_of queue) = length-append (edits_in c.waiting) (map edit_of queue) in
+      let queued : length (map edit_of queue) ≡ length queue = length-map queue edit_of in
+      let none : length (edits_in c.waiting) ≡ 0 = omega (arith, counted, e, both, queued) in
+      none_of (edits_in c.waiting) none
+
+  -- once the queue is empty, the published edits are all
+  all_published : edits_in c.waiting ≡ [] → c.shown.front.list ++ pending_of c [] ≡ c.shown.front.list
+  all_published none = ap (λ es. c.shown.front.list ++ (es ++ [])) none ∙ append-nil c.shown.front.list
+
+  -- the queue may be dropped, where the history goes no further than what is published
+  pub drop_keeps : book.edits ≡ length c.shown.front.list + length queue → length history.list ≡ length c.shown.front.list → (queue' : List CodeEdit) → queue' ≡ [] → (book' : Book) → book' ≡ c.shown.book
+      → IsDesk c queue' book' history right
+  drop_keeps e long queue' empty book' same =
+      let nil = all_published (none_waits e) in
+      let all = c.shown.front.list ++ pending_of c queue in
+      let begins : BeginsWith c.shown.front.list history.list =
+      shorter_begins history.list c.shown.front.list all (d.reached.0, sym d.reached.1) (pending_of c queue, refl) (omega (arith, long)) in
+      rw empty (record {
+        copy = d.copy;
+        ahead = same ∙ d.copy.book ∙ ap (book_of c.shown.book.limits) (sym nil);
+        accepted = subst (λ es. IsTrue (is_accepted c.shown.book.limits es)) (sym nil) d.copy.accepted;
+        reached = subst (λ es. BeginsWith es history.list) (sym nil) begins;
+        opening = d.opening;
+        head = d.head;
+      })
+
+  pub dropped_is : book.edits ≡ length c.shown.front.list + length queue → (queue' : List CodeEdit) → queue' ≡ [] → desk_seen c queue' ≡ with_none_pending (desk_seen c queue)
+  dropped_is e queue' empty =
+      let none : pending_of c queue' ≡ [] = ap (pending_of c) empty ∙ ap (λ es. es ++ []) (none_waits e) in
+      ap (λ (es : List Edit). record { opening = c.shown.front.opening; limits = c.shown.book.limits; published = c.shown.front.list; pending = es }) none
+
+  -- with nothing pending, it stays so
+  pub none_dropped : pending_of c queue ≡ [] → desk_seen c queue ≡ with_none_pending (desk_seen c queue)
+  none_dropped none = ap (λ (es : List Edit). record { opening = c.shown.front.opening; limits = c.shown.book.limits; published = c.shown.front.list; pending = es }) none
 
   -- with nothing pending, the desk is as it would be once committed
   pub nothing_is : pending_of c queue ≡ [] → desk_seen c queue ≡ with_committed (desk_seen c queue)

@@ -48,6 +48,14 @@ with_staged d e = record { opening = d.opening; limits = d.limits; published = d
 abbrev pub with_committed : DeskSeen → DeskSeen
 with_committed d = record { opening = d.opening; limits = d.limits; published = d.published ++ d.pending; pending = [] }
 
+-- the desk with nothing pending, and the same published
+abbrev pub with_none_pending : DeskSeen → DeskSeen
+with_none_pending d = record { opening = d.opening; limits = d.limits; published = d.published; pending = [] }
+
+-- the book of the published edits
+abbrev pub published_book : DeskSeen → Book
+published_book d = book_of d.limits d.published
+
 -- the reader with this list seen
 abbrev pub with_seen : ReaderSeen → List Edit → ReaderSeen
 with_seen r es = record { opening = r.opening; limits = r.limits; seen = es; entered = r.entered; entries = r.entries }

@@ -4,7 +4,7 @@ ghost use Rattle.lost_spec.specs.Laws.{BeginsWith};
 ghost use Rattle.lost_spec.specs.Book.{refusal, empty_book};
 ghost use Rattle.lost_message.specs.Edit.{edit_of};
 ghost use Rattle.lost_history.specs.History.{beginning};
-ghost use Rattle.lost_desk.specs.Seen.{new_desk, staged_book, with_staged, with_committed};
+ghost use Rattle.lost_desk.specs.Seen.{new_desk, published_book, staged_book, with_staged, with_committed, with_none_pending};
 ghost use Rattle.lost_desk.specs.Copies.{first_version};
 
 use crate::announce::announce;
@@ -16,6 +16,7 @@ use crate::told::Told;
 use lost_book::{Edit, EditError};
 use lost_history::{Front, Head};
 use lost_routing::Routing;
+use std::alloc::AllocError;
 use std::collections::VecDeque;
 use std::marker::{Brand, Model};
 use std::sync::Wait;
@@ -102,6 +103,54 @@ impl Desk {
         Ok(edition)
     }
 
+    /// Drops the edits that are pending, as where a desk's connection has ended. What is published stays. With nothing
+    /// pending it takes no memory.
+    ///
+    /// # Errors
+    ///
+    /// Want of memory: nothing is dropped then. After a commit that was refused it comes until a commit is done, since
+    /// readers may have been promised these edits.
+    pub fn drop_pending(&mut self) -> Result<(), AllocError>
+        ensures dropped { OnOk result (self.new ≡ with_none_pending self.old) }
+        ensures unchanged { OnErr result (self.new ≡ self.old) }
+        ensures nothing_pending { self.old.pending ≡ [] → IsOk result }
+    {
+        let published = self.copies.shown().front.len();
+        let pending = self.ahead.edition() - published;
+        if pending == 0 {
+            return Ok(());
+        }
+        if self.front.len() != published || self.queue.len() as u64 != pending {
+            return Err(AllocError);
+        }
+        let copy = self.copies.shown().book.clone()?;
+        put(&mut self.ahead, copy);
+        let alloc = *self.queue.allocator();
+        put(&mut self.queue, VecDeque::new(alloc));
+        Ok(())
+    }
+
+    /// How many edits are published.
+    pub fn edition(&self) -> u64
+        ensures { result ≡ length self.now.published }
+    {
+        self.copies.shown().front.len()
+    }
+
+    /// The book of the published edits.
+    pub fn published(&self) -> &Routing
+        ensures { result.now ≡ published_book self.now }
+    {
+        &self.copies.shown().book
+    }
+
+    /// The book of all edits, published and pending.
+    pub fn staged(&self) -> &Routing
+        ensures { result.now ≡ staged_book self.now }
+    {
+        &self.ahead
+    }
+
     /// Tells the published list, for one reader to learn.
     pub fn tell(&mut self) -> Told
         ensures told { result ≡ beginning self.old.opening self.old.published }
@@ -170,4 +219,11 @@ impl Desk {
             head,
         }
     }
+}
+
+/// Puts a value into a place, and drops what was there.
+fn put<T: Drop>(place: &mut T, value: T)
+    ensures { place.new ≡ value }
+{
+    *place = value;
 }

@@ -16,14 +16,14 @@ use Rattle.lost_worker.specs.declared.desking.Desking.{Desking}
 use Rattle.lost_worker.specs.Desking.{IsSameDesk, Desks, desk_terms, lists_of}
 
 -- the desk that is referred to stays
-pub record Stays {T : Type 0} (old new : Desking T) : Type 0 where
+pub record Stays {T V : Type 0} (old new : Desking T V) : Type 0 where
   pub desk : new.desk.ghost_name ≡ old.desk.ghost_name
   pub same : IsSameDesk old.desk.now new.desk.now
 
-module _ {T : Type 0} where
-  pub desk_run : (limits : Limits) (old new : Desking T) (lines : List Text) (replies : List Reply) → old.desk.now.limits ≡ limits → Run Desks old lines replies new
+module _ {T V : Type 0} where
+  pub desk_run : (limits : Limits) (old new : Desking T V) (lines : List Text) (replies : List Reply) → old.desk.now.limits ≡ limits → Run Desks old lines replies new
       → Run (Step (desk_terms limits)) (lists_of old.desk.now) lines replies (lists_of new.desk.now)
-  desk_run limits old new [] [] kept run = ap (λ (d : Desking T). lists_of d.desk.now) run
+  desk_run limits old new [] [] kept run = ap (λ (d : Desking T V). lists_of d.desk.now) run
   desk_run limits old new [] (reply ∷ replies) kept run = absurd run
   desk_run limits old new (line ∷ lines) [] kept run = absurd run
   desk_run limits old new (line ∷ lines) (reply ∷ replies) kept (cut, next, is_cut, desks, rest) = (
@@ -34,10 +34,10 @@ module _ {T : Type 0} where
     desk_run limits next new lines replies (desks.same.limits ∙ kept) rest,
   )
 
-  pub stays : (old new : Desking T) (lines : List Text) (replies : List Reply) → Run Desks old lines replies new → Stays old new
+  pub stays : (old new : Desking T V) (lines : List Text) (replies : List Reply) → Run Desks old lines replies new → Stays old new
   stays old new [] [] run = record {
-    desk = ap (λ (d : Desking T). d.desk.ghost_name) run;
-    same = record { opening = ap (λ (d : Desking T). d.desk.now.opening) run; limits = ap (λ (d : Desking T). d.desk.now.limits) run };
+    desk = ap (λ (d : Desking T V). d.desk.ghost_name) run;
+    same = record { opening = ap (λ (d : Desking T V). d.desk.now.opening) run; limits = ap (λ (d : Desking T V). d.desk.now.limits) run };
   }
   stays old new [] (reply ∷ replies) run = absurd run
   stays old new (line ∷ lines) [] run = absurd run
@@ -45,7 +45,7 @@ module _ {T : Type 0} where
       let more = stays next new lines replies rest in
       record { desk = more.desk ∙ desks.desk_stays; same = record { opening = more.same.opening ∙ desks.same.opening; limits = more.same.limits ∙ desks.same.limits } }
 
-  module _ (says : ℕ → Bool → Type 0) (old new : Desking T) where
+  module _ (says : ℕ → Bool → Type 0) (old new : Desking T V) where
     desk_served : (unread before after : Option Text) (counts : Counts) → IsServed says Desks old new unread before after counts
         → IsStreamed (desk_terms old.desk.now.limits) (lists_of old.desk.now) (lists_of new.desk.now) unread before after counts
     desk_served unread before after counts s =
@@ -70,7 +70,7 @@ module _ {T : Type 0} where
     desk_spent lets turns unread left before after reads has_ended (inr held) = absurd (lets (length held.lines + 1) held.refused)
 
   -- the gate refuses no line, so the turns are spent
-  pub desk_outcome : (says : ℕ → Bool → Type 0) → ((line : ℕ) → says line false → ⊥) → (old new : Desking T) (turns : Turns) (p : Passage) (result : Result Counts ServeError) → IsOutcome says Desks old new turns p result
+  pub desk_outcome : (says : ℕ → Bool → Type 0) → ((line : ℕ) → says line false → ⊥) → (old new : Desking T V) (turns : Turns) (p : Passage) (result : Result Counts ServeError) → IsOutcome says Desks old new turns p result
       → IsStreamOutcome (desk_terms old.desk.now.limits) (lists_of old.desk.now) (lists_of new.desk.now) turns p result
   desk_outcome says lets old new turns p result o = record {
     served = IfOk-weaker result _ _ (λ counts s. desk_served says old new p.unread p.before p.after counts s) o.served;
@@ -81,6 +81,6 @@ module _ {T : Type 0} where
   }
 
   -- whatever the result is, a run was made
-  pub stays_at : (says : ℕ → Bool → Type 0) (old new : Desking T) (turns : Turns) (p : Passage) (result : Result Counts ServeError) → IsOutcome says Desks old new turns p result → Stays old new
+  pub stays_at : (says : ℕ → Bool → Type 0) (old new : Desking T V) (turns : Turns) (p : Passage) (result : Result Counts ServeError) → IsOutcome says Desks old new turns p result → Stays old new
   stays_at says old new turns p (Ok counts) o = stays old new o.served.lines o.served.replies o.served.run
   stays_at says old new turns p (Err e) o = stays old new o.cut_off.lines o.cut_off.replies o.cut_off.run

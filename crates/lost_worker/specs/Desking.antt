@@ -7,6 +7,8 @@ use Rattle.lost_reading.specs.declared.desk.DeskFault.{DeskFault}
 use Rattle.lost_reading.specs.declared.desk.DeskLine.{DeskLine}
 use Rattle.lost_reading.specs.Desk.{Order, desk_fault_code}
 use Rattle.lost_reading.specs.DeskLines.{order_of}
+use Rattle.lost_writing.specs.declared.desk_reply.DeskReply.{DeskReply}
+use Rattle.lost_writing.specs.DeskReplies.{desk_text}
 use Rattle.lost_lines.specs.Run.{Cut, Reply}
 use Rattle.lost_json.specs.Stream.{Terms, Lists, ShortOfMemory, refused_text}
 use Rattle.lost_json.specs.Step.{Step, IsAnswered}
@@ -15,6 +17,10 @@ use Rattle.lost_worker.specs.declared.desking.Desking.{Desking}
 -- a desk's connection: want of memory is code 20, and a line that is over the limit or no desk line is code 1
 abbrev pub desk_terms : Limits → Terms
 desk_terms limits = record { limits = limits; short = refused_text 20; counts_short = false; long = refused_text 1; other = λ b text. refused_text 1 }
+
+-- a reply of a desk, as a line
+abbrev pub said : DeskReply → Reply
+said reply = record { text = desk_text reply; is_internal_error = false }
 
 -- the lists of a desk
 abbrev pub lists_of : DeskSeen → Lists
@@ -37,7 +43,7 @@ AnswersRead (Ok (Some line)) terms old text reply new = IsJudged terms old text 
 AnswersRead (Err fault) terms old text reply new = (reply ≡ record { text = refused_text (desk_fault_code fault); is_internal_error = false }) × (new ≡ old)
 
 -- the step of what answers lines: the desk stays, and its lists go by their step
-pub record Desks {T : Type 0} (old : Desking T) (cut : Cut) (reply : Reply) (new : Desking T) : Type 0 where
+pub record Desks {T V : Type 0} (old : Desking T V) (cut : Cut) (reply : Reply) (new : Desking T V) : Type 0 where
   pub desk_stays : new.desk.ghost_name ≡ old.desk.ghost_name
   pub same : IsSameDesk old.desk.now new.desk.now
   pub step : Step (desk_terms old.desk.now.limits) (lists_of old.desk.now) cut reply (lists_of new.desk.now)

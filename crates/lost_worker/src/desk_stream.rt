@@ -6,6 +6,7 @@ ghost use Rattle.lost_json.specs.Outcome.{IsStreamOutcome};
 ghost use Rattle.lost_worker.specs.Desking.{IsSameDesk, desk_terms, lists_of};
 
 use crate::desking::Desking;
+use crate::witness::{DeskWitness, NoWitness};
 use lost_desk::Desk;
 use lost_lines::{Counts, NoGate, ServeError, Turns, Watched, run_lines};
 use lost_tape::Scratch;
@@ -40,11 +41,37 @@ pub fn serve_desk<T: Wait, R: Read, W: Write>(
     ensures faults { StreamFaults R.remaining turns input.new output.old output.new result }
     ensures memory { result ≢ Err ServeError.Memory }
 {
+    serve_desk_with(rt, alloc, input, output, desk, &mut NoWitness, turns)
+}
+
+/// Answers the desk lines of `input` as [`serve_desk`] does, while `witness` looks on.
+///
+/// # Errors
+///
+/// Those of [`serve_desk`].
+pub fn serve_desk_with<T: Wait, R: Read, W: Write, V: DeskWitness>(
+    rt: &T,
+    alloc: Global,
+    input: &mut Watched<R>,
+    output: &mut Watched<W>,
+    desk: &mut Desk,
+    witness: &mut V,
+    turns: Turns,
+) -> Result<Counts, ServeError>
+    requires fresh { AreFresh input.old output.old }
+
+    ensures outcome { IsStreamOutcome (desk_terms desk.old.limits) (lists_of desk.old) (lists_of desk.new) turns
+        (passage_of R.remaining W.contents input.old input.new output.old output.new) result }
+    ensures same { IsSameDesk desk.old desk.new }
+    ensures faults { StreamFaults R.remaining turns input.new output.old output.new result }
+    ensures memory { result ≢ Err ServeError.Memory }
+{
     let mut scratch = Scratch::new(alloc);
     let mut desking = Desking {
         rt,
         desk,
         scratch: &mut scratch,
+        witness,
     };
     run_lines(alloc, input, output, &mut desking, &NoGate, turns)
 }

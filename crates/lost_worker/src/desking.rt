@@ -1,13 +1,13 @@
 //! What answers the lines of a desk's connection.
-ghost use Rattle.std.specs.Prelude.{◌≡◌, [], false, length, Some, Ok};
+ghost use Rattle.std.specs.Prelude.{◌≡◌, [], length, Some, Ok};
 ghost use Rattle.lost_spec.specs.Text.{Text as Bytes};
 ghost use Rattle.lost_message.specs.Edit.{edit_of};
 ghost use Rattle.lost_reading.specs.Desk.{Stage, Commit, desk_line};
 ghost use Rattle.lost_reading.specs.DeskLines.{GivesLine};
-ghost use Rattle.lost_writing.specs.DeskReplies.{desk_text};
-ghost use Rattle.lost_lines.specs.Answer.{reply_of};
-ghost use Rattle.lost_worker.specs.Desking.{AnswersRead, IsJudged, IsSameDesk, desk_terms, lists_of};
+ghost use Rattle.lost_writing.specs.DeskReplies.{IsInTable};
+ghost use Rattle.lost_worker.specs.Desking.{AnswersRead, IsJudged, IsSameDesk, desk_terms, lists_of, said};
 
+use crate::witness::DeskWitness;
 use lost_book::Edit;
 use lost_desk::Desk;
 use lost_json::{DeskFault, DeskLine, DeskReply, desk_answer};
@@ -18,31 +18,38 @@ use lost_tape::{Scratch, read_line};
 use std::alloc::Global;
 use std::sync::Wait;
 
-/// What answers the lines of a desk's connection: its desk, and what a commit waits by. The scratch is what the reader of
-/// lines works in, and holds nothing of them.
+/// What answers the lines of a desk's connection: its desk, what a commit waits by, and what looks on. The scratch is what
+/// the reader of lines works in, and holds nothing of them.
 #[derive(Drop)]
-pub(crate) struct Desking<'r, 'd, 's, T: Wait> {
+pub(crate) struct Desking<'r, 'd, 's, 'w, T: Wait, V: DeskWitness> {
     pub(crate) rt: &'r T,
     pub(crate) desk: &'d mut Desk,
     pub(crate) scratch: &'s mut Scratch,
+    pub(crate) witness: &'w mut V,
 }
 
-impl<T: Wait> Answerer for Desking<'_, '_, '_, T> {
+impl<T: Wait, V: DeskWitness> Answerer for Desking<'_, '_, '_, '_, T, V> {
     ghost use Rattle.lost_worker.specs.Desking.{Desks};
 
     ghost step = { Desks };
 
     fn answer(&mut self, alloc: Global, line: &[u8]) -> Answer {
         let read = read_desk_by_tape(alloc, line, self.scratch);
-        judge(self.rt, self.desk, read)
+        let reply = judge(self.rt, self.desk, read);
+        self.witness.saw(Some(line), reply, self.desk);
+        desk_answer(reply)
     }
 
     fn answer_long(&mut self) -> Answer {
-        desk_answer(DeskReply::Refused(1))
+        let reply = DeskReply::Refused(1);
+        self.witness.saw(None, reply, self.desk);
+        desk_answer(reply)
     }
 
     fn answer_unread(&mut self) -> Answer {
-        desk_answer(DeskReply::Refused(20))
+        let reply = DeskReply::Refused(20);
+        self.witness.saw(None, reply, self.desk);
+        desk_answer(reply)
     }
 }
 
@@ -60,44 +67,46 @@ fn read_desk_by_tape(
     }
 }
 
-/// Answers a line by what was read of it. A line that is no desk line is code 1. Code 20 says that there was no memory to
-/// read the line, to stage its edit or to commit; whatever else refuses it comes before that.
-fn judge<T: Wait>(rt: &T, desk: &mut Desk, read: Result<Option<DeskLine>, DeskFault>) -> Answer
+/// The reply to a line by what was read of it. A line that is no desk line is code 1. Code 20 says that there was no memory
+/// to read the line, to stage its edit or to commit; whatever else refuses it comes before that.
+fn judge<T: Wait>(rt: &T, desk: &mut Desk, read: Result<Option<DeskLine>, DeskFault>) -> DeskReply
     ensures answered { (line : Bytes) → AnswersRead read (desk_terms desk.old.limits) (lists_of desk.old) line
-        (reply_of result) (lists_of desk.new) }
+        (said result) (lists_of desk.new) }
     ensures same { IsSameDesk desk.old desk.new }
+    ensures in_table { IsInTable result }
 {
     match read {
         Ok(Some(DeskLine::Edit(edit))) => stage(desk, edit),
         Ok(Some(DeskLine::Commit)) => commit(rt, desk),
-        Ok(None) => desk_answer(DeskReply::Refused(1)),
-        Err(fault) => desk_answer(DeskReply::Refused(fault.code())),
+        Ok(None) => DeskReply::Refused(1),
+        Err(fault) => DeskReply::Refused(fault.code()),
     }
 }
 
 /// Stages an edit: its refusal, or how many edits are staged and not published. Want of memory is code 20.
-fn stage(desk: &mut Desk, edit: Edit) -> Answer
+fn stage(desk: &mut Desk, edit: Edit) -> DeskReply
     ensures judged { (line : Bytes) → IsJudged (desk_terms desk.old.limits) (lists_of desk.old) line
-        (Some (Ok (Stage (edit_of edit)))) (reply_of result) (lists_of desk.new) }
+        (Some (Ok (Stage (edit_of edit)))) (said result) (lists_of desk.new) }
     ensures same { IsSameDesk desk.old desk.new }
+    ensures in_table { IsInTable result }
 {
     match desk.stage(edit) {
-        Ok(pending) => desk_answer(DeskReply::Staged(pending)),
-        Err(error) => desk_answer(DeskReply::Refused(error.code())),
+        Ok(pending) => DeskReply::Staged(pending),
+        Err(error) => DeskReply::Refused(error.code()),
     }
 }
 
 /// Publishes all that is staged, or says that there is no memory for it, which is code 20. With nothing pending it takes
 /// none.
-fn commit<T: Wait>(rt: &T, desk: &mut Desk) -> Answer
+fn commit<T: Wait>(rt: &T, desk: &mut Desk) -> DeskReply
     ensures judged { (line : Bytes) → IsJudged (desk_terms desk.old.limits) (lists_of desk.old) line
-        (Some (Ok Commit)) (reply_of result) (lists_of desk.new) }
-    ensures nothing_pending { desk.old.pending ≡ [] → reply_of result ≡
-        record { text = desk_text (DeskReply.Committed (length desk.old.published)); is_internal_error = false } }
+        (Some (Ok Commit)) (said result) (lists_of desk.new) }
+    ensures nothing_pending { desk.old.pending ≡ [] → result ≡ DeskReply.Committed (length desk.old.published) }
     ensures same { IsSameDesk desk.old desk.new }
+    ensures in_table { IsInTable result }
 {
     match desk.commit(rt) {
-        Ok(edition) => desk_answer(DeskReply::Committed(edition)),
-        Err(_) => desk_answer(DeskReply::Refused(20)),
+        Ok(edition) => DeskReply::Committed(edition),
+        Err(_) => DeskReply::Refused(20),
     }
 }

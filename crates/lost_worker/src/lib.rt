@@ -13,14 +13,16 @@ mod place_cache;
 mod replier;
 mod serving;
 mod streams;
+mod witness;
 mod worker;
 
 pub use cached::{CacheRefusal, CachedReader};
 pub use connection::Connection;
-pub use desk_stream::serve_desk;
+pub use desk_stream::{serve_desk, serve_desk_with};
 pub use faults::CacheError;
 pub use lost_lines::{Counts, Gate, NoGate, ServeError, Turns, Watched};
 pub use moments::Moments;
 pub use replier::Replier;
 pub use streams::serve_lines;
+pub use witness::{DeskWitness, NoWitness};
 pub use worker::worker_loop;

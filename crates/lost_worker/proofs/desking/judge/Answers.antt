@@ -1,11 +1,11 @@
 -- A line that is no desk line is refused, and nothing changes.
 use Rattle.std.proofs.Common.{refl}
-use Rattle.lost_lines.specs.Answer.{reply_of}
-use Rattle.lost_worker.specs.Desking.{lists_of}
+use Rattle.lost_writing.specs.declared.desk_reply.DeskReply.TheVariants.{Refused}
+use Rattle.lost_worker.specs.Desking.{lists_of, said}
 use Rattle.lost_worker.proofs.JudgeLemmas.{no_desk_line_step}
 use Rattle.lost_worker.proofs.desking.judge.Goals as goal
 
 pub returns-in-Ok-None-clause-answered : goal.returns-in-Ok-None-clause-answered
 returns-in-Ok-None-clause-answered g c line =
     rw (c.in-Ok-None.is, c.in-Ok-None.field-0-is)
-    (no_desk_line_step c.args.desk.now.limits line (reply_of c.desk_answer.result) (lists_of c.args.desk.now) (lists_of c.args.desk.now) c.desk_answer.ensures refl)
+    (no_desk_line_step c.args.desk.now.limits line (said (Refused 1)) (lists_of c.args.desk.now) (lists_of c.args.desk.now) refl refl)

@@ -1,6 +1,6 @@
 use Rattle.std.proofs.Common.{◌≡◌, ℕ, true, false, rules}
 use Rattle.lost_worker.proofs.DeskingLemmas.{desk_outcome, stays_at}
-use Rattle.lost_worker.proofs.desk_stream.serve_desk.Goals as goal
+use Rattle.lost_worker.proofs.desk_stream.serve_desk_with.Goals as goal
 
 -- `NoGate` lets each line through, so it refuses none
 always_lets : (line : ℕ) → false ≡ true → ⊥
