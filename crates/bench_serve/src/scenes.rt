@@ -86,6 +86,7 @@ pub(crate) fn served<R: Machine>(rt: &R, name: &Source, plan: Plan) -> io::Resul
     let (to_queries, to_desk) = (queries.local_addr()?, desk.local_addr()?);
     let manners = ConnectionSettings {
         idle: None,
+        desk_idle: None,
         is_quiet: true,
     };
     let (counts, outcome) = join(

@@ -35,20 +35,30 @@ lines than --lines allows) or memory ran out at the start; 2 for a mistake on th
 said of a line.";
 
 const SERVE_HELP: &str =
-    "It prints `ready` once both addresses are listened on. One connection to the desk's address gives desk lines \
-(`publish`, `replace`, `withdraw`, `commit`); each connection to the address of queries gives requests (`findService`, \
-`listServicesByLocation`, `listServices`, `getServiceBoundary`). Each line is one JSON object and gets one line of reply. \
-It begins with no mappings, and keeps nothing once it has ended: have the desk send its map after each start.\n\n\
-A worker answers one connection at a time, from its first line to its end; further ones wait. A connection ends where \
-its input ends, where it fails, or after 1,000,000 lines. When the desk's connection and all query connections have \
-ended, it prints `done lines=L faults=F`: the lines that were answered and the query connections that ended in a \
-fault.\n\n\
+    "It reads the map, if there is one, listens, and prints `ready`. From then on each connection to the address of queries \
+gives requests (`findService`, `listServicesByLocation`, `listServices`, `getServiceBoundary`), and a connection to the \
+desk's address gives desk lines (`publish`, `replace`, `withdraw`, `commit`). Each line is one JSON object and gets one line \
+of reply.\n\n\
+The map is a file of desk lines; `-` is standard input. A line that is refused is said on standard error with its number, \
+code and cause, as by `lostd check`. Then the server ends with status 3 and listens nowhere, as it does where no commit \
+stands behind the last edit; with --keep-going it starts with what was accepted and committed. Nothing is kept once a \
+server has ended: give it its map at each start.\n\n\
+A server has no end of its own, and desks are served one after another: a second one waits until the first has ended. What \
+a desk leaves without a commit is dropped. With --connections it serves one desk connection and so many query connections; \
+when all have ended it prints `done lines=L faults=F`: the lines that were answered and the query connections that ended in \
+a fault.\n\n\
+A worker answers one connection at a time, from its first line to its end; further ones wait. A connection ends where its \
+input ends, where it fails, or after 1,000,000 lines.\n\n\
+An address is HOST:PORT, as 127.0.0.1:5222, [::1]:5222 or localhost:5222, or unix:PATH, a Unix socket, whose file only its \
+owner may use unless --socket-mode says more.\n\n\
+--status answers HTTP: GET /health is 200 once the server is ready, and 503 before; GET /metrics is for Prometheus; GET \
+/status is one JSON object.\n\n\
 Example, with a query from another shell:\n  \
-lostd serve --name lost.example --queries 127.0.0.1:5222 --desk 127.0.0.1:5223 --workers 4 --connections 1000\n  \
+lostd serve --name lost.example --map examples/maps/two-districts.jsonl --queries 127.0.0.1:5222 --workers 4\n  \
 echo '{\"listServices\":{}}' | nc -N 127.0.0.1 5222\n\n\
-Exit status: 0 when all connections have ended; 1 where an address cannot be used, no connection can be accepted, \
-standard output failed or memory ran out outside the connections; 2 for a mistake on the command line. SIGINT and \
-SIGTERM end it at once.";
+Exit status: 0 when all connections have ended; 1 where the map cannot be read, an address cannot be used, no connection \
+can be accepted, standard output failed or memory ran out outside the connections; 2 for a mistake on the command line; 3 \
+where a line of the map is refused or not committed. SIGINT, SIGTERM and SIGHUP end it at once.";
 
 /// The whole command line.
 pub(crate) fn command<'a>(alloc: Global) -> Result<Command<'a>, Error> {
@@ -104,22 +114,41 @@ fn check_command<'a>(alloc: Global) -> Result<Command<'a>, Error> {
 /// `lostd serve`.
 fn serve_command<'a>(alloc: Global) -> Result<Command<'a>, Error> {
     let command = Command::new(alloc, "serve")
-        .about("Answers requests over TCP, while a map desk edits the boundaries")
+        .about("Answers requests of many clients, while a map desk edits the boundaries")
         .after_help(SERVE_HELP)
         .arg(name_argument(alloc))?
-        .arg(address_argument(
+        .arg(map_argument(alloc))?
+        .arg(flag_argument(
             alloc,
-            "queries",
-            "Where requests are taken: an address of this machine and a port, as 127.0.0.1:5222",
+            "keep-going",
+            "Starts though lines of the map are refused or not committed",
         ))?
+        .arg(queries_argument(alloc))?
         .arg(address_argument(
             alloc,
             "desk",
-            "Where the desk's lines are taken, on one connection: an address of this machine and a port, as 127.0.0.1:5223",
+            "Where desk lines are taken, from one desk at a time; it may be left out where there is a map",
         ))?
+        .arg(address_argument(
+            alloc,
+            "status",
+            "Where an operator asks how the server is, over HTTP",
+        ))?
+        .arg(socket_mode_argument(alloc))?
         .arg(workers_argument(alloc))?
         .arg(connections_argument(alloc))?
-        .arg(idle_argument(alloc))?
+        .arg(idle_argument(
+            alloc,
+            "idle",
+            "After how many seconds without a byte a query connection is ended: 0 to 86400, 0 for never",
+            "300",
+        ))?
+        .arg(idle_argument(
+            alloc,
+            "desk-idle",
+            "The same of a desk's connection, which keeps all other desks out",
+            "0",
+        ))?
         .arg(flag_argument(
             alloc,
             "quiet",
@@ -128,13 +157,40 @@ fn serve_command<'a>(alloc: Global) -> Result<Command<'a>, Error> {
     Ok(command)
 }
 
+fn map_argument<'a>(alloc: Global) -> Arg<'a> {
+    Arg::new(alloc, "map")
+        .long("map")
+        .value_name("FILE")
+        .action(ArgAction::Set)
+        .help(
+            "The desk lines that are read before the server listens, however many; - is standard input",
+        )
+}
+
+fn queries_argument<'a>(alloc: Global) -> Arg<'a> {
+    address_argument(
+        alloc,
+        "queries",
+        "Where requests are taken: HOST:PORT, as 127.0.0.1:5222, or unix:PATH",
+    )
+    .required(true)
+}
+
 fn address_argument<'a>(alloc: Global, name: &'static str, help: &'static str) -> Arg<'a> {
     Arg::new(alloc, name)
         .long(name)
-        .value_name("HOST:PORT")
-        .required(true)
+        .value_name("ADDRESS")
         .action(ArgAction::Set)
         .help(help)
+}
+
+fn socket_mode_argument<'a>(alloc: Global) -> Arg<'a> {
+    Arg::new(alloc, "socket-mode")
+        .long("socket-mode")
+        .value_name("MODE")
+        .action(ArgAction::Set)
+        .help("The mode of the files of Unix sockets, in octal digits, as 0660")
+        .default_value("0600")
 }
 
 fn number_argument<'a>(alloc: Global, name: &'static str, help: &'static str) -> Arg<'a> {
@@ -159,21 +215,21 @@ fn connections_argument<'a>(alloc: Global) -> Arg<'a> {
     number_argument(
         alloc,
         "connections",
-        "How many query connections are served before it ends: 1 to 1000000",
+        "How many query connections are served before it ends: 1 to 1000000; without it there is no end",
     )
     .value_parser(value_parser!(u32).range(1..=1_000_000))
-    .required(true)
 }
 
-fn idle_argument<'a>(alloc: Global) -> Arg<'a> {
-    number_argument(
-        alloc,
-        "idle",
-        "After how many seconds without a byte a query connection is ended: 0 to 86400, 0 for never",
-    )
-    .value_name("SECONDS")
-    .value_parser(value_parser!(u32).range(0..=86_400))
-    .default_value("300")
+fn idle_argument<'a>(
+    alloc: Global,
+    name: &'static str,
+    help: &'static str,
+    usual: &'static str,
+) -> Arg<'a> {
+    number_argument(alloc, name, help)
+        .value_name("SECONDS")
+        .value_parser(value_parser!(u32).range(0..=86_400))
+        .default_value(usual)
 }
 
 fn flag_argument<'a>(alloc: Global, name: &'static str, help: &'static str) -> Arg<'a> {

@@ -15,7 +15,7 @@ const RUN_FAULT: u8 = 1;
 /// The status of a mistake on the command line.
 const COMMAND_LINE: u8 = 2;
 
-/// The status of a check that said something of a line.
+/// The status of a check that said something of a line, and of a server whose map has such a line.
 const FOUND: u8 = 3;
 
 /// Why the program ends early (own rule).
@@ -39,6 +39,12 @@ pub enum ExitReason {
     Accept,
     /// A check found lines that would be refused or not answered, which was said already.
     Found,
+    /// A server is given neither a desk nor a map.
+    NoEdits,
+    /// A map could not be read, which was said already.
+    Map,
+    /// Lines of a map were refused or not committed, which was said already.
+    MapRefused,
 }
 
 impl ExitReason {
@@ -61,7 +67,11 @@ impl ExitReason {
     pub fn text(self) -> &'static str {
         match self {
             ExitReason::Words => "the command line could not be read: is it UTF-8?",
-            ExitReason::CommandLine | ExitReason::Address | ExitReason::Found => "",
+            ExitReason::CommandLine
+            | ExitReason::Address
+            | ExitReason::Found
+            | ExitReason::Map
+            | ExitReason::MapRefused => "",
             ExitReason::Name => {
                 "is not a server name: it must have 1 to 253 characters, in labels of letters, digits and hyphens joined by single dots, as lost.example"
             }
@@ -76,17 +86,24 @@ impl ExitReason {
             ExitReason::Run(ServeError::Memory) => "memory ran out",
             ExitReason::Workers => "there must be 1 to 64 workers",
             ExitReason::Accept => "no more connections could be accepted",
+            ExitReason::NoEdits => {
+                "--desk and --map are both left out: a server has its boundaries from one of them at least; see `lostd serve --help`"
+            }
         }
     }
 
-    /// The exit status: 1 for a fault of the run, 2 for a mistake on the command line, 3 for what a check found (own rule).
+    /// The exit status: 1 for a fault of the run, 2 for a mistake on the command line, 3 for what a check found or what is
+    /// wrong with a map (own rule).
     pub fn status(self) -> u8
         ensures { result ≡ reason_status self }
     {
         match self {
-            ExitReason::Address | ExitReason::Run(_) | ExitReason::Workers | ExitReason::Accept =>
-                RUN_FAULT,
-            ExitReason::Found => FOUND,
+            ExitReason::Address
+            | ExitReason::Run(_)
+            | ExitReason::Workers
+            | ExitReason::Accept
+            | ExitReason::Map => RUN_FAULT,
+            ExitReason::Found | ExitReason::MapRefused => FOUND,
             _ => COMMAND_LINE,
         }
     }

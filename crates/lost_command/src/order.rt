@@ -4,22 +4,33 @@ use crate::given::server_name;
 use crate::replaying::said_of;
 use clap::ArgMatches;
 use lost_mapping::Source;
+use lost_sockets::mode_of;
 
 /// What is ordered of a server (own rule).
 #[derive(Drop)]
 pub struct ServeOrder<'a> {
     /// The server's name.
     pub name: Source,
+    /// The file of desk lines that is read before the server listens, as it was given; `-` is standard input.
+    pub map: Option<&'a str>,
+    /// Whether the server starts though lines of its map were refused, or are not committed.
+    pub keeps_going: bool,
     /// The address of queries, as it was given.
     pub queries: &'a str,
-    /// The address of the desk, as it was given.
-    pub desk: &'a str,
+    /// The address of the desk, as it was given. Without it there is a map.
+    pub desk: Option<&'a str>,
+    /// The address of the status, as it was given.
+    pub status: Option<&'a str>,
+    /// The mode of the files of Unix sockets, at most `0o777`.
+    pub socket_mode: u32,
     /// How many threads answer requests: 1 to 64.
     pub workers: u32,
-    /// How many query connections are served: 1 to 1,000,000.
-    pub connections: u32,
+    /// How many query connections are served: 1 to 1,000,000; `None` for all.
+    pub connections: Option<u32>,
     /// After how many seconds without a byte a query connection is ended: 0 to 86,400, 0 for never.
     pub idle: u32,
+    /// The same of a desk's connection.
+    pub desk_idle: u32,
     /// Whether nothing is said of connections that end in a fault.
     pub is_quiet: bool,
 }
@@ -34,13 +45,37 @@ pub(crate) fn order_of<'a, R: Eprint + AllocGlobal>(
         Ok(name) => name,
         Err(reason) => return Err(said_of(rt, reason, name, "")),
     };
+    let socket_mode = socket_mode_of(rt, given)?;
+    if given.get_str("desk").is_none() && given.get_str("map").is_none() {
+        return Err(ExitReason::NoEdits);
+    }
     Ok(ServeOrder {
         name,
+        map: given.get_str("map"),
+        keeps_going: given.get_flag("keep-going"),
         queries: given.get_str("queries").unwrap_or(""),
-        desk: given.get_str("desk").unwrap_or(""),
+        desk: given.get_str("desk"),
+        status: given.get_str("status"),
+        socket_mode,
         workers: given.get_one::<u32>("workers").unwrap_or(0),
-        connections: given.get_one::<u32>("connections").unwrap_or(0),
+        connections: given.get_one::<u32>("connections"),
         idle: given.get_one::<u32>("idle").unwrap_or(0),
+        desk_idle: given.get_one::<u32>("desk-idle").unwrap_or(0),
         is_quiet: given.get_flag("quiet"),
     })
+}
+
+/// The mode of the files of Unix sockets that the arguments give. What is wrong with it is said.
+fn socket_mode_of<R: Eprint>(rt: &R, given: &ArgMatches<'_>) -> Result<u32, ExitReason> {
+    let text = given.get_str("socket-mode").unwrap_or("");
+    match mode_of(text) {
+        Some(mode) => Ok(mode),
+        None => {
+            // Where standard error fails, the status still tells.
+            let _said = eprintln!(rt;
+                "lostd: --socket-mode '{text}' is not a mode: it must be one to four octal digits up to 0777, as 0660"
+            );
+            Err(ExitReason::CommandLine)
+        }
+    }
 }

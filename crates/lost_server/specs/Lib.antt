@@ -1,1 +1,2 @@
 pub mod RunFault
+pub mod Map

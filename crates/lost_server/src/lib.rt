@@ -1,15 +1,32 @@
 //! What the program `lostd` runs (own rules): `replay` answers a stream of desk lines and request lines by one thread, and
-//! `serve` answers the connections of a desk and of clients by many.
+//! a server answers the connections of desks and of clients by many, from a map that it may have read before.
 #![tactic(auto)]
 
+mod accepting;
 mod clock;
-mod listening;
+mod counting;
+mod desks;
+mod doors;
+mod map;
 mod notices;
+mod order;
 mod peer;
+mod queries;
 mod run_fault;
+mod running;
+mod server_fault;
 mod serving;
+mod shared;
+mod starting;
+mod status_port;
+mod workers;
 
+pub use doors::{Doors, Ready};
 pub use lost_lines::{Counts, Gate, NoGate, ServeError, Turns, Watched};
 pub use lost_replay::{Replayer, replay};
+pub use map::{MapFound, load_map};
+pub use order::{ConnectionSettings, ServerOrder};
 pub use run_fault::RunFault;
-pub use serving::{ConnectionSettings, serve};
+pub use running::serve;
+pub use server_fault::{MapFault, ServerFault};
+pub use starting::run_server;

@@ -1,7 +1,9 @@
 //! What is said of connections on standard error. Rules without a section are this profile's own.
+use lost_sockets::Peer;
+use lost_status::Status;
 use std::alloc::{AllocError, Global};
 use std::io::Eprint;
-use std::net::SocketAddr;
+use std::sync::Arc;
 use std::sync::atomic::{AtomicU64, Ordering};
 use std::time::Clock;
 
@@ -15,37 +17,65 @@ pub(crate) struct Notices<R: Clock + Eprint + Drop> {
     rt: R,
     alloc: Global,
     is_quiet: bool,
+    status: Arc<Status>,
     second: AtomicU64,
     said: AtomicU64,
     left_out: AtomicU64,
 }
 
+/// Notices for all threads, on the standard error of `rt`; none where it is quiet. With them goes what is counted.
+pub(crate) fn notices_of<R: Clock + Eprint + Clone>(
+    rt: &R,
+    alloc: Global,
+    is_quiet: bool,
+    status: &Arc<Status>,
+) -> Result<Arc<Notices<R>>, AllocError> {
+    let status = Arc::try_clone(status)?;
+    match Arc::new(alloc, Notices::new(rt.clone()?, alloc, is_quiet, status)) {
+        Ok(notices) => Ok(notices),
+        Err(_) => Err(AllocError),
+    }
+}
+
 impl<R: Clock + Eprint + Drop> Notices<R> {
-    /// Notices on the standard error of `rt`; none where it is quiet.
-    pub(crate) fn new(rt: R, alloc: Global, is_quiet: bool) -> Notices<R> {
+    fn new(rt: R, alloc: Global, is_quiet: bool, status: Arc<Status>) -> Notices<R> {
         Notices {
             rt,
             alloc,
             is_quiet,
+            status,
             second: AtomicU64::new(0),
             said: AtomicU64::new(0),
             left_out: AtomicU64::new(0),
         }
     }
 
+    /// What is counted.
+    pub(crate) fn status(&self) -> &Status {
+        &self.status
+    }
+
     /// Says how a query connection, counted from 1, ended in a fault.
-    pub(crate) fn say_of_query(&self, number: u64, address: &SocketAddr, cause: &str) {
+    pub(crate) fn say_of_query(&self, number: u64, peer: &Peer, cause: &str) {
         if self.is_due() {
             let left_out = self.left_out.swap(0, Ordering::SeqCst);
-            self.say(query_line(self.alloc, number, address, cause, left_out));
+            self.say(query_line(self.alloc, number, peer, cause, left_out));
         }
     }
 
-    /// Says how the desk's connection ended in a fault.
-    pub(crate) fn say_of_desk(&self, address: &SocketAddr, cause: &str) {
+    /// Says how a desk's connection ended in a fault.
+    pub(crate) fn say_of_desk(&self, peer: &Peer, cause: &str) {
         if !self.is_quiet {
-            self.say(desk_line(self.alloc, address, cause));
+            self.say(desk_line(self.alloc, peer, cause));
         }
+    }
+
+    /// Says that what a desk left pending is pending for the next one.
+    pub(crate) fn say_of_pending(&self) {
+        // Where standard error fails, the next desk still sees how many edits are pending.
+        let _said = self.rt.eprint(
+            "lostd: memory ran out: what the last desk left pending could not be dropped, and the next desk's commit publishes it\n",
+        );
     }
 
     /// Says that a listener was given up.
@@ -87,11 +117,11 @@ impl<R: Clock + Eprint + Drop> Notices<R> {
 fn query_line(
     alloc: Global,
     number: u64,
-    address: &SocketAddr,
+    peer: &Peer,
     cause: &str,
     left_out: u64,
 ) -> Result<String, AllocError> {
-    let mut line = format!(in alloc; "lostd: query connection {number} of {address}: {cause}")?;
+    let mut line = format!(in alloc; "lostd: query connection {number} of {peer}: {cause}")?;
     if left_out > 0 {
         let more = format!(in alloc;
             " ({left_out} more connections ended in faults that were not said)"
@@ -103,7 +133,7 @@ fn query_line(
 }
 
 /// The line about the desk's connection that ended in a fault.
-fn desk_line(alloc: Global, address: &SocketAddr, cause: &str) -> Result<String, AllocError> {
-    let line = format!(in alloc; "lostd: desk connection of {address}: {cause}\n")?;
+fn desk_line(alloc: Global, peer: &Peer, cause: &str) -> Result<String, AllocError> {
+    let line = format!(in alloc; "lostd: desk connection of {peer}: {cause}\n")?;
     Ok(line)
 }

@@ -1,79 +1,87 @@
 //! The two ends of a query connection. Rules without a section are this profile's own.
 use crate::notices::Notices;
+use lost_sockets::{Peer, Stream};
 use std::alloc::{AllocError, Global};
 use std::io;
 use std::io::{Eprint, ErrorKind, Read, Write};
-use std::net::{SocketAddr, TcpStream};
 use std::sync::Arc;
 use std::sync::atomic::{AtomicBool, Ordering};
 use std::time::Clock;
 
 /// A query connection. It is closed when both its ends are dropped.
 #[derive(Drop)]
-struct Peer<R: Clock + Eprint + Drop> {
-    stream: TcpStream,
+struct Client<R: Clock + Eprint + Drop> {
+    stream: Stream,
     number: u64,
-    address: SocketAddr,
+    peer: Peer,
     notices: Arc<Notices<R>>,
     /// Whether its input ended, or a fault of it was said.
     is_over: AtomicBool,
+    /// Whether a fault of it was said.
+    has_failed: AtomicBool,
 }
 
-impl<R: Clock + Eprint + Drop> Peer<R> {
+impl<R: Clock + Eprint + Drop> Client<R> {
     /// Says how it ended in a fault.
     fn say(&self, cause: &str) {
         self.is_over.store(true, Ordering::SeqCst);
-        self.notices.say_of_query(self.number, &self.address, cause);
+        self.has_failed.store(true, Ordering::SeqCst);
+        self.notices.say_of_query(self.number, &self.peer, cause);
     }
 }
 
 /// What the lines of a query connection are read from. A failed read is said; so is an end of the connection before the
 /// end of its lines.
 pub(crate) struct Incoming<R: Clock + Eprint + Drop> {
-    peer: Arc<Peer<R>>,
+    client: Arc<Client<R>>,
     has_read: bool,
 }
 
 /// What the replies of a query connection are written to. A failed write is said.
 #[derive(Drop)]
 pub(crate) struct Outgoing<R: Clock + Eprint + Drop> {
-    peer: Arc<Peer<R>>,
+    client: Arc<Client<R>>,
 }
 
 /// The two ends of a query connection, counted from 1.
 pub(crate) fn ends<R: Clock + Eprint + Drop>(
     alloc: Global,
-    stream: TcpStream,
+    stream: Stream,
     number: u64,
-    address: SocketAddr,
+    peer: Peer,
     notices: &Arc<Notices<R>>,
 ) -> Result<(Incoming<R>, Outgoing<R>), AllocError> {
-    let peer = Peer {
+    let client = Client {
         stream,
         number,
-        address,
+        peer,
         notices: Arc::try_clone(notices)?,
         is_over: AtomicBool::new(false),
+        has_failed: AtomicBool::new(false),
     };
-    let Ok(peer) = Arc::new(alloc, peer) else {
+    let Ok(client) = Arc::new(alloc, client) else {
         return Err(AllocError);
     };
-    let other = Arc::try_clone(&peer)?;
+    let other = Arc::try_clone(&client)?;
     let incoming = Incoming {
-        peer,
+        client,
         has_read: false,
     };
-    Ok((incoming, Outgoing { peer: other }))
+    Ok((incoming, Outgoing { client: other }))
 }
 
 impl<R: Clock + Eprint + Drop> Read for Incoming<R> {
     fn read(&mut self, buf: &mut [u8]) -> io::Result<usize> {
-        self.has_read = true;
-        let result = (&mut &self.peer.stream).read(buf);
+        if !self.has_read {
+            self.has_read = true;
+            self.client.notices.status().count_taken();
+        }
+        let mut stream = &self.client.stream;
+        let result = stream.read(buf);
         match &result {
-            Ok(0) => self.peer.is_over.store(true, Ordering::SeqCst),
+            Ok(0) => self.client.is_over.store(true, Ordering::SeqCst),
             Ok(_) => {}
-            Err(error) => self.peer.say(reading_failed(error.kind())),
+            Err(error) => self.client.say(reading_failed(error.kind())),
         }
         result
     }
@@ -81,9 +89,10 @@ impl<R: Clock + Eprint + Drop> Read for Incoming<R> {
 
 impl<R: Clock + Eprint + Drop> Write for Outgoing<R> {
     fn write(&mut self, buf: &[u8]) -> io::Result<usize> {
-        let result = (&mut &self.peer.stream).write(buf);
+        let mut stream = &self.client.stream;
+        let result = stream.write(buf);
         if let Err(error) = &result {
-            self.peer.say(writing_failed(error.kind()));
+            self.client.say(writing_failed(error.kind()));
         }
         result
     }
@@ -95,10 +104,15 @@ impl<R: Clock + Eprint + Drop> Write for Outgoing<R> {
 
 impl<R: Clock + Eprint + Drop> Drop for Incoming<R> {
     fn drop(self) {
-        let Incoming { peer, has_read } = self;
-        if has_read && !peer.is_over.load(Ordering::SeqCst) {
-            peer.say("it sent more lines than are answered on one connection");
+        let Incoming { client, has_read } = self;
+        if has_read && !client.is_over.load(Ordering::SeqCst) {
+            client.say("it sent more lines than are answered on one connection");
         }
+        let status = client.notices.status();
+        if !has_read {
+            status.count_taken();
+        }
+        status.count_ended(client.has_failed.load(Ordering::SeqCst));
     }
 }
 

@@ -5,8 +5,9 @@
 mod serving;
 
 use lost_command::{ExitReason, end, obey};
-use serving::serve_addresses;
+use serving::serve_as_ordered;
 use std::env;
+use std::fs::Files;
 use std::io::IsTerminal;
 use std::net::{Net, TcpListener, TcpStream};
 use std::process::ExitCode;
@@ -23,6 +24,7 @@ fn main(rt: HostRuntime) -> ExitCode {
 /// Reads the words of the command line, and does what they say. `is_terminal` says whether standard error is one.
 fn run<
     R: Env
+        + Files
         + Print
         + Eprint
         + Input
@@ -41,7 +43,7 @@ fn run<
         words.push(word).map_err(|_| ExitReason::MEMORY)?;
     }
     match obey(rt, words.as_slice(), is_terminal)? {
-        Some(order) => serve_addresses(rt, &order),
+        Some(order) => serve_as_ordered(rt, &order, is_terminal),
         None => Ok(()),
     }
 }

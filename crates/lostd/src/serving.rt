@@ -1,20 +1,30 @@
-//! `lostd serve`: connections to two addresses are answered.
+//! `lostd serve`: a server is run as it is ordered.
 ghost use Rattle.std.specs.Prelude.{◌≡◌};
-ghost use Rattle.lostd.specs.ExitReasons.{serve_reason};
+ghost use Rattle.lostd.specs.ExitReasons.{serve_reason, map_reason};
 
 use lost_command::{ExitReason, ServeOrder};
-use lost_server::{ConnectionSettings, NoGate, RunFault, ServeError, serve};
+use lost_server::{
+    ConnectionSettings, Doors, MapFault, Ready, RunFault, ServeError, ServerFault, ServerOrder,
+    run_server,
+};
+use lost_sockets::{ListenError, Listener};
+use std::fs::Files;
+use std::io;
 use std::io::ErrorKind;
 use std::net::{Net, TcpListener, TcpStream};
 use std::random::RandomSource;
 use std::sync::Wait;
+use std::sync::atomic::AtomicBool;
 use std::thread::Threads;
 use std::time::{Clock, Duration};
 
-/// Listens on both addresses, says that it is ready, serves all connections, and says what was counted.
-pub(crate) fn serve_addresses<
+/// Runs a server as it is ordered, says when it is ready, and at its end what was counted. `is_terminal` says whether
+/// standard error is a terminal.
+pub(crate) fn serve_as_ordered<
     R: Print
         + Eprint
+        + Input
+        + Files
         + AllocGlobal
         + Net<Listener = TcpListener, Stream = TcpStream>
         + Threads
@@ -24,41 +34,81 @@ pub(crate) fn serve_addresses<
         + Clone
         + Send
         + Sync,
->(rt: &R, order: &ServeOrder<'_>) -> Result<(), ExitReason> {
-    let queries = listen(rt, "--queries", order.queries)?;
-    let desk = listen(rt, "--desk", order.desk)?;
-    println!(rt; "ready").map_err(|_| ExitReason::Run(ServeError::Write))?;
-    let counts = serve(
-        rt,
-        rt.alloc(),
-        &order.name,
-        &queries,
-        &desk,
-        order.workers,
-        order.connections,
-        &NoGate,
-        settings_of(order),
-    )
-    .map_err(reason_of)?;
-    println!(rt; "done lines={} faults={}", counts.lines, counts.faults).map_err(
-        |_| ExitReason::Run(ServeError::Write),
-    )
+>(rt: &R, order: &ServeOrder<'_>, is_terminal: bool) -> Result<(), ExitReason> {
+    let ordered = ServerOrder {
+        name: &order.name,
+        map: order.map,
+        keeps_going: order.keeps_going,
+        queries: order.queries,
+        desk: order.desk,
+        status: order.status,
+        socket_mode: order.socket_mode,
+        workers: order.workers,
+        connections: order.connections,
+        settings: settings_of(order),
+        shows_progress: is_terminal,
+    };
+    // Signals end the program, so nothing sets it.
+    let is_over = AtomicBool::new(false);
+    match run_server(rt, &ordered, &ReadyLine { rt }, &is_over) {
+        Ok(counts) => {
+            println!(rt; "done lines={} faults={}", counts.lines, counts.faults).map_err(
+                |_| ExitReason::Run(ServeError::Write),
+            )
+        }
+        Err(fault) => Err(reason_of(rt, order, fault)),
+    }
+}
+
+/// Says on standard output that the server is ready.
+#[derive(Drop)]
+struct ReadyLine<'r, R> {
+    rt: &'r R,
+}
+
+impl<R: Print> Ready for ReadyLine<'_, R> {
+    fn begins(&self, _status: &Listener) {}
+
+    fn ready(&self, _doors: &Doors) -> io::Result<()> {
+        println!(self.rt; "ready")
+    }
 }
 
 /// How the connections of a server are treated, as it is ordered.
 fn settings_of(order: &ServeOrder<'_>) -> ConnectionSettings {
-    let idle = match order.idle {
-        0 => None,
-        seconds => Some(Duration::from_secs(u64::from(seconds))),
-    };
     ConnectionSettings {
-        idle,
+        idle: limit_of(order.idle),
+        desk_idle: limit_of(order.desk_idle),
         is_quiet: order.is_quiet,
     }
 }
 
-/// What of a server's fault ends the program.
-fn reason_of(fault: RunFault) -> ExitReason
+/// So many seconds, where 0 is without end.
+fn limit_of(seconds: u32) -> Option<Duration> {
+    match seconds {
+        0 => None,
+        seconds => Some(Duration::from_secs(u64::from(seconds))),
+    }
+}
+
+/// What of a server's fault ends the program. What concerns a word of the command line is said.
+fn reason_of<R: Eprint>(rt: &R, order: &ServeOrder<'_>, fault: ServerFault) -> ExitReason {
+    match fault {
+        ServerFault::Run(fault) => run_reason(fault),
+        ServerFault::Ready => ExitReason::Run(ServeError::Write),
+        ServerFault::Address(option, error) => {
+            say_of_address(rt, order, option, error);
+            ExitReason::Address
+        }
+        ServerFault::Map(fault) => {
+            say_of_map(rt, order.map.unwrap_or(""), fault);
+            map_reason(fault)
+        }
+    }
+}
+
+/// What of a run's fault ends the program.
+fn run_reason(fault: RunFault) -> ExitReason
     ensures { result ≡ serve_reason fault }
 {
     match fault {
@@ -68,32 +118,55 @@ fn reason_of(fault: RunFault) -> ExitReason
     }
 }
 
-/// Listens on the address that an option gives, or says why that cannot be done.
-fn listen<R: Eprint + Net<Listener = TcpListener, Stream = TcpStream>>(
-    rt: &R,
-    option: &str,
-    address: &str,
-) -> Result<TcpListener, ExitReason> {
-    match TcpListener::bind(rt, address) {
-        Ok(listener) => Ok(listener),
-        Err(error) => {
-            let text = refusal_text(error.kind());
-            // Where standard error fails, the status still tells.
-            let _said = eprintln!(rt; "lostd: {option} '{address}' {text}");
-            Err(ExitReason::Address)
-        }
+/// What of a map's fault ends the program.
+fn map_reason(fault: MapFault) -> ExitReason
+    ensures { result ≡ map_reason fault }
+{
+    match fault {
+        MapFault::Unopened(_) | MapFault::Unread => ExitReason::Map,
+        MapFault::Refused { .. } => ExitReason::MapRefused,
+        MapFault::Memory => ExitReason::MEMORY,
     }
 }
 
-/// Why an address cannot be listened on.
-fn refusal_text(kind: ErrorKind) -> &'static str {
+/// Says why an address cannot be listened on.
+fn say_of_address<R: Eprint>(rt: &R, order: &ServeOrder<'_>, option: &str, error: ListenError) {
+    let address = match option {
+        "--queries" => order.queries,
+        "--desk" => order.desk.unwrap_or(""),
+        _ => order.status.unwrap_or(""),
+    };
+    // Where standard error fails, the status still tells.
+    let _said = eprintln!(rt; "lostd: {option} '{address}' {}", error.text());
+}
+
+/// Says why a map was not loaded; of want of memory that is said at the end.
+fn say_of_map<R: Eprint>(rt: &R, path: &str, fault: MapFault) {
+    // Where standard error fails, the status still tells.
+    let _said = match fault {
+        MapFault::Unopened(kind) => {
+            eprintln!(rt;
+                "lostd: --map '{path}' cannot be read: {}",
+                opening_failed(kind)
+            )
+        }
+        MapFault::Unread => eprintln!(rt; "lostd: --map '{path}' could not be read to its end"),
+        MapFault::Refused { refused, pending } => {
+            eprintln!(rt;
+                "lostd: --map '{path}': {refused} lines refused, {pending} edits behind the last commit: nothing is served; see --keep-going"
+            )
+        }
+        MapFault::Memory => Ok(()),
+    };
+}
+
+/// Why a file cannot be opened.
+fn opening_failed(kind: ErrorKind) -> &'static str {
     match kind {
-        ErrorKind::AddrInUse => "is in use: another program listens there",
-        ErrorKind::PermissionDenied =>
-            "may not be used: a port below 1024 wants rights that this user lacks",
-        ErrorKind::AddrNotAvailable => "is no address of this machine",
-        ErrorKind::OutOfMemory => "cannot be used: memory ran out",
-        _ =>
-            "cannot be used: it must be an address or a name of this machine and a port, as 127.0.0.1:5222",
+        ErrorKind::NotFound => "there is no such file",
+        ErrorKind::PermissionDenied => "this user may not read it",
+        ErrorKind::IsADirectory => "it is a folder",
+        ErrorKind::OutOfMemory => "memory ran out",
+        _ => "it could not be opened",
     }
 }

@@ -6,21 +6,34 @@
 //! - `serve`: desks and clients of a server over connections of this machine: a desk that stays while a query is answered,
 //!   a gate that holds the first reply until the other was given, bad numbers of workers, a mapping that expires while it is
 //!   asked for, connections on which nothing moves, and eight clients of four workers while a desk commits.
+//! - `status`: each row of `status.rows` is a request of HTTP to a server to which something happened before, and its answer
+//!   is compared with what the row wants ([`status`] says how a row is written). Then come clients that are cut off, and two
+//!   workers that count at once.
+//! - `sockets`: Unix sockets at paths of all kinds, in a folder that it makes where it runs and removes; addresses of TCP; and
+//!   bytes over connections of both kinds.
 #![tactic(auto)]
 
 mod command;
 mod serve;
+mod sockets;
+mod status;
 
 use std::io;
 use std::process::ExitCode;
 use test_rows::given;
 
 fn main(rt: HostRuntime) -> io::Result<ExitCode> {
-    let (words, end) = given(&rt, "rows_serve", &["command", "serve"])?;
+    let (words, end) = given(
+        &rt,
+        "rows_serve",
+        &["command", "serve", "status", "sockets"],
+    )?;
     for word in &words {
         println!(rt; "== {word}")?;
         match word.as_str() {
             "serve" => serve::run(&rt)?,
+            "status" => status::run(&rt)?,
+            "sockets" => sockets::run(&rt)?,
             _ => command::run(&rt)?,
         }
     }

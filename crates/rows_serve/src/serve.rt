@@ -7,10 +7,14 @@ mod first_waits;
 mod idlers;
 mod lines;
 mod parties;
+mod ports;
 mod scenes;
+mod started;
 
 use bench::Bench;
 use scenes::Stage;
+use started::Starter;
+use std::fs::Files;
 use std::io;
 use std::net::{Net, TcpListener, TcpStream};
 use std::random::RandomSource;
@@ -19,13 +23,14 @@ use std::thread::Threads;
 use std::time::Clock;
 
 /// The scenes, in turn.
-const SCENES: [&str; 6] = [
+const SCENES: [&str; 7] = [
     "a query beside the desk",
     "a gate",
     "no workers",
     "a mapping that expires",
     "idle connections",
     "eight clients beside commits",
+    "maps that are refused",
 ];
 
 /// Plays each scene, and prints what was replied and counted.
@@ -36,6 +41,8 @@ pub(crate) fn run<
         + Clock
         + Eprint
         + Print
+        + Input
+        + Files
         + RandomSource
         + Clone
         + Send
@@ -46,12 +53,17 @@ pub(crate) fn run<
         println!(rt; "-- {scene}")?;
         let bench = Bench::new(rt)?;
         let stage = Stage { rt, bench: &bench };
+        let starter = Starter {
+            rt,
+            name: &bench.name,
+        };
         match scene {
             "a query beside the desk" => stage.loopback(),
             "a gate" => stage.gate(),
             "no workers" => stage.no_workers(),
             "a mapping that expires" => stage.expiry(),
             "idle connections" => stage.idle(),
+            "maps that are refused" => starter.refused_maps(),
             _ => stage.eight_clients(),
         }?;
     }

@@ -15,6 +15,8 @@ pub(crate) fn tell<R: Print + AllocGlobal>(rt: &R) -> io::Result<()> {
         ExitReason::Run(ServeError::Memory),
         ExitReason::Workers,
         ExitReason::Accept,
+        ExitReason::Map,
+        ExitReason::MapRefused,
     ] {
         let console = Console::new(alloc, "");
         let code = reason.report(&console);

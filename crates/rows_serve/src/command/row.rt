@@ -58,16 +58,24 @@ fn words_of(alloc: Global, row: &str) -> Result<Vec<String>, AllocError> {
     Ok(words)
 }
 
-/// What is ordered of a server, as a line.
+/// What is ordered of a server, as a line. What is left out is a hyphen.
 fn order_text(alloc: Global, order: &ServeOrder<'_>) -> Result<String, AllocError> {
+    let connections = match order.connections {
+        Some(connections) => format!(in alloc; "{connections}"),
+        None => String::from_str(alloc, "-"),
+    }?;
     format!(in alloc;
-        "name={} queries={} desk={} workers={} connections={} idle={} quiet={}\n",
+        "name={} map={} keep-going={} queries={} desk={} status={} mode={:o} workers={} connections={connections} idle={} desk-idle={} quiet={}\n",
         order.name.text(),
+        order.map.unwrap_or("-"),
+        order.keeps_going,
         order.queries,
-        order.desk,
+        order.desk.unwrap_or("-"),
+        order.status.unwrap_or("-"),
+        order.socket_mode,
         order.workers,
-        order.connections,
         order.idle,
+        order.desk_idle,
         order.is_quiet
     )
 }

@@ -55,6 +55,7 @@ impl<
     ) -> Result<Counts, RunFault> {
         let settings = ConnectionSettings {
             idle: Some(Duration::from_secs(IDLE)),
+            desk_idle: None,
             is_quiet: false,
         };
         self.serve_so(workers, connections, gate, settings)
@@ -136,6 +137,7 @@ impl<
         let (rt, bench) = (self.rt, self.bench);
         let settings = ConnectionSettings {
             idle: Some(Duration::from_secs(SHORT_IDLE)),
+            desk_idle: None,
             is_quiet: true,
         };
         let (served, ended) = join(

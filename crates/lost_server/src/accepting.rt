@@ -1,0 +1,28 @@
+//! How connections are accepted until a server is over. Rules without a section are this profile's own.
+use lost_sockets::{Listener, Peer, Stream};
+use std::io::ErrorKind;
+use std::sync::Wait;
+use std::sync::atomic::{AtomicBool, Ordering};
+use std::thread::sleep;
+use std::time::{Clock, Duration};
+
+/// How long to wait where no connection is there, in milliseconds.
+const PAUSE: u64 = 20;
+
+/// Waits for the next connection, or until `is_over` is set. A listener that fails is asked again after a pause.
+pub(crate) fn accept_until<R: Wait + Clock>(
+    rt: &R,
+    listener: &Listener,
+    is_over: &AtomicBool,
+) -> Option<(Stream, Peer)> {
+    for _ in rt.forever() {
+        if is_over.load(Ordering::SeqCst) {
+            return None;
+        }
+        if let Ok(accepted) = listener.accept_once() {
+            return Some(accepted);
+        }
+        sleep(rt, Duration::from_millis(PAUSE));
+    }
+    None
+}

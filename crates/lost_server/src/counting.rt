@@ -1,0 +1,64 @@
+//! What counts the replies of a worker, and the lines of desks. Rules without a section are this profile's own.
+ghost use Rattle.std.specs.Prelude.{◌≡◌};
+
+use lost_desk::Desk;
+use lost_json::DeskReply;
+use lost_mapping::{Moment, Source};
+use lost_status::{Status, WorkerCounts};
+use lost_worker::{CachedReader, DeskWitness, Replier};
+use std::alloc::{AllocError, Global};
+use std::hash::BuildHasher;
+use std::time::Clock;
+
+/// A reader whose replies are counted by their kinds. It replies as the reader does.
+#[derive(Drop)]
+pub(crate) struct Counting<'r, 's, S: BuildHasher + Drop> {
+    pub(crate) reader: &'r mut CachedReader<S>,
+    pub(crate) counts: &'s WorkerCounts,
+}
+
+impl<S: BuildHasher + Drop> Replier for Counting<'_, '_, S> {
+    ghost reader = { λ c. c.reader.now };
+
+    fn reply_line(
+        &mut self,
+        alloc: Global,
+        name: &Source,
+        moment: &Moment,
+        line: &[u8],
+    ) -> Result<Vec<u8>, AllocError> {
+        let reply = self.reader.reply_line(alloc, name, moment, line)?;
+        self.counts.count_reply(reply.as_slice());
+        self.counts.set_cache_hits(self.reader.hits());
+        Ok(reply)
+    }
+}
+
+/// Counts what a desk's lines come to.
+#[derive(Drop)]
+pub(crate) struct DeskCounting<'r, 's, R: Clock> {
+    pub(crate) rt: &'r R,
+    pub(crate) status: &'s Status,
+}
+
+impl<R: Clock> DeskWitness for DeskCounting<'_, '_, R> {
+    fn saw(&mut self, _line: Option<&[u8]>, reply: DeskReply, desk: &Desk) {
+        match reply {
+            DeskReply::Staged(_) => {}
+            DeskReply::Committed(_) => {
+                if let Ok(since) = self.rt.since_1970() {
+                    self.status.set_commit(since);
+                }
+            }
+            DeskReply::Refused(code) => self.status.count_refusal(code),
+        }
+        tell_book(self.status, desk);
+    }
+}
+
+/// Tells the status what a desk holds.
+pub(crate) fn tell_book(status: &Status, desk: &Desk) {
+    let edition = desk.edition();
+    let pending = desk.staged().edition().saturating_sub(edition);
+    status.set_book(edition, desk.published().len() as u64, pending);
+}

@@ -1,0 +1,126 @@
+//! What the thread of the desk does. Rules without a section are this profile's own.
+use crate::accepting::accept_until;
+use crate::counting::{DeskCounting, tell_book};
+use crate::shared::Shared;
+use lost_desk::Desk;
+use lost_lines::{Counts, ServeError, Turns, Watched};
+use lost_sockets::{Listener, Peer, Stream, accept};
+use lost_worker::serve_desk_with;
+use std::io;
+use std::io::{Eprint, ErrorKind, Read};
+use std::sync::Wait;
+use std::sync::atomic::{AtomicBool, Ordering};
+use std::time::Clock;
+
+/// Serves one connection of a desk, and says whether one came.
+pub(crate) fn serve_one_desk<R: Wait + Clock + Eprint + Drop, G>(
+    shared: &Shared<'_, R, G>,
+    listener: &Listener,
+    desk: &mut Desk,
+) -> bool {
+    let Some((stream, peer)) = accept(shared.rt, listener) else {
+        shared.notices.say_of_listener();
+        return false;
+    };
+    serve_desk_connection(shared, &stream, &peer, desk);
+    true
+}
+
+/// Serves the connections of desks one after another, until the server is over. What a desk left pending is dropped before
+/// the next one is served.
+pub(crate) fn serve_desks<R: Wait + Clock + Eprint + Drop, G>(
+    shared: &Shared<'_, R, G>,
+    listener: &Listener,
+    desk: &mut Desk,
+) {
+    for _ in shared.rt.forever() {
+        let Some((stream, peer)) = accept_until(shared.rt, listener, shared.is_over) else {
+            return;
+        };
+        serve_desk_connection(shared, &stream, &peer, desk);
+        drop(stream);
+        if desk.drop_pending().is_err() {
+            shared.notices.say_of_pending();
+        }
+        tell_book(shared.status, desk);
+    }
+}
+
+/// Serves a desk's connection, and says it where it ended in a fault.
+fn serve_desk_connection<R: Wait + Clock + Eprint + Drop, G>(
+    shared: &Shared<'_, R, G>,
+    stream: &Stream,
+    peer: &Peer,
+    desk: &mut Desk,
+) {
+    shared.status.set_desk(true);
+    let was_silent = AtomicBool::new(false);
+    if let Err(fault) = serve_desk_stream(shared, stream, &was_silent, desk) {
+        let cause = desk_fault_text(fault, was_silent.load(Ordering::SeqCst));
+        shared.notices.say_of_desk(peer, cause);
+    }
+    shared.status.set_desk(false);
+}
+
+/// Answers what comes over a desk's connection.
+fn serve_desk_stream<R: Wait + Clock + Eprint + Drop, G>(
+    shared: &Shared<'_, R, G>,
+    stream: &Stream,
+    was_silent: &AtomicBool,
+    desk: &mut Desk,
+) -> Result<Counts, ServeError> {
+    if !stream.limit_waiting(shared.settings.desk_idle) {
+        return Err(ServeError::Read);
+    }
+    let mut input = Watched::new(DeskInput { stream, was_silent });
+    let mut output = Watched::new(stream);
+    let mut counting = DeskCounting {
+        rt: shared.rt,
+        status: shared.status,
+    };
+    serve_desk_with(
+        shared.rt,
+        shared.alloc,
+        &mut input,
+        &mut output,
+        desk,
+        &mut counting,
+        Turns::USUAL,
+    )
+}
+
+/// What the lines of a desk are read from. It keeps whether a read waited for too long.
+#[derive(Drop)]
+struct DeskInput<'s, 'b> {
+    stream: &'s Stream,
+    was_silent: &'b AtomicBool,
+}
+
+impl Read for DeskInput<'_, '_> {
+    fn read(&mut self, buf: &mut [u8]) -> io::Result<usize> {
+        let mut stream = self.stream;
+        let result = stream.read(buf);
+        if let Err(error) = &result
+            && is_of_waiting(error.kind())
+        {
+            self.was_silent.store(true, Ordering::SeqCst);
+        }
+        result
+    }
+}
+
+/// Whether an error says that a read or a write waited for too long.
+fn is_of_waiting(kind: ErrorKind) -> bool {
+    matches!(kind, ErrorKind::WouldBlock | ErrorKind::TimedOut)
+}
+
+/// What is said of a desk's connection that ended in a fault.
+fn desk_fault_text(fault: ServeError, was_silent: bool) -> &'static str {
+    match fault {
+        ServeError::Read if was_silent => "it sent nothing for too long",
+        ServeError::Read => "it could not be read",
+        ServeError::Write => "it could not be written",
+        ServeError::TurnsSpent => "it sent more than 1,000,000 lines",
+        ServeError::Memory => "memory ran out",
+    }
+}

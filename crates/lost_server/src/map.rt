@@ -1,0 +1,174 @@
+//! The map that a server reads before it listens. Rules without a section are this profile's own.
+ghost use Rattle.std.specs.Prelude.{◌≡◌, [], Option, OnOk};
+ghost use Rattle.lost_server.specs.Map.{IsLoaded};
+ghost use Rattle.lost_worker.specs.Desking.{IsSameDesk};
+
+use crate::server_fault::MapFault;
+use lost_causes::refusal_cause;
+use lost_desk::Desk;
+use lost_json::{DeskReply, is_code};
+use lost_lines::{MAX_LINE, Turns, Watched};
+use lost_routing::Routing;
+use lost_worker::{DeskWitness, serve_desk_with};
+use lost_writing::refusal_name;
+use std::alloc::{AllocError, Global};
+use std::io;
+use std::io::{Eprint, Read};
+use std::sync::Wait;
+
+/// After how many lines it is said how far a map is.
+const STEP: u64 = 100_000;
+
+/// As many lines as a map has.
+const TURNS: Turns = Turns {
+    lines: u64::MAX,
+    reads: u64::MAX,
+};
+
+/// What was found in a map.
+#[derive(Clone, Copy, PartialEq, Eq, Debug)]
+pub struct MapFound {
+    /// How many lines it has.
+    pub lines: u64,
+    /// How many of them were refused.
+    pub refused: u64,
+}
+
+/// Answers the desk lines of a map, as a desk's connection would be answered, however many there are. Of each line that is
+/// refused it says on standard error the number, from 1, the code and its name, and the cause. With `shows_progress` it says
+/// there after each 100,000 lines how many were read. Then nothing is pending.
+///
+/// # Errors
+///
+/// [`MapFault::Unread`] where the map could not be read. Unless it `keeps_going`, [`MapFault::Refused`] where a line was
+/// refused, or where no commit stands behind the last edit; else such edits are dropped, and [`MapFault::Memory`] is want of
+/// memory for that. The edits of the lines that were accepted stand in each case.
+pub fn load_map<T: Wait + Eprint, I: Read + Drop>(
+    rt: &T,
+    alloc: Global,
+    input: I,
+    desk: &mut Desk,
+    keeps_going: bool,
+    shows_progress: bool,
+) -> Result<MapFound, MapFault>
+    // Each line of the map is answered by the lists of the desk, which go as the lines say.
+    ensures loaded { OnOk result (IsLoaded (I.remaining input) desk.old desk.new) }
+    ensures nothing_pending { OnOk result (desk.new.pending ≡ []) }
+    ensures same { IsSameDesk desk.old desk.new }
+{
+    let found = read_map(rt, alloc, input, desk, shows_progress)?;
+    let pending = desk.staged().edition().saturating_sub(desk.edition());
+    if !keeps_going && (found.refused > 0 || pending > 0) {
+        return Err(MapFault::Refused {
+            refused: found.refused,
+            pending,
+        });
+    }
+    match desk.drop_pending() {
+        Ok(()) => Ok(found),
+        Err(AllocError) => Err(MapFault::Memory),
+    }
+}
+
+/// Answers the desk lines of a map, and gives what was found in it.
+fn read_map<T: Wait + Eprint, I: Read + Drop>(
+    rt: &T,
+    alloc: Global,
+    input: I,
+    desk: &mut Desk,
+    shows_progress: bool,
+) -> Result<MapFound, MapFault>
+    ensures loaded { OnOk result (IsLoaded (I.remaining input) desk.old desk.new) }
+    ensures same { IsSameDesk desk.old desk.new }
+{
+    let mut input = Watched::new(input);
+    let mut output = Watched::new(io::sink());
+    let mut reading = MapReading {
+        rt,
+        alloc,
+        found: MapFound {
+            lines: 0,
+            refused: 0,
+        },
+        shows_progress,
+    };
+    match serve_desk_with(
+        rt,
+        alloc,
+        &mut input,
+        &mut output,
+        desk,
+        &mut reading,
+        TURNS,
+    ) {
+        Ok(_) => Ok(reading.found),
+        Err(_) => Err(MapFault::Unread),
+    }
+}
+
+/// What looks on while a map is read.
+#[derive(Drop)]
+struct MapReading<'r, R: Eprint> {
+    rt: &'r R,
+    alloc: Global,
+    found: MapFound,
+    shows_progress: bool,
+}
+
+impl<R: Eprint> DeskWitness for MapReading<'_, R> {
+    fn saw(&mut self, line: Option<&[u8]>, reply: DeskReply, desk: &Desk) {
+        self.found.lines = self.found.lines.saturating_add(1);
+        let lines = self.found.lines;
+        if let DeskReply::Refused(code) = reply {
+            self.found.refused = self.found.refused.saturating_add(1);
+            self.say(refusal_line(self.alloc, lines, code, line, desk.staged()));
+        }
+        if self.shows_progress && lines % STEP == 0 {
+            self.say(format!(in self.alloc; "lostd: --map: {lines} lines\n"));
+        }
+    }
+}
+
+impl<R: Eprint> MapReading<'_, R> {
+    /// Says a line in one piece. One for which there is no memory is not said; where standard error fails, the status still
+    /// tells.
+    fn say(&self, line: Result<String, AllocError>) {
+        if let Ok(line) = line {
+            let _said = self.rt.eprint(line.as_str());
+        }
+    }
+}
+
+/// What is said of a refused line: its number, the code and its name, and the cause where one is found.
+fn refusal_line(
+    alloc: Global,
+    number: u64,
+    code: u8,
+    line: Option<&[u8]>,
+    staged: &Routing,
+) -> Result<String, AllocError> {
+    let name = if is_code(code) {
+        refusal_name(code)
+    } else {
+        ""
+    };
+    let cause = cause_of(alloc, code, line, staged)?;
+    if cause.is_empty() {
+        return format!(in alloc; "lostd: --map: line {number}: {code} {name}\n");
+    }
+    format!(in alloc; "lostd: --map: line {number}: {code} {name}: {cause}\n")
+}
+
+/// The cause of a refusal. It is empty where none is found.
+fn cause_of(
+    alloc: Global,
+    code: u8,
+    line: Option<&[u8]>,
+    staged: &Routing,
+) -> Result<String, AllocError> {
+    match line {
+        Some(line) => refusal_cause(alloc, line, code, staged),
+        None if code == 1 => format!(in alloc; "the line has more than {MAX_LINE} bytes"),
+        None => Ok(String::new(alloc)),
+    }
+}

@@ -1,0 +1,42 @@
+//! What is ordered of a server. Rules without a section are this profile's own.
+use lost_mapping::Source;
+use std::time::Duration;
+
+/// How a server treats those that it serves.
+#[derive(Clone, Copy, PartialEq, Eq, Debug)]
+pub struct ConnectionSettings {
+    /// For how long a read or a write of a query connection may wait; `None` for ever.
+    pub idle: Option<Duration>,
+    /// For how long a read or a write of a desk's connection may wait; `None` for ever.
+    pub desk_idle: Option<Duration>,
+    /// Whether nothing is said on standard error of connections that end in a fault.
+    pub is_quiet: bool,
+}
+
+/// What is ordered of a server.
+#[derive(Clone, Copy)]
+pub struct ServerOrder<'a> {
+    /// The server's name.
+    pub name: &'a Source,
+    /// The file of desk lines that is read before the server listens, `-` for standard input.
+    pub map: Option<&'a str>,
+    /// Whether the server starts though lines of its map were refused, or are not committed.
+    pub keeps_going: bool,
+    /// The address of queries.
+    pub queries: &'a str,
+    /// The address of the desk.
+    pub desk: Option<&'a str>,
+    /// The address of the status.
+    pub status: Option<&'a str>,
+    /// The mode of the files of Unix sockets.
+    pub socket_mode: u32,
+    /// How many threads answer requests: 1 to 64.
+    pub workers: u32,
+    /// How many query connections are served, and one of a desk; without it there is no end, and desks are served one after
+    /// another.
+    pub connections: Option<u32>,
+    /// How those that are served are treated.
+    pub settings: ConnectionSettings,
+    /// Whether it is said how far a long map is.
+    pub shows_progress: bool,
+}

@@ -1,0 +1,125 @@
+//! A server that begins with no mappings, over listeners that stand. Rules without a section are this profile's own.
+ghost use Rattle.std.specs.Prelude.{◌≡◌, ◌≢◌, ◌<◌, ◌⊎◌, ◌↔◌, Err};
+
+use crate::doors::Doors;
+use crate::notices::notices_of;
+use crate::order::ConnectionSettings;
+use crate::run_fault::{RunFault, fault_of_opening};
+use crate::serving::serve_all;
+use crate::shared::Shared;
+use crate::status_port::shared_status;
+use lost_book::Limits;
+use lost_desk::{Desk, Readers, open_desk};
+use lost_lines::{Counts, Gate};
+use lost_mapping::Source;
+use lost_sockets::Listener;
+use std::alloc::Global;
+use std::io::Eprint;
+use std::net::TcpListener;
+use std::random::RandomSource;
+use std::sync::Wait;
+use std::sync::atomic::AtomicBool;
+use std::thread::Threads;
+use std::time::{Clock, Duration};
+
+/// Serves one connection of `desk_listener` by [`lost_worker::serve_desk`] and so many `connections` of `query_listener`,
+/// which go to so many `workers` by [`lost_worker::worker_loop`], as the server of this name. It begins with no mappings. A
+/// request is answered at the moment that the machine's clock then tells. Edits that are pending when the desk's connection
+/// ends are dropped; what is published stays. It waits until all these connections have ended, and gives the sums of what
+/// was counted of the query connections, with one fault more for each that could not be handed to a worker.
+///
+/// # Errors
+///
+/// [`RunFault::Workers`] unless there are 1 to 64 workers. [`RunFault::Accept`] where a listener was given up, once all
+/// connections have ended. [`RunFault::Memory`] where a growth, a reader's place, a thread or the random bytes that the
+/// caches hash by were refused.
+pub fn serve<
+    R: Threads + Wait + Clock + Eprint + RandomSource + Clone + Send + Sync,
+    G: Gate + Sync,
+>(
+    rt: &R,
+    alloc: Global,
+    name: &Source,
+    query_listener: &TcpListener,
+    desk_listener: &TcpListener,
+    workers: u32,
+    connections: u32,
+    gate: &G,
+    settings: ConnectionSettings,
+) -> Result<Counts, RunFault>
+    ensures workers { (result ≡ Err RunFault.Workers) ↔ ((workers < 1) ⊎ (64 < workers)) }
+{
+    match open_desk(rt, alloc, Limits::widest(), workers) {
+        Ok((mut desk, readers)) => {
+            let result = serve_open(
+                rt,
+                alloc,
+                name,
+                query_listener,
+                desk_listener,
+                workers,
+                connections,
+                &mut desk,
+                readers,
+                gate,
+                settings,
+            );
+            desk.close(rt);
+            result
+        }
+        Err(error) => Err(fault_of_opening(error)),
+    }
+}
+
+/// Serves the connections of two listeners over a desk that is open, with its readers.
+fn serve_open<
+    R: Threads + Wait + Clock + Eprint + RandomSource + Clone + Send + Sync,
+    G: Gate + Sync,
+>(
+    rt: &R,
+    alloc: Global,
+    name: &Source,
+    query_listener: &TcpListener,
+    desk_listener: &TcpListener,
+    workers: u32,
+    connections: u32,
+    desk: &mut Desk,
+    readers: Readers,
+    gate: &G,
+    settings: ConnectionSettings,
+) -> Result<Counts, RunFault>
+    requires { readers.each.opening ≡ desk.old.opening }
+    ensures { result ≢ Err RunFault.Workers }
+{
+    let status = shared_status(alloc, workers, Duration::from_secs(0))?;
+    let notices = notices_of(rt, alloc, settings.is_quiet, &status)?;
+    let queries = listener_of(query_listener)?;
+    let desks = listener_of(desk_listener)?;
+    let is_over = AtomicBool::new(false);
+    let shared = Shared {
+        rt,
+        alloc,
+        name,
+        gate,
+        notices: &notices,
+        settings,
+        is_over: &is_over,
+        status: &status,
+        counts_replies: false,
+    };
+    let doors = Doors {
+        queries,
+        desk: Some(desks),
+    };
+    serve_all(&shared, &doors, desk, readers, Some(connections))
+}
+
+/// A listener of its own for a server, of the same address.
+fn listener_of(listener: &TcpListener) -> Result<Listener, RunFault>
+    ensures { result ≢ Err RunFault.Workers }
+{
+    match listener.try_clone() {
+        Ok(listener) => Ok(Listener::Tcp(listener)),
+        Err(_) => Err(RunFault::Accept),
+    }
+}

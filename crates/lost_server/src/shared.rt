@@ -1,0 +1,26 @@
+//! What all threads of a server share. Rules without a section are this profile's own.
+use crate::notices::Notices;
+use crate::order::ConnectionSettings;
+use lost_mapping::Source;
+use lost_status::Status;
+use std::alloc::Global;
+use std::io::Eprint;
+use std::sync::Arc;
+use std::sync::atomic::AtomicBool;
+use std::time::Clock;
+
+/// What all threads of a server share.
+#[derive(Drop)]
+pub(crate) struct Shared<'n, R: Clock + Eprint + Drop, G> {
+    pub(crate) rt: &'n R,
+    pub(crate) alloc: Global,
+    pub(crate) name: &'n Source,
+    pub(crate) gate: &'n G,
+    pub(crate) notices: &'n Arc<Notices<R>>,
+    pub(crate) settings: ConnectionSettings,
+    /// Whether no further connections are accepted.
+    pub(crate) is_over: &'n AtomicBool,
+    /// What is counted, and whether replies are counted too, as where somebody may ask for it.
+    pub(crate) status: &'n Arc<Status>,
+    pub(crate) counts_replies: bool,
+}

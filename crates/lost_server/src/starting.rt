@@ -1,0 +1,347 @@
+//! A server as it is ordered: its map, where it listens, and then its connections. Rules without a section are this
+//! profile's own.
+ghost use Rattle.std.specs.Prelude.{◌≡◌};
+ghost use Rattle.lost_worker.specs.Desking.{IsSameDesk};
+
+use crate::counting::tell_book;
+use crate::doors::{Doors, Ready};
+use crate::map::{MapFound, load_map};
+use crate::notices::notices_of;
+use crate::order::ServerOrder;
+use crate::run_fault::{RunFault, fault_of_opening};
+use crate::server_fault::{MapFault, ServerFault};
+use crate::serving::serve_all;
+use crate::shared::Shared;
+use crate::status_port::{answer_status, shared_status};
+use lost_book::Limits;
+use lost_desk::{Desk, Readers, open_desk};
+use lost_lines::{Counts, NoGate};
+use lost_sockets::{Address, Listener, listen, remove_socket};
+use lost_status::Status;
+use std::alloc::{AllocError, Global};
+use std::fs::Files;
+use std::io::{Eprint, ErrorKind, Input};
+use std::net::{Net, TcpListener, TcpStream};
+use std::random::RandomSource;
+use std::sync::atomic::{AtomicBool, Ordering};
+use std::sync::{Arc, Wait};
+use std::thread::Threads;
+use std::time::{Clock, Duration};
+use std::{fs, thread};
+
+/// What stands for standard input in the place of a map's file.
+const STANDARD_INPUT: &str = "-";
+
+/// Runs a server as it is ordered: it reads its map, listens, says by `ready` that it is ready, and answers connections. With
+/// a number of connections it ends when all of them have ended; without one it ends once `is_over` is set and a connection
+/// comes after that, when all connections have ended. Its status is answered from the beginning. It gives the sums of what
+/// was counted of the query connections.
+///
+/// # Errors
+///
+/// [`ServerFault::Map`] where the map was not loaded, before it listens; [`ServerFault::Address`] where an address cannot be
+/// listened on; [`ServerFault::Ready`] where `ready` fails; [`ServerFault::Run`] as [`crate::serve`] has it.
+pub fn run_server<
+    R: Threads
+        + Wait
+        + Clock
+        + Eprint
+        + Input
+        + Files
+        + AllocGlobal
+        + Net<Listener = TcpListener, Stream = TcpStream>
+        + RandomSource
+        + Clone
+        + Send
+        + Sync,
+    Y: Ready,
+>(rt: &R, order: &ServerOrder<'_>, ready: &Y, is_over: &AtomicBool) -> Result<Counts, ServerFault> {
+    match open_desk(rt, rt.alloc(), Limits::widest(), order.workers) {
+        Ok((mut desk, readers)) => {
+            let result = run_open(rt, order, ready, is_over, &mut desk, readers);
+            desk.close(rt);
+            result
+        }
+        Err(error) => Err(ServerFault::Run(fault_of_opening(error))),
+    }
+}
+
+/// Runs a server over a desk that is open, and answers for its status meanwhile, where that is ordered.
+fn run_open<
+    R: Threads
+        + Wait
+        + Clock
+        + Eprint
+        + Input
+        + Files
+        + AllocGlobal
+        + Net<Listener = TcpListener, Stream = TcpStream>
+        + RandomSource
+        + Clone
+        + Send
+        + Sync,
+    Y: Ready,
+>(
+    rt: &R,
+    order: &ServerOrder<'_>,
+    ready: &Y,
+    is_over: &AtomicBool,
+    desk: &mut Desk,
+    readers: Readers,
+) -> Result<Counts, ServerFault>
+    requires { readers.each.opening ≡ desk.old.opening }
+{
+    let status = status_of(rt, order.workers)?;
+    let Some(address) = order.status else {
+        return start(rt, order, ready, is_over, desk, readers, &status);
+    };
+    let listener = listen_at(rt, "--status", address, order.socket_mode)?;
+    let result = beside_status(rt, order, ready, is_over, desk, readers, &status, &listener);
+    remove_socket(rt, Address::of(address));
+    result
+}
+
+/// Runs a server while a thread answers for its status.
+fn beside_status<
+    R: Threads
+        + Wait
+        + Clock
+        + Eprint
+        + Input
+        + Files
+        + AllocGlobal
+        + Net<Listener = TcpListener, Stream = TcpStream>
+        + RandomSource
+        + Clone
+        + Send
+        + Sync,
+    Y: Ready,
+>(
+    rt: &R,
+    order: &ServerOrder<'_>,
+    ready: &Y,
+    is_over: &AtomicBool,
+    desk: &mut Desk,
+    readers: Readers,
+    status: &Arc<Status>,
+    listener: &Listener,
+) -> Result<Counts, ServerFault>
+    requires { readers.each.opening ≡ desk.old.opening }
+{
+    if listener.set_nonblocking(true).is_err() {
+        return Err(ServerFault::Run(RunFault::Accept));
+    }
+    let has_ended = AtomicBool::new(false);
+    let has_ended = &has_ended;
+    thread::scope(
+        thread::scope_env(),
+        rt,
+        |scope| -> Result<Counts, ServerFault>
+            requires { readers.each.opening ≡ desk.now.opening }
+        {
+            let Ok(answering) = scope.spawn(move || answer_status(
+                rt,
+                rt.alloc(),
+                listener,
+                status,
+                has_ended,
+            )) else {
+                return Err(ServerFault::Run(RunFault::Memory));
+            };
+            ready.begins(listener);
+            let result = start(rt, order, ready, is_over, desk, readers, status);
+            has_ended.store(true, Ordering::SeqCst);
+            answering.join(rt);
+            result
+        },
+    )
+}
+
+/// Reads the map, listens, and answers connections.
+fn start<
+    R: Threads
+        + Wait
+        + Clock
+        + Eprint
+        + Input
+        + Files
+        + AllocGlobal
+        + Net<Listener = TcpListener, Stream = TcpStream>
+        + RandomSource
+        + Clone
+        + Send
+        + Sync,
+    Y: Ready,
+>(
+    rt: &R,
+    order: &ServerOrder<'_>,
+    ready: &Y,
+    is_over: &AtomicBool,
+    desk: &mut Desk,
+    readers: Readers,
+    status: &Arc<Status>,
+) -> Result<Counts, ServerFault>
+    requires { readers.each.opening ≡ desk.old.opening }
+{
+    if let Some(path) = order.map {
+        load_from(rt, path, order, desk)?;
+    }
+    tell_book(status, desk);
+    let doors = open_doors(rt, order)?;
+    let result = answer(rt, order, ready, is_over, &doors, desk, readers, status);
+    remove_sockets(rt, order);
+    result
+}
+
+/// Listens on the addresses of queries and of the desk.
+fn open_doors<
+    R: Files + Net<Listener = TcpListener, Stream = TcpStream> + RandomSource + AllocGlobal,
+>(rt: &R, order: &ServerOrder<'_>) -> Result<Doors, ServerFault> {
+    let queries = listen_at(rt, "--queries", order.queries, order.socket_mode)?;
+    let Some(address) = order.desk else {
+        return Ok(Doors {
+            queries,
+            desk: None,
+        });
+    };
+    match listen_at(rt, "--desk", address, order.socket_mode) {
+        Ok(desk) => Ok(Doors {
+            queries,
+            desk: Some(desk),
+        }),
+        Err(fault) => {
+            remove_socket(rt, Address::of(order.queries));
+            Err(fault)
+        }
+    }
+}
+
+/// Removes the files of Unix sockets.
+fn remove_sockets<R: Files>(rt: &R, order: &ServerOrder<'_>) {
+    remove_socket(rt, Address::of(order.queries));
+    if let Some(address) = order.desk {
+        remove_socket(rt, Address::of(address));
+    }
+}
+
+/// Says that the server is ready, and answers connections.
+fn answer<
+    R: Threads + Wait + Clock + Eprint + AllocGlobal + RandomSource + Clone + Send + Sync,
+    Y: Ready,
+>(
+    rt: &R,
+    order: &ServerOrder<'_>,
+    ready: &Y,
+    is_over: &AtomicBool,
+    doors: &Doors,
+    desk: &mut Desk,
+    readers: Readers,
+    status: &Arc<Status>,
+) -> Result<Counts, ServerFault>
+    requires { readers.each.opening ≡ desk.old.opening }
+{
+    if order.connections.is_none()
+        && let Some(desks) = &doors.desk
+        && desks.set_nonblocking(true).is_err()
+    {
+        return Err(ServerFault::Run(RunFault::Accept));
+    }
+    let Ok(notices) = notices_of(rt, rt.alloc(), order.settings.is_quiet, status) else {
+        return Err(ServerFault::Run(RunFault::Memory));
+    };
+    let shared = Shared {
+        rt,
+        alloc: rt.alloc(),
+        name: order.name,
+        gate: &NoGate,
+        notices: &notices,
+        settings: order.settings,
+        is_over,
+        status,
+        counts_replies: order.status.is_some(),
+    };
+    status.set_ready();
+    if ready.ready(doors).is_err() {
+        return Err(ServerFault::Ready);
+    }
+    serve_all(&shared, doors, desk, readers, order.connections).map_err(ServerFault::Run)
+}
+
+/// Reads the map from a file, or from standard input.
+fn load_from<R: Wait + Eprint + Input + Files + AllocGlobal>(
+    rt: &R,
+    path: &str,
+    order: &ServerOrder<'_>,
+    desk: &mut Desk,
+) -> Result<(), ServerFault>
+    ensures { IsSameDesk desk.old desk.new }
+{
+    let loaded = if path == STANDARD_INPUT {
+        load_map(
+            rt,
+            rt.alloc(),
+            rt.reader(),
+            desk,
+            order.keeps_going,
+            order.shows_progress,
+        )
+    } else {
+        load_file(rt, path, order, desk)
+    };
+    match loaded {
+        Ok(_) => Ok(()),
+        Err(fault) => Err(ServerFault::Map(fault)),
+    }
+}
+
+/// Reads the map from a file.
+fn load_file<R: Wait + Eprint + Files + AllocGlobal>(
+    rt: &R,
+    path: &str,
+    order: &ServerOrder<'_>,
+    desk: &mut Desk,
+) -> Result<MapFound, MapFault>
+    ensures { IsSameDesk desk.old desk.new }
+{
+    if is_folder(rt, path) {
+        return Err(MapFault::Unopened(ErrorKind::IsADirectory));
+    }
+    match fs::open(rt, path) {
+        Ok(file) => load_map(
+            rt,
+            rt.alloc(),
+            file,
+            desk,
+            order.keeps_going,
+            order.shows_progress,
+        ),
+        Err(error) => Err(MapFault::Unopened(error.kind())),
+    }
+}
+
+/// Whether a path leads to a folder.
+fn is_folder<R: Files>(rt: &R, path: &str) -> bool {
+    match fs::metadata(rt, path) {
+        Ok(metadata) => metadata.is_dir(),
+        Err(_) => false,
+    }
+}
+
+/// Listens on the address of an option.
+fn listen_at<
+    R: Files + Net<Listener = TcpListener, Stream = TcpStream> + RandomSource + AllocGlobal,
+>(rt: &R, option: &'static str, address: &str, mode: u32) -> Result<Listener, ServerFault> {
+    match listen(rt, Address::of(address), mode) {
+        Ok(listener) => Ok(listener),
+        Err(error) => Err(ServerFault::Address(option, error)),
+    }
+}
+
+/// What is counted of a server with so many workers, which starts now.
+fn status_of<R: Clock + AllocGlobal>(rt: &R, workers: u32) -> Result<Arc<Status>, ServerFault> {
+    let started = rt.since_1970().unwrap_or(Duration::from_secs(0));
+    match shared_status(rt.alloc(), workers, started) {
+        Ok(status) => Ok(status),
+        Err(AllocError) => Err(ServerFault::Run(RunFault::Memory)),
+    }
+}

@@ -1,0 +1,91 @@
+//! What no row can say: a client that sends a byte a second, and two workers that count at once.
+use super::watch::{STARTED, Watch};
+use lost_status::{Deadline, Status, serve_status};
+use std::alloc::Global;
+use std::hash::RandomState;
+use std::io::Read;
+use std::random::RandomSource;
+use std::thread::Threads;
+use std::time::Duration;
+use std::{io, thread};
+use test_rows::{Feed, Sink};
+
+/// After how many seconds a connection is cut off.
+const LIMIT: u64 = 10;
+
+/// How many replies each worker counts.
+const REPLIES: u32 = 10_000;
+
+/// What the clients send.
+const REQUEST: &[u8] = b"GET /health HTTP/1.1\r\nHost: localhost\r\n\r\n";
+
+/// Plays the scenes, and prints what came of them.
+pub(crate) fn play<R: Print + RandomSource + Threads + AllocGlobal + Sync>(
+    rt: &R,
+) -> io::Result<()> {
+    let status = Status::new(rt.alloc(), 2, Duration::from_secs(STARTED))?;
+    let keys = RandomState::new(rt)?;
+    let (reads, written) = slow_client(rt.alloc(), keys, &status)?;
+    println!(rt;
+        "a byte a second, for at most {LIMIT} seconds: reads {reads}, bytes written {written}"
+    )?;
+    let written = broken_client(rt.alloc(), keys, &status)?;
+    println!(rt; "the third write fails: bytes written {written}")?;
+    thread::join(rt, || count(&status, 0), || count(&status, 1));
+    let metrics = status.metrics(rt.alloc(), Duration::from_secs(STARTED))?;
+    for line in metrics.as_str().lines() {
+        if line.contains("kind=\"notFound\"") || line.starts_with("lostd_connections_open") {
+            println!(rt; "{line}")?;
+        }
+    }
+    Ok(())
+}
+
+/// Counts as a worker does that serves a connection for each reply.
+fn count(status: &Status, number: usize) {
+    for _ in 0..REPLIES {
+        status.count_accepted();
+        if let Some(worker) = status.worker(number) {
+            worker.count_reply(b"{\"errors\":{\"edition\":7,\"error\":\"notFound\"}}\n");
+        }
+        status.count_ended(false);
+    }
+}
+
+/// Gives a byte at each read, for each of which a second passes.
+#[derive(Drop)]
+struct Dripping<'w> {
+    feed: Feed<'w>,
+    watch: &'w Watch,
+}
+
+impl Read for Dripping<'_> {
+    fn read(&mut self, buf: &mut [u8]) -> io::Result<usize> {
+        self.watch.pass(1);
+        self.feed.read(buf)
+    }
+}
+
+/// How many reads are made of a client that sends a byte a second, and how many bytes it gets.
+fn slow_client(alloc: Global, keys: RandomState, status: &Status) -> io::Result<(u64, usize)> {
+    let watch = Watch::new();
+    let limit = Duration::from_secs(LIMIT);
+    let mut dripping = Dripping {
+        feed: Feed::of(REQUEST, 1),
+        watch: &watch,
+    };
+    let mut sink = Sink::new(alloc, 100)?;
+    let mut input = Deadline::new(&watch, &mut dripping, limit);
+    let mut output = Deadline::new(&watch, &mut sink, limit);
+    serve_status(&watch, alloc, keys, status, &mut input, &mut output);
+    Ok((dripping.feed.reads, sink.text.len()))
+}
+
+/// How many bytes a client gets that takes seven at a time, and then no more.
+fn broken_client(alloc: Global, keys: RandomState, status: &Status) -> io::Result<usize> {
+    let mut input = Feed::of(REQUEST, 100);
+    let mut output = Sink::new(alloc, 7)?;
+    output.failing_write = 3;
+    serve_status(&Watch::new(), alloc, keys, status, &mut input, &mut output);
+    Ok(output.text.len())
+}
