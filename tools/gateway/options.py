@@ -5,7 +5,7 @@ import argparse
 from typing import Any, Callable, List
 
 from gateway.services import alias_of
-from maptools.connection import Server, server_of
+from maptools.addresses import Tcp, tcp_of
 
 PACKAGES = "apt-get install python3-lxml python3-aiohttp python3-prometheus-client"
 EXAMPLE = f"""It needs Debian's packages python3-lxml, python3-aiohttp and python3-prometheus-client:
@@ -31,15 +31,15 @@ def checked(read: Callable[[str], Any]) -> Callable[[str], Any]:
     return read_argument
 
 
-def listen_of(text: str) -> Server:
+def listen_of(text: str) -> Tcp:
     """HOST:PORT, where port 0 lets the system choose."""
     host, _, port = text.rpartition(":")
-    return server_of(f"{host}:1")._replace(port=0) if port == "0" else server_of(text)
+    return tcp_of(f"{host}:1")._replace(port=0) if port == "0" else tcp_of(text)
 
 
-def servers_of(text: str) -> List[Server]:
+def servers_of(text: str) -> List[Tcp]:
     """HOST:PORT, and more of them after commas."""
-    return [server_of(part) for part in text.split(",")]
+    return [tcp_of(part) for part in text.split(",")]
 
 
 def number_between(least: float, greatest: float, kind: Callable[[str], Any]) -> Callable[[str], Any]:

@@ -11,7 +11,7 @@ import json
 from typing import Callable, List, NamedTuple, Optional, Tuple
 
 from gateway.connection import Closed, Connection, Unanswered, Unreachable
-from maptools.connection import Server as Address
+from maptools.addresses import Tcp as Address
 
 QUESTION = b'{"listServices":{}}\n'
 # Seconds: before a server that failed is tried again, and without a reply before a connection is asked.

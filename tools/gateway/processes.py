@@ -10,7 +10,7 @@ import sys
 import time
 from typing import Callable, Dict, NamedTuple, NoReturn
 
-from maptools.connection import Server
+from maptools.addresses import Tcp
 
 PAUSE, LOOK_AGAIN = 1.0, 0.1
 
@@ -30,7 +30,7 @@ class Place(NamedTuple):
 Work = Callable[[Place], None]
 
 
-def listening_socket(address: Server) -> socket.socket:
+def listening_socket(address: Tcp) -> socket.socket:
     """A socket bound to an address that further sockets of these processes can be bound to."""
     family, kind, protocol, _, name = socket.getaddrinfo(*address, type=socket.SOCK_STREAM)[0]
     listener = socket.socket(family, kind, protocol)
@@ -43,7 +43,7 @@ def listening_socket(address: Server) -> socket.socket:
 class Family:
     """Processes that do the same work on one port."""
 
-    def __init__(self, address: Server, count: int, work: Work) -> None:
+    def __init__(self, address: Tcp, count: int, work: Work) -> None:
         self.count, self.work = count, work
         self.kept = listening_socket(address)
         self.address = address._replace(port=self.kept.getsockname()[1])

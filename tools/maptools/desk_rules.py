@@ -100,9 +100,9 @@ def is_position(value: Any) -> bool:
     return (
         isinstance(value, list)
         and len(value) == 2
-        and all(type(number) is int for number in value)
-        and abs(value[0]) <= GREATEST_LATITUDE
-        and abs(value[1]) <= GREATEST_LONGITUDE
+        and type(value[0]) is type(value[1]) is int
+        and -GREATEST_LATITUDE <= value[0] <= GREATEST_LATITUDE
+        and -GREATEST_LONGITUDE <= value[1] <= GREATEST_LONGITUDE
     )
 
 

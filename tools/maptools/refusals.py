@@ -55,8 +55,13 @@ WARNINGS: Dict[str, str] = {
 }
 
 
-def refusal_text(code: int, name: str) -> str:
+def cause_text(code: int, name: str) -> str:
     """A refusal as a sentence; the name is the server's, for a code that this table does not have."""
     known = REFUSALS.get(code)
-    head = f"refused with code {code}, {name}"
-    return f"{head}: {known.cause}; {known.remedy}" if known else head
+    return f"refused with code {code}, {name}" + (f": {known.cause}" if known else "")
+
+
+def refusal_text(code: int, name: str) -> str:
+    """The same, and what to do."""
+    known = REFUSALS.get(code)
+    return cause_text(code, name) + (f"; {known.remedy}" if known else "")

@@ -71,6 +71,16 @@ def moment_of(text: str) -> Optional[Moment]:
     return second, int((parts[7] or "").ljust(9, "0"))
 
 
+def stamp_after(text: str) -> str:
+    """The stamp a nanosecond after another one; the same again at the end of time."""
+    second, nanoseconds = moment_of(text)
+    try:
+        second += datetime.timedelta(seconds=(nanoseconds + 1) // 1_000_000_000)
+    except OverflowError:
+        return text
+    return f"{second.isoformat()}.{(nanoseconds + 1) % 1_000_000_000:09d}Z"
+
+
 def is_expires(text: str) -> bool:
     """One of the two words, or a stamp."""
     return text in WITHOUT_END or moment_of(text) is not None

@@ -5,11 +5,13 @@ import json
 import signal
 import socket
 import subprocess
-import threading
 import unittest
-from typing import Any, Callable, Dict, List, Optional, Tuple
+from typing import Any, Dict, List, Optional, Tuple
 
-from tests.running import TOOLS, TOP, has_serve, lostd, question, read, run_tool
+from maptools.connection import Broken
+from maptools.feed import Patience
+from tests.fake_servers import Replier, free_address, line_of, serve_once
+from tests.running import TOOLS, TOP, has_serve, lostd, question, read, run_tool, start_tool
 
 ANSWER = {
     "findServiceResponse": {
@@ -35,41 +37,6 @@ ANSWER = {
 }
 
 LOADED = b"3 lines: 2 edits staged, 1 commits, 0 refused; edition 2; the connection stays open\n"
-
-Replier = Callable[[bytes], Optional[bytes]]
-
-
-def line_of(value: Any) -> bytes:
-    """A reply as a line."""
-    return json.dumps(value, ensure_ascii=False).encode() + b"\n"
-
-
-def serve_once(replier: Replier) -> Tuple[str, List[bytes]]:
-    """A server of one connection, in a thread: its address, and the lines that it gets. None from the replier ends it."""
-    listener = socket.create_server(("127.0.0.1", 0))
-    got: List[bytes] = []
-
-    def run() -> None:
-        connection = listener.accept()[0]
-        listener.close()
-        connection.setsockopt(socket.SOL_SOCKET, socket.SO_SNDBUF, 4096)
-        with connection, connection.makefile("rb") as lines:
-            for line in lines:
-                got.append(line)
-                reply = replier(line)
-                if reply is None:
-                    return
-                connection.sendall(reply)
-
-    threading.Thread(target=run, daemon=True).start()
-    return "127.0.0.1:{}".format(listener.getsockname()[1]), got
-
-
-def free_address() -> str:
-    """An address of this machine at which nobody listens."""
-    with socket.create_server(("127.0.0.1", 0)) as listener:
-        return "127.0.0.1:{}".format(listener.getsockname()[1])
-
 
 def at(latitude: int, longitude: int) -> Dict[str, Any]:
     """The location of a point that the client asks for."""
@@ -199,18 +166,47 @@ class Desk(unittest.TestCase):
         self.assertEqual(run_tool("lost-client", ["desk", "--server", serve_once(closes)[0], "/"])[0], 1)
         self.assertEqual(run_tool("lost-client", ["desk", "--server", free_address(), "-"])[0], 1)
 
-    def test_a_second_desk_connection_gets_no_reply(self) -> None:
+    def test_a_desk_that_waits_for_its_turn_says_so_once(self) -> None:
+        with socket.create_server(("127.0.0.1", 0)) as listener:
+            words = ["desk", "--server", "127.0.0.1:{}".format(listener.getsockname()[1]), f"{TOOLS}/cases/client/desk.jsonl"]
+            client = start_tool("lost-client", words)
+            said = client.stderr.readline()
+            connection = listener.accept()[0]
+            with connection, connection.makefile("rb") as lines:
+                self.assertEqual((len(lines.readline()), lines.readline()), (15, b'{"commit":{}}\n'))
+                connection.sendall(b'{"staged":{"pending":1}}\n{"committed":{"edition":1}}\n')
+                output, more = client.communicate(timeout=10)
+        wait = b"lost-client: no reply yet: another desk is probably being served; this one waits for its turn\n"
+        self.assertEqual((said, more, client.returncode), (wait, b"", 0))
+        self.assertEqual(output, b"2 lines: 1 edits staged, 1 commits, 0 refused; edition 1\n")
+
+    def test_a_desk_waits_no_longer_than_it_is_told(self) -> None:
         with socket.create_server(("127.0.0.1", 0)) as listener:
             server = "127.0.0.1:{}".format(listener.getsockname()[1])
             status, _, said = run_tool("lost-client", ["desk", "--server", server, "--timeout", "0.5", "-"], '{"commit":{}}\n')
-        self.assertEqual(status, 1)
-        self.assertIn("no reply in 0.5 seconds, after 0: is this the one desk connection of the server?", said)
+        why = "another desk is probably being served, and the server serves one at a time"
+        self.assertEqual((status, said), (1, f"lost-client: no reply in 0.5 seconds: {why}\n"))
+
+    def test_the_patience_of_a_desk(self) -> None:
+        said: List[str] = []
+        patience = Patience(None, said.append)
+        patience.since -= 1
+        patience.look(0)
+        self.assertEqual(said, [])
+        for _ in range(2):
+            patience.since -= 10_000
+            patience.look(0)
+        self.assertEqual(said, ["no reply yet: another desk is probably being served; this one waits for its turn"])
+        patience.begin_anew(True)
+        patience.since -= 9
+        patience.look(3)
+        patience.since -= 2
+        with self.assertRaisesRegex(Broken, r"\Ano reply in 10 seconds, after 3\Z"):
+            patience.look(3)
+        self.assertEqual(len(said), 1)
 
     def keep_open(self, server: str, file: str) -> Any:
-        words = [f"{TOOLS}/lost-client", "desk", "--server", server, "--keep-open", file]
-        pipes = {"stdin": subprocess.PIPE, "stdout": subprocess.PIPE, "stderr": subprocess.PIPE}
-        # What a shell begins in the background without job control ignores interrupts, and all that it begins do.
-        return subprocess.Popen(words, **pipes, preexec_fn=lambda: signal.signal(signal.SIGINT, signal.SIG_DFL))
+        return start_tool("lost-client", ["desk", "--server", server, "--keep-open", file])
 
     def test_keep_open_takes_standard_input_and_ends_with_it(self) -> None:
         server, got = serve_once(desk_replier())
@@ -248,8 +244,8 @@ class Serving(unittest.TestCase):
         self.server.communicate()
 
     def test_a_map_is_loaded_and_asked_for(self) -> None:
-        words = [f"{TOOLS}/lost-client", "desk", "--server", self.desk, "--keep-open", f"{TOOLS}/cases/client/two-squares.jsonl"]
-        client = subprocess.Popen(words, stdin=subprocess.PIPE, stdout=subprocess.PIPE, stderr=subprocess.PIPE)
+        words = ["desk", "--server", self.desk, "--keep-open", f"{TOOLS}/cases/client/two-squares.jsonl"]
+        client = start_tool("lost-client", words)
         self.assertEqual(client.stderr.readline(), LOADED)
         find = ["find", "--server", self.queries, "--service", "urn:service:sos.police", "--json"]
         status, output, _ = run_tool("lost-client", [*find, "--point", "0.5,1"])

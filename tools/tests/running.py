@@ -3,6 +3,7 @@ from __future__ import annotations
 
 import json
 import os
+import signal
 import subprocess
 from typing import Any, Dict, List, Optional, Sequence, Tuple
 
@@ -23,6 +24,16 @@ def run_tool(name: str, arguments: Sequence[str], given: str = "") -> Tuple[int,
     return ran.returncode, ran.stdout.decode(), ran.stderr.decode()
 
 
+def start_tool(name: str, arguments: Sequence[str]) -> Any:
+    """A tool that runs, with pipes; an interrupt ends it.
+
+    What a shell begins in the background without job control ignores interrupts, and all that it begins do.
+    """
+    words = [f"{TOOLS}/{name}", *arguments]
+    pipes = {"stdin": subprocess.PIPE, "stdout": subprocess.PIPE, "stderr": subprocess.PIPE}
+    return subprocess.Popen(words, **pipes, preexec_fn=lambda: signal.signal(signal.SIGINT, signal.SIG_DFL))
+
+
 def lostd() -> Optional[str]:
     """The built program; None where it is not there."""
     path = os.environ.get("LOSTD", f"{TOP}/crates/lostd/out/lostd")
@@ -33,6 +44,14 @@ def has_serve() -> bool:
     """Whether the built program has the subcommand serve."""
     path = lostd()
     return path is not None and b"\n  serve " in subprocess.run([path, "--help"], capture_output=True, timeout=10).stdout
+
+
+def serve_has(option: str) -> bool:
+    """Whether the built program's subcommand serve has an option."""
+    if not has_serve():
+        return False
+    helped = subprocess.run([str(lostd()), "serve", "--help"], capture_output=True, timeout=10)
+    return f" {option} ".encode() in helped.stdout.replace(b"\n", b" ")
 
 
 def replay(lines: str) -> List[Dict[str, Any]]:

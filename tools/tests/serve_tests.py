@@ -1,0 +1,224 @@
+"""`lostd serve` as an operator starts it: its map, its addresses and how it ends. Skipped where no program is built."""
+from __future__ import annotations
+
+import os
+import select
+import signal
+import socket
+import stat
+import subprocess
+import tempfile
+import unittest
+from typing import List, Tuple
+
+from tests.running import TOP, lostd
+
+PATIENCE = 60
+FREE = "127.0.0.1:0"
+READY = b"ready\n"
+
+
+def has_maps() -> bool:
+    """Whether the built program reads a map at its start."""
+    path = lostd()
+    return path is not None and b"--map <FILE>" in subprocess.run([path, "serve", "--help"], capture_output=True, timeout=10).stdout
+
+
+class Server:
+    """A server that is started with these words, and what it says."""
+
+    def __init__(self, words: List[str], given: bytes = b"") -> None:
+        command = [str(lostd()), "serve", "--name", "lost.example", "--workers", "2", *words]
+        self.process = subprocess.Popen(command, stdin=subprocess.PIPE, stdout=subprocess.PIPE, stderr=subprocess.PIPE)
+        if self.process.stdin:
+            try:
+                self.process.stdin.write(given)
+                self.process.stdin.close()
+            except BrokenPipeError:
+                pass
+            self.process.stdin = None
+
+    def __enter__(self) -> Server:
+        return self
+
+    def __exit__(self, *_: object) -> None:
+        self.process.kill()
+        self.process.wait(PATIENCE)
+        for pipe in (self.process.stdout, self.process.stderr):
+            if pipe:
+                pipe.close()
+
+    def first_line(self) -> bytes:
+        """The first line on standard output; empty where there is none."""
+        output = self.process.stdout
+        assert output is not None
+        if not select.select([output], [], [], PATIENCE)[0]:
+            return b""
+        return output.readline()
+
+    def end(self) -> Tuple[int, List[str]]:
+        """The status, once it has ended by itself, and the lines on standard error."""
+        _, said = self.process.communicate(timeout=PATIENCE)
+        return self.process.returncode, said.decode().splitlines()
+
+
+def ask(connection: socket.socket, line: str) -> str:
+    """The reply to a line."""
+    connection.settimeout(PATIENCE)
+    connection.sendall(line.encode())
+    reply = b""
+    while not reply.endswith(b"\n"):
+        piece = connection.recv(65_536)
+        if not piece:
+            raise EOFError(f"the server closed after {reply!r}")
+        reply += piece
+    return reply.decode()
+
+
+def unix(path: str) -> socket.socket:
+    """A connection to a Unix socket."""
+    connection = socket.socket(socket.AF_UNIX)
+    connection.connect(path)
+    return connection
+
+
+def has_ipv6() -> bool:
+    """Whether this machine has the address ::1."""
+    try:
+        with socket.socket(socket.AF_INET6) as probe:
+            probe.bind(("::1", 0))
+    except OSError:
+        return False
+    return True
+
+
+@unittest.skipUnless(has_maps(), "no program with --map is built")
+class ServeTests(unittest.TestCase):
+    """Maps, addresses, the status and signals."""
+
+    def setUp(self) -> None:
+        self.folder = tempfile.TemporaryDirectory()
+        with open(f"{TOP}/examples/one-mapping.jsonl", encoding="utf-8") as session:
+            self.publish, self.commit, self.question = session
+
+    def tearDown(self) -> None:
+        self.folder.cleanup()
+
+    def path(self, name: str) -> str:
+        """A path in a folder of this test."""
+        return os.path.join(self.folder.name, name)
+
+    def map(self, lines: str) -> str:
+        """The path of a map with these lines."""
+        path = self.path("map.jsonl")
+        with open(path, "w", encoding="utf-8") as file:
+            file.write(lines)
+        return path
+
+    def test_map_from_standard_input(self) -> None:
+        """A map comes over a pipe, and the first reply is right."""
+        queries = self.path("queries.sock")
+        with Server(["--map", "-", "--queries", f"unix:{queries}"], (self.publish + self.commit).encode()) as server:
+            self.assertEqual(server.first_line(), READY)
+            with unix(queries) as client:
+                self.assertIn('"findServiceResponse":{"edition":1', ask(client, self.question))
+
+    def test_refused_lines(self) -> None:
+        """Each refused line is said with its number, code and cause, and nothing is listened on."""
+        queries = self.path("queries.sock")
+        lines = self.publish + self.publish + self.question + self.commit
+        with Server(["--map", self.map(lines), "--queries", f"unix:{queries}"]) as server:
+            status, said = server.end()
+        self.assertEqual(status, 3)
+        self.assertRegex(said[0], r"^lostd: --map: line 2: 13 IdentityHeld")
+        self.assertRegex(said[1], r"^lostd: --map: line 3: 1 BadLine")
+        self.assertRegex(said[2], r"^lostd: --map '.*map\.jsonl': 2 lines refused, 0 edits behind the last commit")
+        self.assertEqual(len(said), 3)
+        self.assertFalse(os.path.exists(queries))
+
+    def test_keep_going(self) -> None:
+        """With --keep-going the same map starts a server with what was accepted."""
+        queries = self.path("queries.sock")
+        lines = self.publish + self.publish + self.commit + self.publish.replace('"A', '"B')
+        with Server(["--map", self.map(lines), "--keep-going", "--queries", f"unix:{queries}"]) as server:
+            self.assertEqual(server.first_line(), READY)
+            with unix(queries) as client:
+                self.assertIn('"edition":1,', ask(client, self.question))
+
+    def test_a_million_lines_and_more(self) -> None:
+        """A map may have more lines than a connection."""
+        path = self.map(self.commit * 1_000_001 + self.publish + self.commit)
+        queries = self.path("queries.sock")
+        with Server(["--map", path, "--queries", f"unix:{queries}"]) as server:
+            self.assertEqual(server.first_line(), READY)
+            with unix(queries) as client:
+                self.assertIn('"findServiceResponse":{"edition":1', ask(client, self.question))
+
+    def test_socket_files(self) -> None:
+        """A socket's file is for its owner; that of a dead server is replaced, and that of a live one is not."""
+        desk, queries = self.path("desk.sock"), self.path("queries.sock")
+        words = ["--desk", f"unix:{desk}", "--queries", f"unix:{queries}"]
+        with Server(words) as server:
+            self.assertEqual(server.first_line(), READY)
+            self.assertEqual(stat.S_IMODE(os.stat(desk).st_mode), 0o600)
+            with unix(desk) as connection:
+                self.assertEqual(ask(connection, self.publish), '{"staged":{"pending":1}}\n')
+                self.assertEqual(ask(connection, self.commit), '{"committed":{"edition":1}}\n')
+            with Server(["--desk", f"unix:{desk}", "--queries", FREE]) as other:
+                self.assertEqual(other.end(), (1, [f"lostd: --desk 'unix:{desk}' is in use: another program listens there"]))
+        self.assertTrue(os.path.exists(desk))
+        with Server([*words, "--socket-mode", "0660"]) as server:
+            self.assertEqual(server.first_line(), READY)
+            self.assertEqual(stat.S_IMODE(os.stat(desk).st_mode), 0o660)
+
+    def test_no_socket_is_left(self) -> None:
+        """A server that ends by itself removes its sockets' files."""
+        desk, queries = self.path("desk.sock"), self.path("queries.sock")
+        with Server(["--desk", f"unix:{desk}", "--queries", f"unix:{queries}", "--connections", "1"]) as server:
+            self.assertEqual(server.first_line(), READY)
+            unix(desk).close()
+            unix(queries).close()
+            self.assertEqual(server.end()[0], 0)
+        self.assertEqual(os.listdir(self.folder.name), [])
+
+    @unittest.skipUnless(has_ipv6(), "this machine has no ::1")
+    def test_addresses(self) -> None:
+        """An address of IPv6 and a name are listened on."""
+        for address in ("[::1]:0", "localhost:0"):
+            with Server(["--map", self.map(self.publish + self.commit), "--queries", address]) as server:
+                self.assertEqual(server.first_line(), READY)
+
+    def test_hang_up(self) -> None:
+        """SIGHUP ends a server."""
+        with Server(["--map", self.map(self.publish + self.commit), "--queries", FREE]) as server:
+            self.assertEqual(server.first_line(), READY)
+            server.process.send_signal(signal.SIGHUP)
+            self.assertEqual(server.process.wait(PATIENCE), -signal.SIGHUP)
+
+    def test_desks_one_after_another(self) -> None:
+        """A second desk waits for the first, and what it leaves without a commit is dropped before the third."""
+        desk, queries = self.path("desk.sock"), self.path("queries.sock")
+        withdraw = '{"withdraw":{"source":"map.example","sourceId":"A","lastUpdated":"2025-12-03T00:00:00Z"}}\n'
+        staged = '{"staged":{"pending":1}}\n'
+        with Server(["--desk", f"unix:{desk}", "--queries", f"unix:{queries}"]) as server:
+            self.assertEqual(server.first_line(), READY)
+            with unix(desk) as first, unix(desk) as second:
+                self.assertEqual(ask(first, self.publish), staged)
+                self.assertEqual(ask(first, self.commit), '{"committed":{"edition":1}}\n')
+                second.sendall(withdraw.encode())
+                self.assertEqual(select.select([second], [], [], 0.5)[0], [])
+                first.close()
+                self.assertEqual(ask(second, ""), staged)
+            with unix(desk) as third, unix(queries) as client:
+                self.assertEqual(ask(third, withdraw), staged)
+                self.assertEqual(ask(third, self.commit), '{"committed":{"edition":2}}\n')
+                self.assertEqual(ask(client, self.question), '{"errors":{"edition":2,"error":"serviceNotImplemented"}}\n')
+
+    def test_two_hundred_clients(self) -> None:
+        """A server without --connections serves one client after another."""
+        queries = self.path("queries.sock")
+        with Server(["--map", self.map(self.publish + self.commit), "--queries", f"unix:{queries}"]) as server:
+            self.assertEqual(server.first_line(), READY)
+            for _ in range(200):
+                with unix(queries) as client:
+                    self.assertIn('"findServiceResponse":{"edition":1', ask(client, self.question))
