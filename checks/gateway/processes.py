@@ -29,9 +29,9 @@ class Failed(Exception):
     """A program that does not begin."""
 
 
-def install_missing():
-    """Installs the packages of Debian that are missing; Failed where it cannot."""
-    packages = [package for path, package in NEEDED.items() if not os.path.exists(path)]
+def install_missing(needed=None):
+    """Installs the packages of Debian that are missing, of those that are needed; Failed where it cannot."""
+    packages = [package for path, package in (needed or NEEDED).items() if not os.path.exists(path)]
     if not packages:
         return
     print(f"installing {' '.join(packages)}", flush=True)

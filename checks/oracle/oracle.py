@@ -75,6 +75,10 @@ class Replay:
         self.staged = after(self.staged, edit)
         return {"staged": {"pending": self.staged.edits - self.published.edits}}
 
+    def drop_pending(self):
+        """What a desk staged and did not commit is dropped when its connection ends."""
+        self.staged = self.published
+
     def replies(self, given):
         """One reply for each line of an input, in the order of the lines, each ended by byte 10."""
         return [write_json(self.reply(line)).encode() + b"\n" for line in cut(given)]

@@ -15,9 +15,13 @@ VALUES = [
     ("--queries", "192.0.2.1:0", 1), ("--desk", "192.0.2.1:0", 1),
     ("--workers", "0", 2), ("--workers", "65", 2), ("--workers", "four", 2), ("--workers", "", 2),
     ("--connections", "0", 2), ("--connections", "1000001", 2), ("--connections", "99999999999999999999", 2),
-    ("--idle", "86401", 2), ("--idle", "1.5", 2),
+    ("--idle", "86401", 2), ("--idle", "1.5", 2), ("--desk-idle", "86401", 2), ("--desk-idle", "1.5", 2),
+    ("--map", "/no/such/file", 1), ("--map", "/", 1),
+    ("--status", "127.0.0.1", 1), ("--status", "192.0.2.1:0", 1),
+    ("--desk", "unix:/no/such/folder/socket", 1), ("--desk", "unix:/", 1), ("--queries", "unix:/" + "x" * 200, 1),
+    ("--desk", "unix:/dev/null", 1), ("--socket-mode", "8", 2), ("--socket-mode", "1000", 2),
     ("--name", "a..b", 2), ("--name", "", 2),
-    ("--queries", None, 2), ("--desk", None, 2), ("--workers", None, 2), ("--connections", None, 2), ("--name", None, 2),
+    ("--queries", None, 2), ("--desk", None, 2), ("--workers", None, 2), ("--name", None, 2),
     ("--now", "2026-01-01T00:00:00Z", 2),
 ]
 

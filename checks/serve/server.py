@@ -8,6 +8,8 @@ import socket
 import struct
 import subprocess
 import tempfile
+import time
+import urllib.request
 
 NAME = "lost.example"
 PATIENCE = 60
@@ -117,17 +119,16 @@ def free_ports(count):
     return ports
 
 
-class Server:
+class Running:
     """A server that runs. Used in a `with`, it is ended at the end in any case."""
 
-    def __init__(self, program, workers, connections, *more, megabytes=None):
-        self.queries, self.desk_port = free_ports(2)
-        self.workers, self.connections, self.made = workers, connections, 0
+    queries = desk_port = None
+    made = 0
+
+    def __init__(self, program, words, megabytes=None):
         self.errors = tempfile.TemporaryFile()
-        words = ["lostd", "serve", "--name", NAME, *addresses(self.queries, self.desk_port)]
-        words += ["--workers", str(workers), "--connections", str(connections), *more]
         self.process = subprocess.Popen(
-            words,
+            ["lostd", "serve", "--name", NAME, *words],
             executable=program,
             stdin=subprocess.DEVNULL,
             stdout=subprocess.PIPE,
@@ -152,13 +153,35 @@ class Server:
         return Peer(self.queries)
 
     def desk(self):
-        """The desk's connection."""
+        """A desk's connection, which waits where another one is served."""
         return Peer(self.desk_port)
 
     def said(self):
         """The lines on standard error so far."""
         self.errors.seek(0)
         return self.errors.read().decode().splitlines()
+
+    def signal(self, number):
+        """Sends the server a signal; the status with which it ends."""
+        self.process.send_signal(number)
+        return self.process.wait(PATIENCE)
+
+    def stop(self):
+        """Ends the server, if it runs."""
+        if self.process.poll() is None:
+            self.process.send_signal(signal.SIGKILL)
+            self.process.wait()
+        self.process.stdout.close()
+
+
+class Server(Running):
+    """A server of one desk and so many query connections."""
+
+    def __init__(self, program, workers, connections, *more, megabytes=None):
+        self.queries, self.desk_port = free_ports(2)
+        self.workers, self.connections = workers, connections
+        words = [*addresses(self.queries, self.desk_port), "--workers", str(workers), "--connections", str(connections)]
+        super().__init__(program, [*words, *more], megabytes)
 
     def use_up(self):
         """Makes all query connections that are left."""
@@ -175,23 +198,32 @@ class Server:
             return None, b"it did not end"
         return self.process.returncode, output
 
-    def signal(self, number):
-        """Sends the server a signal; the status with which it ends."""
-        self.process.send_signal(number)
-        return self.process.wait(PATIENCE)
-
-    def stop(self):
-        """Ends the server, if it runs."""
-        if self.process.poll() is None:
-            self.process.send_signal(signal.SIGKILL)
-            self.process.wait()
-        self.process.stdout.close()
-
     def done(self, lines, faults):
         """What is wrong with the end of the server, where so many lines and faults are due."""
         wanted = (0, b"done lines=%d faults=%d\n" % (lines, faults))
         ended = self.finish()
         return [] if ended == wanted else [f"it ended with {ended} and not with {wanted}"]
+
+
+class Standing(Running):
+    """A server without end: desks one after another, as many query connections as come, and a status."""
+
+    def __init__(self, program, workers, *more):
+        self.queries, self.desk_port, self.status_port = free_ports(3)
+        words = [*addresses(self.queries, self.desk_port), "--status", f"127.0.0.1:{self.status_port}"]
+        super().__init__(program, [*words, "--workers", str(workers), *more])
+
+    def status(self):
+        """What the server says of itself."""
+        with urllib.request.urlopen(f"http://127.0.0.1:{self.status_port}/status", timeout=PATIENCE) as page:
+            return json.load(page)
+
+    def quiet_status(self):
+        """The same once no query connection is open, or after a second."""
+        end = time.monotonic() + 1
+        while (status := self.status())["connections"]["open"] and time.monotonic() < end:
+            time.sleep(0.05)
+        return status
 
 
 def addresses(queries, desk):
