@@ -57,7 +57,7 @@ class Picture:
 
 def house():
     """The crates as rooms, with the way of a request line (blue) and of an edit (red)."""
-    p = Picture(860, 470, "The way of a request and of an edit through the crates")
+    p = Picture(860, 550, "The way of a request and of an edit through the crates")
     left, right, width = 60, 500, 300
     rows = [
         ("lost_lines", "cuts lines, writes replies in order"),
@@ -88,7 +88,8 @@ def house():
             p.line([(right + 110, y - 30), (right + 110, y)], RED, arrow="red")
             p.line([(right + 190, y), (right + 190, y - 30)], RED, arrow="red")
     p.line([(right + width, 155), (right + width + 30, 155), (right + width + 30, 395), (right + width, 395)], RED, arrow="red")
-    p.text(430, 455, "Below all of them stands lost_spec: what the words mean. Each room knows the others by their contracts alone.", size=12)
+    p.box(left, 450, right + width - left, 50, "lost_status", "beside the way: counts the replies and the refusals, and tells an operator over HTTP", dash="4 3")
+    p.text(430, 535, "Below all of them stands lost_spec: what the words mean. Each room knows the others by their contracts alone.", size=12)
     return p.write()
 
 
