@@ -5,7 +5,10 @@
 //!   console can bring about.
 //! - `serve`: desks and clients of a server over connections of this machine: a desk that stays while a query is answered,
 //!   a gate that holds the first reply until the other was given, bad numbers of workers, a mapping that expires while it is
-//!   asked for, connections on which nothing moves, and eight clients of four workers while a desk commits.
+//!   asked for, connections on which nothing moves, and eight clients of four workers while a desk commits. Then servers that
+//!   are started as they are ordered: with maps that are refused; with a map and no desk; with three desks one after another,
+//!   of which the second leaves an edit behind; with two hundred clients; and with a status that is asked for before the map
+//!   is read and after it.
 //! - `status`: each row of `status.rows` is a request of HTTP to a server to which something happened before, and its answer
 //!   is compared with what the row wants ([`status`] says how a row is written). Then come clients that are cut off, and two
 //!   workers that count at once.

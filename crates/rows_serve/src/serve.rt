@@ -4,6 +4,7 @@ mod clients;
 mod desks;
 mod expiring;
 mod first_waits;
+mod guests;
 mod idlers;
 mod lines;
 mod parties;
@@ -23,7 +24,7 @@ use std::thread::Threads;
 use std::time::Clock;
 
 /// The scenes, in turn.
-const SCENES: [&str; 7] = [
+const SCENES: [&str; 11] = [
     "a query beside the desk",
     "a gate",
     "no workers",
@@ -31,6 +32,10 @@ const SCENES: [&str; 7] = [
     "idle connections",
     "eight clients beside commits",
     "maps that are refused",
+    "a map and no desk",
+    "desks one after another",
+    "two hundred clients",
+    "health",
 ];
 
 /// Plays each scene, and prints what was replied and counted.
@@ -64,6 +69,10 @@ pub(crate) fn run<
             "a mapping that expires" => stage.expiry(),
             "idle connections" => stage.idle(),
             "maps that are refused" => starter.refused_maps(),
+            "a map and no desk" => starter.map_alone(),
+            "desks one after another" => starter.desks(),
+            "two hundred clients" => starter.clients(),
+            "health" => starter.health(),
             _ => stage.eight_clients(),
         }?;
     }

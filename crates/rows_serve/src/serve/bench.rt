@@ -63,7 +63,7 @@ impl Line {
     }
 
     /// A connection to an address.
-    fn to<R: Net<Listener = TcpListener, Stream = TcpStream>>(
+    pub(crate) fn to<R: Net<Listener = TcpListener, Stream = TcpStream>>(
         rt: &R,
         alloc: Global,
         address: SocketAddr,

@@ -1,31 +1,99 @@
-//! Where a server that was started listens. Rules without a section are this profile's own.
+//! Where a server that was started listens, and how far it is. Rules without a section are this profile's own.
 use lost_server::{Doors, Ready};
 use lost_sockets::Listener;
 use std::io;
-use std::sync::atomic::{AtomicBool, Ordering};
+use std::net::{IpAddr, Ipv4Addr, SocketAddr};
+use std::sync::atomic::{AtomicBool, AtomicU64, Ordering};
+use std::thread::sleep;
+use std::time::{Clock, Duration};
 
-/// Whether a server was ready, and whether it is over.
+/// How often it is looked, once in a millisecond, whether something has come.
+const LOOKS: u64 = 20_000;
+
+/// The ports of this machine that a server listens on, once it does, and how far it and its clients are.
 #[derive(Drop)]
 pub(crate) struct Ports {
+    queries: AtomicU64,
+    desk: AtomicU64,
+    status: AtomicU64,
+    pub(crate) was_asked: AtomicBool,
     pub(crate) was_ready: AtomicBool,
     pub(crate) is_over: AtomicBool,
 }
 
 impl Ports {
-    /// Neither yet.
+    /// Those of a server that does not listen yet.
     pub(crate) fn new() -> Ports {
         Ports {
+            queries: AtomicU64::new(0),
+            desk: AtomicU64::new(0),
+            status: AtomicU64::new(0),
+            was_asked: AtomicBool::new(false),
             was_ready: AtomicBool::new(false),
             is_over: AtomicBool::new(false),
         }
     }
+
+    /// Where clients ask, once it is ready.
+    pub(crate) fn queries<R: Clock>(&self, rt: &R) -> io::Result<SocketAddr> {
+        address_of(rt, &self.queries)
+    }
+
+    /// Where a desk edits, once it is ready.
+    pub(crate) fn desk<R: Clock>(&self, rt: &R) -> io::Result<SocketAddr> {
+        address_of(rt, &self.desk)
+    }
+
+    /// Where its status is answered, from its beginning.
+    pub(crate) fn status<R: Clock>(&self, rt: &R) -> io::Result<SocketAddr> {
+        address_of(rt, &self.status)
+    }
 }
 
-impl Ready for Ports {
-    fn begins(&self, _status: &Listener) {}
+/// Waits until a port is told, and gives its address.
+fn address_of<R: Clock>(rt: &R, port: &AtomicU64) -> io::Result<SocketAddr> {
+    for _ in 0..LOOKS {
+        if let Ok(port @ 1..) = u16::try_from(port.load(Ordering::SeqCst)) {
+            return Ok(SocketAddr::new(IpAddr::V4(Ipv4Addr::LOCALHOST), port));
+        }
+        sleep(rt, Duration::from_millis(1));
+    }
+    Err(io::Error::from(io::ErrorKind::TimedOut))
+}
 
-    fn ready(&self, _doors: &Doors) -> io::Result<()> {
-        self.was_ready.store(true, Ordering::SeqCst);
+/// Tells the ports how far a server is. One with a status goes on once it was asked for it.
+#[derive(Drop)]
+pub(crate) struct Teller<'a, R> {
+    pub(crate) rt: &'a R,
+    pub(crate) ports: &'a Ports,
+}
+
+impl<R: Clock> Ready for Teller<'_, R> {
+    fn begins(&self, status: &Listener) {
+        tell(&self.ports.status, status);
+        for _ in 0..LOOKS {
+            if self.ports.was_asked.load(Ordering::SeqCst) {
+                return;
+            }
+            sleep(self.rt, Duration::from_millis(1));
+        }
+    }
+
+    fn ready(&self, doors: &Doors) -> io::Result<()> {
+        self.ports.was_ready.store(true, Ordering::SeqCst);
+        if let Some(desk) = &doors.desk {
+            tell(&self.ports.desk, desk);
+        }
+        tell(&self.ports.queries, &doors.queries);
         Ok(())
+    }
+}
+
+/// Tells the port of a listener.
+fn tell(port: &AtomicU64, listener: &Listener) {
+    if let Listener::Tcp(listener) = listener
+        && let Ok(address) = listener.local_addr()
+    {
+        port.store(u64::from(address.port()), Ordering::SeqCst);
     }
 }

@@ -1,5 +1,6 @@
 //! Servers that are started as they are ordered.
-use super::ports::Ports;
+use super::guests::{many_clients, one_client, then_end, three_desks, two_probes};
+use super::ports::{Ports, Teller};
 use lost_mapping::Source;
 use lost_server::{
     ConnectionSettings, Counts, MapFault, RunFault, ServerFault, ServerOrder, run_server,
@@ -10,8 +11,11 @@ use std::net::{Net, TcpListener, TcpStream};
 use std::random::RandomSource;
 use std::sync::Wait;
 use std::sync::atomic::Ordering;
-use std::thread::Threads;
+use std::thread::{Threads, join};
 use std::time::{Clock, Duration};
+
+/// A map of two mappings.
+const MAP: &str = "two.jsonl";
 
 /// Any free port of this machine.
 const ANY_PORT: &str = "127.0.0.1:0";
@@ -47,7 +51,7 @@ impl<
         + Sync
         + AllocGlobal,
 > Starter<'_, R> {
-    /// A server with a map and no desk.
+    /// A server with a map, and no desk and no status.
     fn order<'m>(&'m self, map: Option<&'m str>) -> ServerOrder<'m> {
         let idle = Some(Duration::from_secs(IDLE));
         ServerOrder {
@@ -73,12 +77,72 @@ impl<
     pub(crate) fn refused_maps(&self) -> io::Result<()> {
         for map in ["refused.jsonl", "uncommitted.jsonl", "nothing.jsonl", "."] {
             let ports = Ports::new();
-            let served = run_server(self.rt, &self.order(Some(map)), &ports, &ports.is_over);
+            let served = serve_told(self.rt, &self.order(Some(map)), &ports);
             self.tell(served)?;
             let is_listening = ports.was_ready.load(Ordering::SeqCst);
             println!(self.rt; "{map}: it listened {is_listening}")?;
         }
         Ok(())
+    }
+
+    /// A client of a server that has a map and no desk.
+    pub(crate) fn map_alone(&self) -> io::Result<()> {
+        let (rt, order, ports) = (self.rt, self.order(Some(MAP)), Ports::new());
+        let (order, ports) = (&order, &ports);
+        let (served, reply) = join(
+            rt,
+            || serve_told(rt, order, ports),
+            || then_end(rt, rt.alloc(), ports, one_client(rt, rt.alloc(), ports)),
+        );
+        println!(rt; "{}", reply?)?;
+        self.tell(served)
+    }
+
+    /// Three desks one after another, of which the second goes without a commit.
+    pub(crate) fn desks(&self) -> io::Result<()> {
+        let (rt, ports) = (self.rt, Ports::new());
+        let mut order = self.order(None);
+        order.desk = Some(ANY_PORT);
+        let (order, ports) = (&order, &ports);
+        let (served, replies) = join(
+            rt,
+            || serve_told(rt, order, ports),
+            || then_end(rt, rt.alloc(), ports, three_desks(rt, rt.alloc(), ports)),
+        );
+        for reply in replies?.iter() {
+            println!(rt; "{reply}")?;
+        }
+        self.tell(served)
+    }
+
+    /// Two hundred clients, one after another.
+    pub(crate) fn clients(&self) -> io::Result<()> {
+        let (rt, order, ports) = (self.rt, self.order(Some(MAP)), Ports::new());
+        let (order, ports) = (&order, &ports);
+        let (served, count) = join(
+            rt,
+            || serve_told(rt, order, ports),
+            || then_end(rt, rt.alloc(), ports, many_clients(rt, rt.alloc(), ports)),
+        );
+        println!(rt; "clients that were told of the mapping {}", count?)?;
+        self.tell(served)
+    }
+
+    /// What a server says of its health before it reads its map, and once it is ready.
+    pub(crate) fn health(&self) -> io::Result<()> {
+        let (rt, ports) = (self.rt, Ports::new());
+        let mut order = self.order(Some(MAP));
+        order.status = Some(ANY_PORT);
+        let (order, ports) = (&order, &ports);
+        let (served, lines) = join(
+            rt,
+            || serve_told(rt, order, ports),
+            || then_end(rt, rt.alloc(), ports, two_probes(rt, rt.alloc(), ports)),
+        );
+        let (before, after) = lines?;
+        println!(rt; "{}", before.as_str().trim_end())?;
+        println!(rt; "{}", after.as_str().trim_end())?;
+        self.tell(served)
     }
 
     /// Prints what was counted, or why the server did not start.
@@ -92,6 +156,25 @@ impl<
         }
         Ok(())
     }
+}
+
+/// Runs a server, and tells the ports how far it is.
+fn serve_told<
+    R: Net<Listener = TcpListener, Stream = TcpStream>
+        + Threads
+        + Wait
+        + Clock
+        + Eprint
+        + Input
+        + Files
+        + RandomSource
+        + Clone
+        + Send
+        + Sync
+        + AllocGlobal,
+>(rt: &R, order: &ServerOrder<'_>, ports: &Ports) -> Result<Counts, ServerFault> {
+    let teller = Teller { rt, ports };
+    run_server(rt, order, &teller, &ports.is_over)
 }
 
 /// What a fault is called here.
