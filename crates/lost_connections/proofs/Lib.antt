@@ -1,0 +1,4 @@
+pub mod BurstLemmas
+pub mod LawLemmas
+pub mod SentLemmas
+pub mod TakeLemmas

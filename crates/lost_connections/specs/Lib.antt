@@ -1,0 +1,4 @@
+pub mod Client
+pub mod Clients
+pub mod Laws
+pub mod Steady
