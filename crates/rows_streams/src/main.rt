@@ -2,7 +2,9 @@
 //!
 //! - `streams`: the script `streams.lines`, over a desk and two readers that stay. `desk`, `queries`, `pair` and `workers`
 //!   serve a stream: by the desk, by a reader, by two readers in two threads, of which the first waits until the second has
-//!   answered, and by two workers whose first line waits until another was answered.
+//!   answered, and by two workers whose first line waits until another was answered. `bursts NUMBER` serves it in bursts, cut
+//!   at every byte, by an output that takes so many bytes at a time, and `cut NUMBER` cut at one place; `turns` has one worker
+//!   serve two connections in turn while the desk commits.
 //! - `hostile`: the script `hostile.lines`, over readers and writers that fail. A command that begins with `replay`, `desk`
 //!   or `queries` has a stream served by a replay, by a desk or by a reader of a desk: `whole`; `bytes`, a byte at a time;
 //!   `reads NUMBER`, in pieces of so many bytes, once for each read, which fails; `writes`, once for each write, which fails
@@ -17,15 +19,18 @@
 #![tactic(auto)]
 
 mod always;
+mod bursts;
 mod by;
 mod faults;
 mod holding;
 mod hostile;
+mod in_turn;
 mod lengths;
 mod lines;
 mod noting;
 mod pair;
 mod plan;
+mod sipping;
 mod spelled;
 mod stream;
 mod streams;

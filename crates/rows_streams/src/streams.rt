@@ -1,6 +1,8 @@
 //! The commands of the script of streams: what is served, by whom.
 use crate::always::moments_of;
+use crate::bursts::{cut_everywhere, cut_once};
 use crate::holding::Holding;
+use crate::in_turn::take_turns;
 use crate::pair::serve_pair;
 use crate::stream::{Stream, no_command};
 use crate::telling::tell;
@@ -80,6 +82,24 @@ fn serve<R: Threads + Wait + Clock + Sync + Print + AllocGlobal>(
         "queries" => serve_queries(rt, bench.first, setting, stream),
         "pair" => serve_pair(rt, bench.first, bench.second, setting, stream),
         "workers" => serve_two(rt, bench.first, bench.second, setting, stream),
+        "in turn" => take_turns(rt, bench.desk, bench.first, setting),
+        _ => serve_in_bursts(rt, bench, stream, command),
+    }
+}
+
+/// Serves a stream in bursts, as a command with a number says.
+fn serve_in_bursts<R: Print + AllocGlobal>(
+    rt: &R,
+    bench: &mut Bench,
+    stream: &Stream,
+    command: &str,
+) -> io::Result<()> {
+    let (word, number) = command.split_once(' ').unwrap_or((command, ""));
+    let number = number.parse::<usize>().unwrap_or(1);
+    let bytes = stream.bytes.as_slice();
+    match word {
+        "bursts" => cut_everywhere(rt, bench.first, bench.setting, bytes, number),
+        "cut" => cut_once(rt, bench.first, bench.setting, bytes, number),
         _ => no_command(rt),
     }
 }

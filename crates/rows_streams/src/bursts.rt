@@ -1,0 +1,115 @@
+//! Connections that are served in bursts. Rules without a section are this profile's own.
+use crate::always::moments_of;
+use crate::sipping::{Piecewise, Sipping};
+use lost_connections::{Client, ClientFault, Progress};
+use lost_worker::{NoGate, Replier, Turns, Watched, serve_lines};
+use std::alloc::Global;
+use std::io;
+use test_rows::Setting;
+
+/// The most bytes of a read.
+const CHUNK: usize = 1_024;
+
+/// The most bursts of a connection.
+const MOST_BURSTS: u64 = 10_000_000;
+
+/// Serves a stream by a replier as a whole, and then in bursts, once for each place at which it can be cut into two pieces, by
+/// an output that takes so many bytes at a time. Prints the replies, at how many places it was cut, and at how many of them
+/// the replies were others.
+pub(crate) fn cut_everywhere<R: Print + AllocGlobal, P: Replier>(
+    rt: &R,
+    replier: &mut P,
+    setting: &Setting,
+    bytes: &[u8],
+    most: usize,
+) -> io::Result<()> {
+    let whole = whole_text(rt.alloc(), replier, setting, bytes)?;
+    write_text(rt, whole.as_slice())?;
+    let mut others = 0u64;
+    for place in 0..=bytes.len() {
+        if !is_same(rt.alloc(), replier, setting, bytes, place, most, whole.as_slice())? {
+            others = others.saturating_add(1);
+        }
+    }
+    println!(rt; "cut at {} places, other replies at {others}", bytes.len() + 1)
+}
+
+/// The same, cut at one place alone.
+pub(crate) fn cut_once<R: Print + AllocGlobal, P: Replier>(
+    rt: &R,
+    replier: &mut P,
+    setting: &Setting,
+    bytes: &[u8],
+    place: usize,
+) -> io::Result<()> {
+    let whole = whole_text(rt.alloc(), replier, setting, bytes)?;
+    write_text(rt, whole.as_slice())?;
+    let same = is_same(rt.alloc(), replier, setting, bytes, place, CHUNK, whole.as_slice())?;
+    println!(rt; "cut at {place}, the same replies {same}")
+}
+
+/// Prints a text.
+fn write_text<R: Print>(rt: &R, text: &[u8]) -> io::Result<()> {
+    for line in std::str::from_utf8(text).unwrap_or("no text").lines() {
+        println!(rt; "{line}")?;
+    }
+    Ok(())
+}
+
+/// What is written where a stream is served as a whole.
+fn whole_text<P: Replier>(
+    alloc: Global,
+    replier: &mut P,
+    setting: &Setting,
+    bytes: &[u8],
+) -> io::Result<Vec<u8>> {
+    let mut input = Watched::new(bytes);
+    let mut output = Watched::new(Vec::new(alloc));
+    let served = serve_lines(
+        alloc,
+        &mut input,
+        &mut output,
+        replier,
+        &setting.name,
+        &mut moments_of(setting),
+        &NoGate,
+        Turns::USUAL,
+    );
+    match served {
+        Ok(_) => Ok(output.into_inner()),
+        Err(_) => Err(io::Error::from(io::ErrorKind::Other)),
+    }
+}
+
+/// Whether the same is written where the stream comes in two pieces.
+fn is_same<P: Replier>(
+    alloc: Global,
+    replier: &mut P,
+    setting: &Setting,
+    bytes: &[u8],
+    place: usize,
+    most: usize,
+    whole: &[u8],
+) -> io::Result<bool> {
+    let input = Piecewise::of(bytes, place);
+    let mut client = Client::new(alloc, input, Sipping::new(alloc, most));
+    let mut chunk = [0u8; CHUNK];
+    for _ in 0..MOST_BURSTS {
+        let name = &setting.name;
+        let burst = client.serve_burst(alloc, &mut chunk, replier, name, &mut moments_of(setting));
+        match burst {
+            Ok(Progress::Over) => return Ok(client.output().text.as_slice() == whole),
+            Ok(_) => {}
+            Err(fault) => return Err(fault_error(fault)),
+        }
+    }
+    Ok(false)
+}
+
+/// An error that says how a connection ended.
+fn fault_error(fault: ClientFault) -> io::Error {
+    match fault {
+        ClientFault::Memory => io::Error::from(io::ErrorKind::OutOfMemory),
+        ClientFault::Read | ClientFault::Write => io::Error::from(io::ErrorKind::Other),
+    }
+}
