@@ -1,0 +1,167 @@
+"""checks/benchmarks: what the benches print becomes docs/BENCHMARKS.md and five rows of README, with programs that print figures
+of no meaning in the place of the benches."""
+from __future__ import annotations
+
+import os
+import re
+import subprocess
+import tempfile
+import unittest
+from typing import Dict, List, Tuple
+
+from tests.running import TOP
+
+LINES = [
+    "hits", "misses", "unheld service", "default", "listServices", "listServicesByLocation", "getServiceBoundary",
+    "first replace and commit", "replace and commit", "publish, commit, withdraw, commit", "validation",
+]
+EDITS = [f"a {kind}, {what}" for kind in ("publish", "replacement", "withdrawal") for what in ("with its commit", "its commit alone")]
+LONG = ["lines of 1 MiB", "1 MiB of URIs", "1 MiB of locations"]
+
+
+def costs(many: int, share: int) -> List[str]:
+    """What lines cost at two sizes."""
+    return [f"{name}: 3412 and {many} nanoseconds a line at 1,000 and 60,000, {share} of a hundred" for name in LINES]
+
+
+def asked(how: str, which: str, shares: List[int]) -> List[str]:
+    """What questions cost in an index."""
+    return [f"{how}: 700 and {7 * share} nanoseconds at 1,024 and 60,025 for {which} points, {share} of a hundred" for share in shares]
+
+
+def edited(share: int) -> List[str]:
+    """What edits cost at the desk."""
+    rounds = f"{share} of a hundred ({share - 1} to {share + 1}), the middle of the rounds"
+    return [f"{edit}: 8000 and 9600 nanoseconds at 1,024 and 60,025 mappings, {rounds}" for edit in EDITS]
+
+
+EMPTIED = "holding, the caches emptied before each question"
+PRINTED: Dict[str, Dict[str, List[str]]] = {
+    "bench_lines": {
+        "routing measure": [
+            "load: 61000 and 3412345 microseconds for 1,000 and 60,000 boundaries, 5594 of a hundred; the large one at 76 million bytes a second",
+            "one line after another:", *costs(11_800, 346), "the caches emptied before each line:", *costs(3_500, 103),
+            "one line after another, of the same ten identities:",
+            *[f"10 {what} and commit: 1000 and 1020 nanoseconds a line at 10 and 65,536 withdrawn, 102 of a hundred" for what in ("publishes", "withdrawals")],
+        ],
+        "replay measure": [
+            *[f"{squares} mappings: 701234 lines a second, 100 of a hundred of the time at 10" for squares in (10, 100, 1000)],
+            *[f"{name}: 412 lines a second, 100 of a hundred of the time of lines of 1 MiB that are filled with spaces" for name in LONG],
+        ],
+        "index measure": [
+            *asked("one ring alone", "all over", [380, 370, 390]), *asked("holding", "the same", [123, 125, 127]),
+            *asked("holding", "all over", [360, 370, 380]), *asked(EMPTIED, "the same", [114]), *asked(EMPTIED, "all over", [126]),
+        ],
+    },
+    "bench_desk": {
+        "measure": [
+            "one thread: 1060 nanoseconds a reply by a reader, 1000 by tokens over the book alone, 106 of a hundred; 2000 by trees, 53 of a hundred; the least of 5 rounds",
+            "four readers: 390 of a hundred of the replies of one; while the desk commits 100 times a second, 381 of a hundred; the least of 5 rounds",
+            "one edit after another:", *edited(120), "the caches emptied before each edit:", *edited(122),
+        ],
+        "cache measure": [f"plan {number}: 11600 nanoseconds a reply by a reader, 1700 with a cache, 15 of a hundred" for number in range(4)],
+    },
+    "bench_serve": {
+        "measure": [
+            *[
+                f"{depth} lines at a time: 58012 replies a second over one connection, a server that sends lines back 65999, 88 of a hundred;"
+                f" four workers and four connections {total}, 380 of a hundred of one" for depth, total in ((1, 220_000), (16, 1_512_345), (64, 1_400_000))
+            ],
+            *[
+                f"{mappings} mappings{text}" for mappings in (1000, 60000) for text in (
+                    ", one line at a time: half within 17000 nanoseconds, 99 of a hundred within 21000; while the desk commits 100 times a second 18000 and 27000, 128 of a hundred",
+                    ": half of the commits answered within 90000 nanoseconds, 99 of a hundred within 290000, all within 400000",
+                )
+            ],
+        ],
+    },
+    "resident-memory": {"": ["60000 boundaries: 260000000 bytes of desk lines, at most 442000000 bytes resident; 1.70 times"]},
+    "loaded-server": {
+        "": [
+            "60000 boundaries, 252000000 bytes of desk lines: ready after 3100000 microseconds with 470000000 bytes resident;"
+            " the next edit and commit took 1400000 microseconds, then 570000000 bytes"
+        ],
+    },
+    "gateway": {
+        "--speed": [
+            "one process: 0.55 of the answers a second of a fixed body (3357 and 6103)", "four processes: 0.51 of those of four with a fixed body",
+            "four processes: 2.9 times one", *[f"99 of a hundred answers within {span} ms: {name}, 32 connections" for name, span in (("fixed", 8.0), ("one", 15.0), ("four", 7.0))],
+            "ok: a check (90.0 s)", "0 failed",
+        ],
+    },
+}
+README = ["findService` at a point", "Validation", "Loading", "Replies", "A commit"]
+
+
+def with_programs(folder: str, printed: Dict[str, Dict[str, List[str]]]) -> None:
+    """Puts programs into a folder that print these lines at these words, and fail at any other."""
+    for name, by_words in printed.items():
+        cases = "".join(f"'{words}') cat << 'END'\n" + "\n".join(lines) + "\nEND\n;;\n" for words, lines in by_words.items())
+        with open(f"{folder}/{name}", "w", encoding="utf-8") as file:
+            file.write(f'#!/bin/sh\ncase "$*" in\n{cases}*) echo "no such word" >&2; exit 2;;\nesac\n')
+        os.chmod(f"{folder}/{name}", 0o755)
+
+
+class Benchmarks(unittest.TestCase):
+    """Runs it with pages and programs in a folder of its own."""
+
+    def setUp(self) -> None:
+        made = tempfile.TemporaryDirectory()
+        self.addCleanup(made.cleanup)
+        self.folder = made.name
+        os.makedirs(f"{self.folder}/docs")
+        for name in ("README.md", "docs/BENCHMARKS.md"):
+            self.write(name, open(f"{TOP}/{name}", encoding="utf-8").read())
+        with_programs(self.folder, PRINTED)
+
+    def write(self, name: str, text: str) -> None:
+        with open(f"{self.folder}/{name}", "w", encoding="utf-8") as file:
+            file.write(text)
+
+    def read(self, name: str) -> str:
+        with open(f"{self.folder}/{name}", encoding="utf-8") as file:
+            return file.read()
+
+    def run_check(self, *words: str) -> Tuple[int, str]:
+        command = [f"{TOP}/checks/benchmarks/run", "--busy", "--programs", self.folder, "--pages", self.folder, *words]
+        ran = subprocess.run(command, capture_output=True, text=True, timeout=60)
+        return ran.returncode, ran.stderr
+
+    def rows(self) -> List[str]:
+        return [line for line in self.read("README.md").splitlines() if any(line.startswith((f"| {name}", f"| `{name}")) for name in README)]
+
+    def test_all_sections_and_the_rows_of_readme(self) -> None:
+        self.assertEqual(self.run_check(), (0, ""))
+        page = self.read("docs/BENCHMARKS.md")
+        self.assertEqual(re.findall("^## (.*)$", page, re.M), ["Lines", "Lines a second", "Index", "Desk", "Cache", "Connections", "Memory", "A large map", "Gateway"])
+        for row in (
+            "| `findService`, found | 3.4 | 12 | 1.03 |", "One thread, squares. 10 mappings: 701,000; 100 mappings: 701,000; 1,000 mappings: 701,000.", "| the same points | 0.7 | 0.9 | 1.25 |",
+            "| withdrawal | 8.0 | 9.6 | 1.22 |", "| 16 | 58,000 | 66,000 | 1,510,000 |", "| 60,000 | 21 | 27 | 290 |",
+            "| one | 3,360 | 0.55 | 15.0 |",
+        ):
+            self.assertIn(f"\n{row}\n", page)
+        self.assertEqual([row.rsplit("|", 2)[1].strip() for row in self.rows()], ["12 µs", "12 µs", "3.4 s", "1,510,000 a second", "0.29 ms"])
+
+    def test_a_section_that_fails_stays_as_it_was(self) -> None:
+        self.assertEqual(self.run_check(), (0, ""))
+        before = self.read("docs/BENCHMARKS.md")
+        with_programs(self.folder, {"bench_serve": {"measure": ["nothing that is known"]}, "bench_desk": {}})
+        os.remove(f"{self.folder}/resident-memory")
+        status, said = self.run_check()
+        self.assertEqual((status, len(said.splitlines())), (1, 4), said)
+        after = self.read("docs/BENCHMARKS.md")
+        self.assertRegex(after, r"(?m)^`bench_serve measure`, \S+, commit .+\.$")
+        self.assertEqual(re.sub(r"(?m)^(`[^`]*`), \S+, commit .+\.$", r"\1.", after), before)
+
+    def test_figures_of_another_machine_are_left_out(self) -> None:
+        self.write("docs/BENCHMARKS.md", "# Benchmarks\n\nMeasured on 2026-01-01 at commit 1234567, on another one.\n\n## Lines\n\nof a 286\n\n## Index\n\nof a 286\n")
+        self.assertEqual(self.run_check("--only", "index"), (0, ""))
+        page = self.read("docs/BENCHMARKS.md")
+        self.assertNotIn("of a 286", page)
+        self.assertEqual(re.findall("^## (.*)$", page, re.M), ["Index"])
+
+    def test_mistakes(self) -> None:
+        self.assertEqual(self.run_check("--only", "no such section")[0], 2)
+        self.write("README.md", "# Nothing\n")
+        status, said = self.run_check("--only", "connections")
+        self.assertEqual((status, len(said.splitlines())), (1, 1), said)
