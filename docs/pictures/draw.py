@@ -55,41 +55,59 @@ class Picture:
         return "\n".join(self.parts + ["</svg>"]) + "\n"
 
 
+# The steps of the two walks of ARCHITECTURE.md: at which step a line, and an edit, comes into a room.
+STEPS_OF_A_LINE = {
+    "lost_lines": "1, 6", "lost_replay": "1", "lost_worker": "1, 4", "lost_desk": "1", "lost_tape": "2", "lost_reading": "2",
+    "lost_query": "3", "lost_routing": "4", "lost_tables": "4", "lost_regions": "4", "lost_index": "4", "lost_grid": "4",
+    "lost_civicdex": "4", "lost_geo": "4", "lost_civic": "4", "lost_book": "4", "lost_writing": "5",
+}
+STEPS_OF_AN_EDIT = {
+    "lost_tape": "1", "lost_reading": "1", "lost_mapping": "1", "lost_book": "2", "lost_routing": "2", "lost_replay": "2, 3",
+    "lost_desk": "2, 3, 4", "lost_history": "3",
+}
+
+
+def floors():
+    """The layers of crates.txt, lowest first: what each is called, and its crates."""
+    found, name = [], ""
+    for line in (Path(__file__).resolve().parents[2] / "crates.txt").read_text().splitlines():
+        if line.startswith("# "):
+            name = line[2:]
+        elif line:
+            if not found or found[-1][0] != name:
+                found.append((name, []))
+            found[-1][1].append(line.split(":")[0])
+    return found
+
+
 def house():
-    """The crates as rooms, with the way of a request line (blue) and of an edit (red)."""
-    p = Picture(860, 550, "The way of a request and of an edit through the crates")
-    left, right, width = 60, 500, 300
-    rows = [
-        ("lost_lines", "cuts lines, writes replies in order"),
-        ("lost_reading, lost_writing", "line to request, reply to line"),
-        ("lost_query", "answers a request over holdings"),
-        ("lost_book", "the mappings held"),
-        ("lost_geo, lost_civic", "inside a ring, matches a pattern"),
-    ]
-    p.text(left + width / 2, 30, "a request line", size=15, color=BLUE, bold=True)
-    for i, (name, what) in enumerate(rows):
-        p.box(left, 50 + 80 * i, width, 50, name, what)
-        if i:
-            y = 50 + 80 * i
-            p.line([(left + 110, y - 30), (left + 110, y)], BLUE, arrow="blue")
-            p.line([(left + 190, y), (left + 190, y - 30)], BLUE, arrow="blue")
-    edits = [
-        ("lost_lines", "cuts lines, writes replies in order"),
-        ("lost_reading, lost_writing", "desk line to edit, or its refusal"),
-        ("lost_replay", "stages an edit, commits what is staged"),
-        ("lost_book", "the first refusal, or the next book"),
-        ("lost_urn, lost_mapping", "builds and checks the mapping"),
-    ]
-    p.text(right + width / 2, 30, "a desk line", size=15, color=RED, bold=True)
-    for i, (name, what) in enumerate(edits):
-        p.box(right, 50 + 80 * i, width, 50, name, what)
-        if i and i < 4:
-            y = 50 + 80 * i
-            p.line([(right + 110, y - 30), (right + 110, y)], RED, arrow="red")
-            p.line([(right + 190, y), (right + 190, y - 30)], RED, arrow="red")
-    p.line([(right + width, 155), (right + width + 30, 155), (right + width + 30, 395), (right + width, 395)], RED, arrow="red")
-    p.box(left, 450, right + width - left, 50, "lost_status", "beside the way: counts the replies and the refusals, and tells an operator over HTTP", dash="4 3")
-    p.text(430, 535, "Below all of them stands lost_spec: what the words mean. Each room knows the others by their contracts alone.", size=12)
+    """The crates as rooms, a layer a floor, with the steps of a line (blue) and of an edit (red)."""
+    stories = floors()
+    product = [story for story in stories if story[1][0].startswith("lost")]
+    beside = [story for story in stories if story not in product]
+    across, floor, top = 112, 64, 34
+    cellar = top + floor * len(product) + 34
+    p = Picture(860, cellar + floor * len(beside) + 10, "The crates by layer, with the steps of a line and of an edit")
+
+    def draw(y, name, rooms, dash=""):
+        p.text(42, y + 10, name, size=11, anchor="start")
+        for place, room in enumerate(rooms):
+            x = 40 + across * place
+            p.box(x, y + 15, across - 8, 38, "", dash=dash)
+            p.text(x + (across - 8) / 2, y + 32, room, size=12, bold=True)
+            if room in STEPS_OF_A_LINE:
+                p.text(x + 8, y + 47, STEPS_OF_A_LINE[room], size=11, color=BLUE, anchor="start", bold=True)
+            if room in STEPS_OF_AN_EDIT:
+                p.text(x + across - 16, y + 47, STEPS_OF_AN_EDIT[room], size=11, color=RED, anchor="end", bold=True)
+
+    p.text(430, 20, "A crate uses crates of its own floor and of the floors below it", size=14, bold=True)
+    for number, (name, rooms) in enumerate(reversed(product)):
+        draw(top + floor * number, name, rooms)
+    p.text(42, cellar - 10, "Blue, left: the steps of a request line.", color=BLUE, anchor="start", bold=True)
+    p.text(300, cellar - 10, "Red, right: the steps of an edit.", color=RED, anchor="start", bold=True)
+    p.text(520, cellar - 10, "Dashed, below: crates beside the product.", anchor="start")
+    for number, (name, rooms) in enumerate(beside):
+        draw(cellar + floor * number, name, rooms, "4 3")
     return p.write()
 
 
