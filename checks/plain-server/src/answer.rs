@@ -47,14 +47,23 @@ impl Answerer<'_> {
 
     /// Writes the reply to a request, or nothing where it is an error.
     fn reply(self, request: &Request, out: &mut Vec<u8>) -> Result<(), Error> {
-        if request.path.iter().any(|passed| passed.eq_ignore_ascii_case(self.name)) {
+        if request
+            .path
+            .iter()
+            .any(|passed| passed.eq_ignore_ascii_case(self.name))
+        {
             return Err(Error("loop"));
         }
         let path = request.path.as_slice();
         match &request.asked {
             Asked::Find(find) => self.find(find, path, out),
             Asked::ServicesAt { service, location } => {
-                self.services_at(service.as_deref(), location.as_ref().map_err(|fault| *fault)?, path, out);
+                self.services_at(
+                    service.as_deref(),
+                    location.as_ref().map_err(|fault| *fault)?,
+                    path,
+                    out,
+                );
                 Ok(())
             }
             Asked::Services { service } => {
@@ -82,7 +91,10 @@ impl Answerer<'_> {
     }
 
     fn boundary(self, key: &str, path: &[&str], out: &mut Vec<u8>) -> Result<(), Error> {
-        let mapping = self.book.by_key(key, self.moment).ok_or(Error("notFound"))?;
+        let mapping = self
+            .book
+            .by_key(key, self.moment)
+            .ok_or(Error("notFound"))?;
         self.begin(out, "getServiceBoundaryResponse");
         self.write_path(out, path);
         out.extend_from_slice(b",\"serviceBoundary\":");
@@ -91,7 +103,13 @@ impl Answerer<'_> {
         Ok(())
     }
 
-    fn services_at(self, service: Option<&str>, location: &Location, path: &[&str], out: &mut Vec<u8>) {
+    fn services_at(
+        self,
+        service: Option<&str>,
+        location: &Location,
+        path: &[&str],
+        out: &mut Vec<u8>,
+    ) {
         let services = self.book.services_at(service, &location.place, self.moment);
         self.begin(out, "listServicesByLocationResponse");
         write_location_used(out, location);
@@ -105,12 +123,16 @@ impl Answerer<'_> {
         let found = found.ok_or_else(|| self.not_found(&find.service))?;
         self.begin(out, "findServiceResponse");
         write_location_used(out, location);
-        if let (true, Place::Address(address)) = (find.is_validated && !found.are_defaults, &location.place) {
+        if let (true, Place::Address(address)) =
+            (find.is_validated && !found.are_defaults, &location.place)
+        {
             self.write_validation(out, &found, address);
         }
         out.extend_from_slice(b",\"mapping\":");
         let shown = shown(find, &location.place);
-        write_list(out, &found.mappings, |out, mapping| mapping.write(out, shown));
+        write_list(out, &found.mappings, |out, mapping| {
+            mapping.write(out, shown)
+        });
         self.write_path(out, path);
         write_warnings(out, find, &location.place, &found);
         out.extend_from_slice(b"}}\n");
@@ -120,26 +142,50 @@ impl Answerer<'_> {
     /// The error where nothing was found for a service.
     fn not_found(self, service: &str) -> Error {
         let is_implemented = self.book.is_implemented(service, self.moment);
-        Error(if is_implemented { "notFound" } else { "serviceNotImplemented" })
+        Error(if is_implemented {
+            "notFound"
+        } else {
+            "serviceNotImplemented"
+        })
     }
 
     /// Writes which names of an address are valid, which are not, and which were not checked.
     fn write_validation(self, out: &mut Vec<u8>, found: &Found, address: &Address) {
         let patterns = found.mappings.iter().flat_map(|mapping| &mapping.patterns);
-        let matching = patterns.filter(|pattern| address.values.agree(pattern.values.elements(), &pattern.values));
-        let valid = matching.fold(Elements::default(), |valid, pattern| valid.with(pattern.values.elements()));
-        let references = self.book.agreeing(found.service, address, valid, self.moment);
+        let matching = patterns.filter(|pattern| {
+            address
+                .values
+                .agree(pattern.values.elements(), &pattern.values)
+        });
+        let valid = matching.fold(Elements::default(), |valid, pattern| {
+            valid.with(pattern.values.elements())
+        });
+        let references = self
+            .book
+            .agreeing(found.service, address, valid, self.moment);
         let is_invalid = |element: &Element| {
-            let named = || references.iter().filter_map(|pattern| pattern.values.get(*element));
+            let named = || {
+                references
+                    .iter()
+                    .filter_map(|pattern| pattern.values.get(*element))
+            };
             !valid.has(*element)
                 && named().next().is_some()
                 && named().all(|value| Some(value) != address.values.get(*element))
         };
-        let others = || address.values.elements().iter().filter(|element| !valid.has(*element));
+        let others = || {
+            address
+                .values
+                .elements()
+                .iter()
+                .filter(|element| !valid.has(*element))
+        };
         out.extend_from_slice(b",\"locationValidation\":{\"invalid\":");
         write_names(out, others().filter(is_invalid).map(Element::name));
         out.extend_from_slice(b",\"unchecked\":");
-        let unchecked = others().filter(|element| !is_invalid(element)).map(|element| -> &str { element.name() });
+        let unchecked = others()
+            .filter(|element| !is_invalid(element))
+            .map(|element| -> &str { element.name() });
         write_names(out, unchecked.chain(address.unknown.iter().copied()));
         out.extend_from_slice(b",\"valid\":");
         write_names(out, valid.iter().map(Element::name));
@@ -170,7 +216,8 @@ fn write_services(out: &mut Vec<u8>, services: &BTreeSet<&str>) {
 
 /// Writes the member of warnings, where there is one.
 fn write_warnings(out: &mut Vec<u8>, find: &Find, place: &Place, found: &Found) {
-    let is_unvalidated = found.are_defaults && find.is_validated && matches!(place, Place::Address(_));
+    let is_unvalidated =
+        found.are_defaults && find.is_validated && matches!(place, Place::Address(_));
     let warnings = [
         (found.service != find.service, "serviceSubstitution"),
         (found.are_defaults, "defaultMappingReturned"),

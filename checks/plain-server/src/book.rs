@@ -1,7 +1,7 @@
 //! The mappings that are published, and what finds them.
 
-use crate::civic::{Address, Pattern};
 use crate::civic::Elements;
+use crate::civic::{Address, Pattern};
 use crate::grid::Grid;
 use crate::mapping::Mapping;
 use crate::moment::Moment;
@@ -70,7 +70,10 @@ fn chain(service: &str) -> impl Iterator<Item = &str> {
 fn child<'a>(above: Option<&str>, service: &'a str) -> Option<&'a str> {
     let begin = match above {
         None => 0,
-        Some(above) => service.strip_prefix(above)?.strip_prefix('.').map(|_| above.len() + 1)?,
+        Some(above) => service
+            .strip_prefix(above)?
+            .strip_prefix('.')
+            .map(|_| above.len() + 1)?,
     };
     let length = service[begin..].find('.').unwrap_or(service.len() - begin);
     Some(&service[..begin + length])
@@ -112,7 +115,11 @@ impl Shelf {
 
     /// Whether some mapping is live.
     fn is_live(&self, moment: Moment) -> bool {
-        self.endless > 0 || self.ends.last_key_value().is_some_and(|(end, _)| moment < *end)
+        self.endless > 0
+            || self
+                .ends
+                .last_key_value()
+                .is_some_and(|(end, _)| moment < *end)
     }
 
     /// The slots of the mappings that hold a place, live or not.
@@ -146,7 +153,10 @@ impl Book {
         if let Some(key) = &mapping.key {
             self.keys.insert(key.clone(), slot);
         }
-        self.shelves.entry(mapping.service.clone()).or_default().insert(slot, &mapping);
+        self.shelves
+            .entry(mapping.service.clone())
+            .or_default()
+            .insert(slot, &mapping);
     }
 
     fn remove(&mut self, slot: u32, mapping: &Mapping) {
@@ -164,7 +174,9 @@ impl Book {
 
     /// The live ones of the mappings in some slots, each once, in the order of the list.
     fn live(&self, slots: impl IntoIterator<Item = u32>, moment: Moment) -> Vec<&Mapping> {
-        let held = slots.into_iter().filter_map(|slot| self.slots[slot as usize].as_ref());
+        let held = slots
+            .into_iter()
+            .filter_map(|slot| self.slots[slot as usize].as_ref());
         let mut live: Vec<&Held> = held.filter(|held| held.mapping.is_live(moment)).collect();
         live.sort_unstable_by_key(|held| held.place);
         live.dedup_by_key(|held| held.place);
@@ -172,12 +184,22 @@ impl Book {
     }
 
     /// What is found for a service at a place: the mappings that hold it, else the defaults.
-    pub fn find<'a>(&'a self, service: &'a str, place: &Place, moment: Moment) -> Option<Found<'a>> {
+    pub fn find<'a>(
+        &'a self,
+        service: &'a str,
+        place: &Place,
+        moment: Moment,
+    ) -> Option<Found<'a>> {
         let holders = |shelf: &Shelf| self.live(shelf.holders(place), moment);
         let defaults = |shelf: &Shelf| self.live(shelf.defaults.iter().copied(), moment);
         let found = self.first(service, holders).map(|found| (found, false));
-        let ((service, mappings), are_defaults) = found.or_else(|| Some((self.first(service, defaults)?, true)))?;
-        Some(Found { service, mappings, are_defaults })
+        let ((service, mappings), are_defaults) =
+            found.or_else(|| Some((self.first(service, defaults)?, true)))?;
+        Some(Found {
+            service,
+            mappings,
+            are_defaults,
+        })
     }
 
     /// The first service of the chain for which mappings are chosen, and these.
@@ -194,21 +216,33 @@ impl Book {
 
     /// Whether a service or one above it has live mappings.
     pub fn is_implemented(&self, service: &str, moment: Moment) -> bool {
-        chain(service).filter_map(|service| self.shelves.get(service)).any(|shelf| shelf.is_live(moment))
+        chain(service)
+            .filter_map(|service| self.shelves.get(service))
+            .any(|shelf| shelf.is_live(moment))
     }
 
     /// The services one label below a service that have live mappings.
     pub fn services(&self, above: Option<&str>, moment: Moment) -> BTreeSet<&str> {
-        let live = self.shelves.iter().filter(|(_, shelf)| shelf.is_live(moment));
-        live.filter_map(|(service, _)| child(above, service)).collect()
+        let live = self
+            .shelves
+            .iter()
+            .filter(|(_, shelf)| shelf.is_live(moment));
+        live.filter_map(|(service, _)| child(above, service))
+            .collect()
     }
 
     /// The services one label below a service that have live mappings at a place.
-    pub fn services_at(&self, above: Option<&str>, place: &Place, moment: Moment) -> BTreeSet<&str> {
+    pub fn services_at(
+        &self,
+        above: Option<&str>,
+        place: &Place,
+        moment: Moment,
+    ) -> BTreeSet<&str> {
         let mut services = BTreeSet::new();
         for (service, shelf) in &self.shelves {
             if let Some(child) = child(above, service) {
-                if !services.contains(child) && !self.live(shelf.holders(place), moment).is_empty() {
+                if !services.contains(child) && !self.live(shelf.holders(place), moment).is_empty()
+                {
                     services.insert(child);
                 }
             }
@@ -235,6 +269,9 @@ impl Book {
         };
         let is_live = |slot: u32| !self.live([slot], moment).is_empty();
         let agreeing = shelf.patterns.agreeing(address, elements);
-        agreeing.filter(|(slot, _)| is_live(*slot)).map(|(_, pattern)| pattern).collect()
+        agreeing
+            .filter(|(slot, _)| is_live(*slot))
+            .map(|(_, pattern)| pattern)
+            .collect()
     }
 }

@@ -5,8 +5,9 @@ use std::collections::BTreeMap;
 
 /// The civic elements, in the order in which a validation lists them.
 const ELEMENTS: [&str; 31] = [
-    "country", "A1", "A2", "A3", "A4", "A5", "A6", "PRM", "PRD", "RD", "STS", "POD", "POM", "RDSEC", "RDBR", "RDSUBBR", "HNO",
-    "HNS", "LMK", "LOC", "FLR", "NAM", "PC", "BLD", "UNIT", "ROOM", "SEAT", "PLC", "PCN", "POBOX", "ADDCODE",
+    "country", "A1", "A2", "A3", "A4", "A5", "A6", "PRM", "PRD", "RD", "STS", "POD", "POM",
+    "RDSEC", "RDBR", "RDSUBBR", "HNO", "HNS", "LMK", "LOC", "FLR", "NAM", "PC", "BLD", "UNIT",
+    "ROOM", "SEAT", "PLC", "PCN", "POBOX", "ADDCODE",
 ];
 
 /// A civic element, by its place in the list.
@@ -58,7 +59,9 @@ impl Elements {
 
     /// All of them, in the order of the list.
     pub fn iter(self) -> impl Iterator<Item = Element> {
-        (0..ELEMENTS.len() as u8).map(Element).filter(move |element| self.has(*element))
+        (0..ELEMENTS.len() as u8)
+            .map(Element)
+            .filter(move |element| self.has(*element))
     }
 }
 
@@ -90,13 +93,19 @@ impl Values {
 
     /// The value of an element.
     pub fn get(&self, element: Element) -> Option<&str> {
-        let place = self.values.binary_search_by_key(&element.0, |(other, _)| *other).ok()?;
+        let place = self
+            .values
+            .binary_search_by_key(&element.0, |(other, _)| *other)
+            .ok()?;
         Some(&self.values[place].1)
     }
 
     /// Whether some elements have values, and the same ones as in others.
     pub fn agree(&self, elements: Elements, others: &Values) -> bool {
-        elements.are_among(self.elements) && elements.iter().all(|element| self.get(element) == others.get(element))
+        elements.are_among(self.elements)
+            && elements
+                .iter()
+                .all(|element| self.get(element) == others.get(element))
     }
 
     /// The values of some elements as one key: each with the number of its element and its length in front.
@@ -138,7 +147,10 @@ fn folded(value: &str) -> Box<str> {
 
 /// Whether there are at most 128 pairs, with at most 512 bytes in each name and value.
 fn are_short(pairs: &BTreeMap<&str, &str>) -> bool {
-    pairs.len() <= 128 && pairs.iter().all(|(name, value)| name.len() <= 512 && value.len() <= 512)
+    pairs.len() <= 128
+        && pairs
+            .iter()
+            .all(|(name, value)| name.len() <= 512 && value.len() <= 512)
 }
 
 /// An address that is asked for.
@@ -155,7 +167,11 @@ impl<'a> Address<'a> {
         let is_address = are_short(pairs) && values.elements != Elements::default();
         is_address.then(|| Address {
             values,
-            unknown: pairs.keys().copied().filter(|name| Element::of(name).is_none()).collect(),
+            unknown: pairs
+                .keys()
+                .copied()
+                .filter(|name| Element::of(name).is_none())
+                .collect(),
         })
     }
 }
@@ -171,7 +187,8 @@ impl Pattern {
     /// The pattern of names and values, at least one, all of which are elements.
     pub fn new(pairs: &BTreeMap<&str, &str>) -> Option<Pattern> {
         let values = Values::of(pairs);
-        let is_pattern = are_short(pairs) && !pairs.is_empty() && values.values.len() == pairs.len();
+        let is_pattern =
+            are_short(pairs) && !pairs.is_empty() && values.values.len() == pairs.len();
         is_pattern.then(|| Pattern {
             values,
             text: text_of(pairs),

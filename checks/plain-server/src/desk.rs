@@ -76,7 +76,11 @@ impl Desk {
         publish: impl FnOnce(Vec<Change>) -> u64,
     ) -> Result<(), Refusal> {
         match read_edit(name, value)? {
-            None => write_count(out, "{\"committed\":{\"edition\":", publish(self.take_pending())),
+            None => write_count(
+                out,
+                "{\"committed\":{\"edition\":",
+                publish(self.take_pending()),
+            ),
             Some(edit) => {
                 self.stage(edit)?;
                 write_count(out, "{\"staged\":{\"pending\":", self.pending.len() as u64);
@@ -86,13 +90,20 @@ impl Desk {
     }
 
     fn take_pending(&mut self) -> Vec<Change> {
-        self.pending.drain(..).map(|pending| pending.change).collect()
+        self.pending
+            .drain(..)
+            .map(|pending| pending.change)
+            .collect()
     }
 
     /// Drops what is staged.
     pub fn drop_pending(&mut self) {
         while let Some(pending) = self.pending.pop() {
-            let Pending { change, identity, trace_before } = pending;
+            let Pending {
+                change,
+                identity,
+                trace_before,
+            } = pending;
             match (&change.before, &change.after) {
                 (None, Some(_)) => self.free.push(change.slot),
                 (Some(_), None) => self.free.truncate(self.free.len() - 1),
@@ -117,7 +128,10 @@ impl Desk {
         let identity = mapping.identity.clone();
         unless(!self.held.contains_key(&identity), Refusal::IdentityHeld)?;
         let trace = self.traces.get(&identity);
-        unless(trace.map_or(true, |trace| *trace < mapping.updated), Refusal::Withdrawn)?;
+        unless(
+            trace.is_none_or(|trace| *trace < mapping.updated),
+            Refusal::Withdrawn,
+        )?;
         unless(self.held.len() < MOST_MAPPINGS, Refusal::Full)?;
         self.has_free_key(&mapping)?;
         let slot = self.free.pop().unwrap_or(self.slots);
@@ -156,17 +170,35 @@ impl Desk {
 
     fn has_free_key(&self, mapping: &Mapping) -> Result<(), Refusal> {
         let holder = mapping.key.as_ref().and_then(|key| self.keys.get(key));
-        unless(holder.map_or(true, |holder| *holder == mapping.identity), Refusal::KeyHeld)
+        unless(
+            holder.is_none_or(|holder| *holder == mapping.identity),
+            Refusal::KeyHeld,
+        )
     }
 
     /// Makes a change here, and keeps it for the commit. What is held has no trace, so a replacement leaves none.
-    fn make(&mut self, identity: Box<str>, slot: u32, before: Option<Held>, after: Option<Held>, trace: Option<Moment>) {
+    fn make(
+        &mut self,
+        identity: Box<str>,
+        slot: u32,
+        before: Option<Held>,
+        after: Option<Held>,
+        trace: Option<Moment>,
+    ) {
         let trace_before = self.traces.get(&identity).copied();
         self.put(&identity, slot, after.clone());
         self.set_trace(identity.clone(), trace);
         self.edits += 1;
-        let change = Change { slot, before, after };
-        self.pending.push(Pending { change, identity, trace_before });
+        let change = Change {
+            slot,
+            before,
+            after,
+        };
+        self.pending.push(Pending {
+            change,
+            identity,
+            trace_before,
+        });
     }
 
     /// Puts a mapping, or none, in the place of the one of an identity.
@@ -196,7 +228,10 @@ impl Desk {
 impl Mapping {
     /// It, with its place in the list.
     fn held_at(self, place: u64) -> Held {
-        Held { place, mapping: Arc::new(self) }
+        Held {
+            place,
+            mapping: Arc::new(self),
+        }
     }
 }
 

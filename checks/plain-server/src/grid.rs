@@ -55,7 +55,9 @@ impl Cover {
     }
 
     fn cells(&self) -> impl Iterator<Item = (i32, i32)> + '_ {
-        self.rows.clone().flat_map(|row| self.columns.clone().map(move |column| (row, column)))
+        self.rows
+            .clone()
+            .flat_map(|row| self.columns.clone().map(move |column| (row, column)))
     }
 }
 
@@ -67,7 +69,10 @@ impl Grid {
             let cover = Cover::of(&bounds);
             for cell in cover.cells() {
                 let ring = Arc::clone(ring);
-                self.levels[cover.level].entry(cell).or_default().push(Entry { bounds, slot, ring });
+                self.levels[cover.level]
+                    .entry(cell)
+                    .or_default()
+                    .push(Entry { bounds, slot, ring });
             }
         }
     }
@@ -90,8 +95,15 @@ impl Grid {
     /// The slots of the mappings that hold a point, each as often as it has rings that do.
     pub fn holders(&self, point: Point) -> impl Iterator<Item = u32> + '_ {
         let cell_of = move |level| (line(level, point.latitude), line(level, point.longitude));
-        let cells = self.levels.iter().enumerate().filter_map(move |(level, cells)| cells.get(&cell_of(level)));
-        let near = cells.flatten().filter(move |entry| entry.bounds.hold(point));
-        near.filter(move |entry| entry.ring.holds(point)).map(|entry| entry.slot)
+        let cells = self
+            .levels
+            .iter()
+            .enumerate()
+            .filter_map(move |(level, cells)| cells.get(&cell_of(level)));
+        let near = cells
+            .flatten()
+            .filter(move |entry| entry.bounds.hold(point));
+        near.filter(move |entry| entry.ring.holds(point))
+            .map(|entry| entry.slot)
     }
 }

@@ -73,7 +73,13 @@ struct Lines<R> {
 
 impl<R: Read> Lines<R> {
     fn new(input: R) -> Lines<R> {
-        Lines { input, buffer: vec![0; PIECE], unread: 0..0, searched: 0, is_too_long: false }
+        Lines {
+            input,
+            buffer: vec![0; PIECE],
+            unread: 0..0,
+            searched: 0,
+            is_too_long: false,
+        }
     }
 
     /// The next line whose newline was read.

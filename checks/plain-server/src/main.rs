@@ -55,7 +55,10 @@ impl Options {
     }
 
     fn end(self) -> Result<(), String> {
-        self.0.into_keys().next().map_or(Ok(()), |name| Err(format!("{name} is no option")))
+        self.0
+            .into_keys()
+            .next()
+            .map_or(Ok(()), |name| Err(format!("{name} is no option")))
     }
 }
 
@@ -73,9 +76,16 @@ fn run(mode: &str, mut options: Options) -> Result<std::io::Result<()>, String> 
             let queries = options.required("--queries")?;
             let (desk, map) = (options.optional("--desk"), options.optional("--map"));
             let workers = options.optional("--workers").unwrap_or("4".to_owned());
-            let workers = workers.parse().map_err(|_| format!("{workers} is no number of workers"))?;
+            let workers = workers
+                .parse()
+                .map_err(|_| format!("{workers} is no number of workers"))?;
             options.end()?;
-            let addresses = Addresses { queries: &queries, desk: desk.as_deref(), map: map.as_deref(), workers };
+            let addresses = Addresses {
+                queries: &queries,
+                desk: desk.as_deref(),
+                map: map.as_deref(),
+                workers,
+            };
             Ok(serve::serve(&name, &addresses))
         }
         _ => Err(format!("{mode} is no mode")),

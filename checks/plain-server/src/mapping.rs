@@ -4,7 +4,10 @@ use crate::civic::Pattern;
 use crate::moment::Moment;
 use crate::refusal::{unless, Refusal};
 use crate::ring::{Point, Ring};
-use crate::texts::{are_uris, is_identifier, is_service_number, service_labels, source, write_list, write_text, SERVICE_PREFIX};
+use crate::texts::{
+    are_uris, is_identifier, is_service_number, service_labels, source, write_list, write_text,
+    SERVICE_PREFIX,
+};
 use crate::tree::{Members, Tree};
 use std::borrow::Cow;
 use std::sync::Arc;
@@ -56,7 +59,7 @@ impl Mapping {
 
     /// Whether it is live at a moment.
     pub fn is_live(&self, moment: Moment) -> bool {
-        self.expires.map_or(true, |end| moment < end)
+        self.expires.is_none_or(|end| moment < end)
     }
 
     /// Whether it has the same regions as another.
@@ -121,7 +124,10 @@ fn read_region(item: &Tree) -> Option<Region<Ring, Pattern>> {
     match item.get("profile")?.text()? {
         "geodetic-2d" => {
             let items = item.get("polygon")?.items()?;
-            let positions = items.iter().map(|item| Point::new(item.pair()?)).collect::<Option<Vec<_>>>()?;
+            let positions = items
+                .iter()
+                .map(|item| Point::new(item.pair()?))
+                .collect::<Option<Vec<_>>>()?;
             Ring::new(positions).map(Region::Ring)
         }
         "civic" => Pattern::new(&item.get("pattern")?.text_pairs()?).map(Region::Pattern),
@@ -200,9 +206,15 @@ impl<'a> Parts<'a> {
         let expires = read_expires(self.expires)?;
         let service = service_labels(self.service).ok_or(Refusal::BadService)?;
         unless(are_uris(&self.uris), Refusal::BadUri)?;
-        unless(self.number.map_or(true, is_service_number), Refusal::BadNumber)?;
+        unless(
+            self.number.is_none_or(is_service_number),
+            Refusal::BadNumber,
+        )?;
         let (rings, patterns) = self.read_regions()?;
-        unless(self.is_default == self.boundary.is_empty(), Refusal::RegionMissing)?;
+        unless(
+            self.is_default == self.boundary.is_empty(),
+            Refusal::RegionMissing,
+        )?;
         let is_small = rings.len() <= 64 && patterns.len() <= 256;
         unless(is_small && self.are_names_small(), Refusal::TooLarge)?;
         unless(self.has_key_as_due(), Refusal::BadKey)?;
@@ -230,7 +242,11 @@ impl<'a> Parts<'a> {
     }
 
     fn are_names_small(&self) -> bool {
-        self.names.len() <= 16 && self.names.iter().all(|(language, text)| language.len() <= 1_024 && text.len() <= 1_024)
+        self.names.len() <= 16
+            && self
+                .names
+                .iter()
+                .all(|(language, text)| language.len() <= 1_024 && text.len() <= 1_024)
     }
 
     fn has_key_as_due(&self) -> bool {

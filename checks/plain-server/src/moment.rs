@@ -12,7 +12,9 @@ pub struct Moment {
 impl Moment {
     /// The instant of the machine's clock.
     pub fn now() -> Moment {
-        let passed = SystemTime::now().duration_since(UNIX_EPOCH).unwrap_or_default();
+        let passed = SystemTime::now()
+            .duration_since(UNIX_EPOCH)
+            .unwrap_or_default();
         Moment {
             seconds: passed.as_secs() as i64,
             nanoseconds: passed.subsec_nanos(),
@@ -44,7 +46,8 @@ impl Moment {
 /// The number that digits spell.
 fn digits(bytes: &[u8]) -> Option<i64> {
     bytes.iter().try_fold(0, |number, byte| {
-        byte.is_ascii_digit().then(|| number * 10 + i64::from(byte - b'0'))
+        byte.is_ascii_digit()
+            .then(|| number * 10 + i64::from(byte - b'0'))
     })
 }
 

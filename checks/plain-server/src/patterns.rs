@@ -23,9 +23,15 @@ impl Patterns {
         for (number, pattern) in patterns.iter().enumerate() {
             let place = (slot, number as u16);
             let alike = self.whole.entry(pattern.values.elements()).or_default();
-            alike.entry(whole_key(&pattern.values)).or_default().push(place);
+            alike
+                .entry(whole_key(&pattern.values))
+                .or_default()
+                .push(place);
             for key in pattern.values.single_keys() {
-                self.single.entry(key.into_boxed_slice()).or_default().insert(place, Arc::clone(pattern));
+                self.single
+                    .entry(key.into_boxed_slice())
+                    .or_default()
+                    .insert(place, Arc::clone(pattern));
             }
         }
     }
@@ -93,7 +99,8 @@ impl Patterns {
         });
         let fewest = of_element.flatten().min_by_key(|patterns| patterns.len());
         let patterns = fewest.into_iter().flatten();
-        let agreeing = patterns.filter(move |(_, pattern)| pattern.values.agree(elements, &address.values));
+        let agreeing =
+            patterns.filter(move |(_, pattern)| pattern.values.agree(elements, &address.values));
         agreeing.map(|((slot, _), pattern)| (*slot, pattern.as_ref()))
     }
 }

@@ -22,7 +22,14 @@ pub fn replay(name: &str, moment: Moment) -> io::Result<()> {
 }
 
 /// Writes the reply to a line.
-fn reply(line: Line, desk: &mut Desk, book: &mut Book, name: &str, moment: Moment, out: &mut Vec<u8>) {
+fn reply(
+    line: Line,
+    desk: &mut Desk,
+    book: &mut Book,
+    name: &str,
+    moment: Moment,
+    out: &mut Vec<u8>,
+) {
     let value = line.value();
     match value.as_ref().and_then(Tree::only_member) {
         None => out.extend_from_slice(BAD_REQUEST),

@@ -81,7 +81,9 @@ impl<'a> Request<'a> {
             },
             _ => return None,
         };
-        let path = optional(members, "path", Tree::texts).ok()?.unwrap_or_default();
+        let path = optional(members, "path", Tree::texts)
+            .ok()?
+            .unwrap_or_default();
         (path.len() <= 32).then_some(Request { path, asked })
     }
 }
@@ -95,7 +97,9 @@ fn read_find<'a>(members: &'a Members<'a>) -> Option<Find<'a>> {
             Some("value") => true,
             Some(_) => return None,
         },
-        is_validated: optional(members, "validateLocation", Tree::truth).ok()?.unwrap_or(false),
+        is_validated: optional(members, "validateLocation", Tree::truth)
+            .ok()?
+            .unwrap_or(false),
     })
 }
 
@@ -133,7 +137,10 @@ fn read_head<'a>(item: &'a Tree<'a>) -> Option<(&'a Members<'a>, &'a str, &'a st
 }
 
 /// The place of a location; nothing where its profile is not known.
-fn read_place<'a>(profile: &str, item: &'a Members<'a>) -> Option<Result<Place<'a>, LocationFault>> {
+fn read_place<'a>(
+    profile: &str,
+    item: &'a Members<'a>,
+) -> Option<Result<Place<'a>, LocationFault>> {
     match profile {
         "geodetic-2d" => Some(read_point(item)),
         "civic" => Some(read_address(item).ok_or(LocationFault::LocationInvalid)),

@@ -29,7 +29,11 @@ impl Point {
         let is_meridian = i64::from(self.longitude) == GREATEST_LONGITUDE;
         Point {
             latitude: self.latitude - i32::from(is_pole),
-            longitude: if is_meridian { -self.longitude } else { self.longitude },
+            longitude: if is_meridian {
+                -self.longitude
+            } else {
+                self.longitude
+            },
         }
     }
 }
@@ -58,7 +62,8 @@ pub struct Ring(Box<[Point]>);
 impl Ring {
     /// The ring of positions.
     pub fn new(positions: Vec<Point>) -> Option<Ring> {
-        let is_ring = (4..=4_096).contains(&positions.len()) && positions.first() == positions.last();
+        let is_ring =
+            (4..=4_096).contains(&positions.len()) && positions.first() == positions.last();
         is_ring.then(|| Ring(positions.into_boxed_slice()))
     }
 
@@ -103,7 +108,11 @@ impl Ring {
 
 /// Whether a point lies to the left of an edge, and not on it.
 fn is_left(from: Point, to: Point, point: Point) -> bool {
-    let (low, high) = if from.latitude <= to.latitude { (from, to) } else { (to, from) };
+    let (low, high) = if from.latitude <= to.latitude {
+        (from, to)
+    } else {
+        (to, from)
+    };
     let east = i64::from(point.longitude) - i64::from(low.longitude);
     let north = i64::from(point.latitude) - i64::from(low.latitude);
     let width = i64::from(high.longitude) - i64::from(low.longitude);

@@ -43,7 +43,10 @@ pub fn serve(name: &str, addresses: &Addresses) -> io::Result<()> {
 }
 
 /// Serves one connection after another. One that fails ends alone.
-fn each_connection(listener: &TcpListener, mut serve_one: impl FnMut(&TcpStream) -> io::Result<()>) {
+fn each_connection(
+    listener: &TcpListener,
+    mut serve_one: impl FnMut(&TcpStream) -> io::Result<()>,
+) {
     loop {
         let served = listener.accept().and_then(|(stream, _)| {
             stream.set_nodelay(true)?;
@@ -64,7 +67,12 @@ fn answer_queries(stream: &TcpStream, name: &str, book: &RwLock<Book>) -> io::Re
             return;
         };
         let book = &book.read().unwrap_or_else(PoisonError::into_inner);
-        Answerer { book, name, moment: Moment::now() }.answer(verb, value, out);
+        Answerer {
+            book,
+            name,
+            moment: Moment::now(),
+        }
+        .answer(verb, value, out);
     })
 }
 
@@ -80,11 +88,19 @@ fn answer_desk(stream: &TcpStream, desk: &mut Desk, book: &RwLock<Book>) -> io::
 }
 
 /// Answers a line of the desk.
-fn desk_line(line: Line, desk: &mut Desk, book: &RwLock<Book>, out: &mut Vec<u8>) -> Result<(), Refusal> {
+fn desk_line(
+    line: Line,
+    desk: &mut Desk,
+    book: &RwLock<Book>,
+    out: &mut Vec<u8>,
+) -> Result<(), Refusal> {
     let value = line.value();
     match value.as_ref().and_then(Tree::only_member) {
         Some((verb, value)) if is_desk_line(verb) => desk.answer(verb, value, out, |changes| {
-            publish(&mut book.write().unwrap_or_else(PoisonError::into_inner), changes)
+            publish(
+                &mut book.write().unwrap_or_else(PoisonError::into_inner),
+                changes,
+            )
         }),
         _ => Err(Refusal::BadLine),
     }
@@ -96,7 +112,10 @@ fn load(path: &str, desk: &mut Desk, book: &RwLock<Book>) -> io::Result<()> {
     answer_lines(File::open(path)?, io::sink(), |line, out| {
         number += 1;
         if let (None, Err(refusal)) = (&fault, desk_line(line, desk, book, out)) {
-            fault = Some(format!("{path}: line {number}: {} {refusal:?}", refusal.code()));
+            fault = Some(format!(
+                "{path}: line {number}: {} {refusal:?}",
+                refusal.code()
+            ));
         }
     })?;
     desk.drop_pending();

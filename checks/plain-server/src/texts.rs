@@ -9,7 +9,9 @@ pub const SERVICE_PREFIX: &str = "urn:service:";
 fn is_label(label: &str) -> bool {
     let bytes = label.as_bytes();
     (1..=63).contains(&bytes.len())
-        && bytes.iter().all(|byte| byte.is_ascii_alphanumeric() || *byte == b'-')
+        && bytes
+            .iter()
+            .all(|byte| byte.is_ascii_alphanumeric() || *byte == b'-')
         && bytes[0] != b'-'
         && bytes[bytes.len() - 1] != b'-'
 }
@@ -50,7 +52,9 @@ fn scheme(uri: &str) -> Option<&str> {
         && !rest.is_empty()
         && uri.bytes().all(|byte| byte.is_ascii_graphic())
         && scheme.starts_with(|first: char| first.is_ascii_alphabetic())
-        && scheme.bytes().all(|byte| byte.is_ascii_alphanumeric() || b"+-.".contains(&byte));
+        && scheme
+            .bytes()
+            .all(|byte| byte.is_ascii_alphanumeric() || b"+-.".contains(&byte));
     is_uri.then_some(scheme)
 }
 
@@ -59,7 +63,11 @@ pub fn are_uris(uris: &[&str]) -> bool {
     if !(1..=16).contains(&uris.len()) {
         return false;
     }
-    let Some(schemes) = uris.iter().map(|uri| scheme(uri)).collect::<Option<Vec<_>>>() else {
+    let Some(schemes) = uris
+        .iter()
+        .map(|uri| scheme(uri))
+        .collect::<Option<Vec<_>>>()
+    else {
         return false;
     };
     schemes.iter().enumerate().all(|(place, scheme)| {
@@ -70,12 +78,17 @@ pub fn are_uris(uris: &[&str]) -> bool {
 
 /// Whether it is a number to dial.
 pub fn is_service_number(text: &str) -> bool {
-    (1..=64).contains(&text.len()) && text.bytes().all(|byte| byte.is_ascii_digit() || b"*#".contains(&byte))
+    (1..=64).contains(&text.len())
+        && text
+            .bytes()
+            .all(|byte| byte.is_ascii_digit() || b"*#".contains(&byte))
 }
 
 /// Writes a text as JSON.
 pub fn write_text(out: &mut Vec<u8>, text: &str) {
-    let is_plain = text.bytes().all(|byte| byte >= 32 && byte != b'"' && byte != b'\\');
+    let is_plain = text
+        .bytes()
+        .all(|byte| byte >= 32 && byte != b'"' && byte != b'\\');
     if is_plain {
         out.push(b'"');
         out.extend_from_slice(text.as_bytes());
@@ -86,7 +99,11 @@ pub fn write_text(out: &mut Vec<u8>, text: &str) {
 }
 
 /// Writes a list: each item by `write`, with commas between them.
-pub fn write_list<T>(out: &mut Vec<u8>, items: impl IntoIterator<Item = T>, mut write: impl FnMut(&mut Vec<u8>, T)) {
+pub fn write_list<T>(
+    out: &mut Vec<u8>,
+    items: impl IntoIterator<Item = T>,
+    mut write: impl FnMut(&mut Vec<u8>, T),
+) {
     out.push(b'[');
     for (place, item) in items.into_iter().enumerate() {
         if place > 0 {

@@ -93,7 +93,10 @@ impl<'a> Tree<'a> {
         for (name, value) in &self.members()?.0 {
             pairs.insert(name.as_ref(), value);
         }
-        pairs.into_iter().map(|(name, value)| Some((name, value.text()?))).collect()
+        pairs
+            .into_iter()
+            .map(|(name, value)| Some((name, value.text()?)))
+            .collect()
     }
 }
 
