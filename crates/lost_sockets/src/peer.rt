@@ -1,10 +1,10 @@
 //! Whom a connection comes from. Rules without a section are this profile's own.
-ghost use Rattle.std.specs.Prelude.{Some};
-ghost use Rattle.lost_sockets.specs.Peer.{peer_text};
+ghost use Rattle.std.specs.Prelude.{◌≡◌, Some};
+ghost use Rattle.lost_sockets.specs.Peer.{peer_text, address_of};
 
 use std::fmt;
 use std::fmt::{Display, Formatter};
-use std::net::SocketAddr;
+use std::net::{IpAddr, SocketAddr};
 
 /// Whom a connection comes from. It is written as its address, or as `a unix socket`.
 #[derive(Clone, Copy, PartialEq, Eq, Debug)]
@@ -13,6 +13,18 @@ pub enum Peer {
     Tcp(SocketAddr),
     /// A client over a Unix socket, which has no address.
     Unix,
+}
+
+impl Peer {
+    /// The address of its machine, without its port. `None` of a Unix socket.
+    pub fn address(&self) -> Option<IpAddr>
+        ensures { result ≡ address_of self.now }
+    {
+        match self {
+            Peer::Tcp(address) => Some(address.ip()),
+            Peer::Unix => None,
+        }
+    }
 }
 
 impl Display for Peer {

@@ -6,6 +6,7 @@ ghost use Rattle.std.specs.Io.{ReadsAtMost, WritesAtMost};
 use std::io;
 use std::io::{Read, Write};
 use std::net::TcpStream;
+use std::os::fd::{AsRawFd, RawFd};
 use std::os::unix::net::UnixStream;
 use std::time::Duration;
 
@@ -33,6 +34,26 @@ impl Stream {
                 && stream.set_write_timeout(idle).is_ok(),
             Stream::Unix(stream) => stream.set_read_timeout(idle).is_ok()
                 && stream.set_write_timeout(idle).is_ok(),
+        }
+    }
+
+    /// Says whether a read and a write wait, as they do at first, or fail with `WouldBlock` where they would.
+    ///
+    /// # Errors
+    ///
+    /// Those of the system.
+    pub fn set_nonblocking(&self, is_nonblocking: bool) -> io::Result<()> {
+        match self {
+            Stream::Tcp(stream) => stream.set_nonblocking(is_nonblocking),
+            Stream::Unix(stream) => stream.set_nonblocking(is_nonblocking),
+        }
+    }
+
+    /// The number of its descriptor, which the system may give to another once the connection is closed.
+    pub fn raw_fd(&self) -> RawFd {
+        match self {
+            Stream::Tcp(stream) => stream.as_raw_fd(),
+            Stream::Unix(stream) => stream.as_raw_fd(),
         }
     }
 
