@@ -43,12 +43,19 @@ The map is a file of desk lines; `-` is standard input. A line that is refused i
 code and cause, as by `lostd check`. Then the server ends with status 3 and listens nowhere, as it does where no commit \
 stands behind the last edit; with --keep-going it starts with what was accepted and committed. Nothing is kept once a \
 server has ended: give it its map at each start.\n\n\
-A server has no end of its own, and desks are served one after another: a second one waits until the first has ended. What \
-a desk leaves without a commit is dropped. With --connections it serves one desk connection and so many query connections; \
+A server has no end of its own, and desks are served one after another: a second one waits until the first has ended. A desk \
+that sends no whole line within 10 seconds of its start is ended, as is one that sends none for 10 seconds while another \
+waits, and one that speaks HTTP or TLS. What a desk leaves without a commit is dropped. With --connections it serves one desk connection and so many query connections; \
 when all have ended it prints `done lines=L faults=F`: the lines that were answered and the query connections that ended in \
 a fault.\n\n\
-A worker answers one connection at a time, from its first line to its end; further ones wait. A connection ends where its \
-input ends, where it fails, or after 1,000,000 lines.\n\n\
+Each worker watches many connections, and answers the lines that have come; it waits for no client alone. A client may have \
+a mebibyte of replies waiting, and then is not read until it takes some. A connection ends where its input ends, where it \
+fails, and where it passes a limit: --line-time, since whoever sends a line byte by byte keeps its room; --reply-time, since \
+whoever takes no reply keeps the replies; --idle, since a client that is gone may never say so. One that is too many, by \
+--most-connections or --per-address, is closed at once, so that no client takes the room of all. Ended and refused ones are \
+said on standard error, ten a second at most.\n\n\
+With --connections a worker answers one connection at a time, from its first line to its end; further ones wait. A connection \
+then ends where its input ends, where it fails, after --idle or after 1,000,000 lines, and the other limits are not there.\n\n\
 An address is HOST:PORT, as 127.0.0.1:5222, [::1]:5222 or localhost:5222, or unix:PATH, a Unix socket, whose file only its \
 owner may use unless --socket-mode says more.\n\n\
 --status answers HTTP: GET /health is 200 once the server is ready, and 503 before; GET /metrics is for Prometheus; GET \
@@ -137,13 +144,29 @@ fn serve_command<'a>(alloc: Global) -> Result<Command<'a>, Error> {
         .arg(socket_mode_argument(alloc))?
         .arg(workers_argument(alloc))?
         .arg(connections_argument(alloc))?
-        .arg(idle_argument(
+        .arg(seconds_argument(
             alloc,
             "idle",
             "After how many seconds without a byte a query connection is ended: 0 to 86400, 0 for never",
             "300",
         ))?
-        .arg(idle_argument(
+        .arg(seconds_argument(
+            alloc,
+            "line-time",
+            "In how many seconds a line must be whole after its first byte, so that nobody keeps room by sending slowly: 0 to \
+86400, 0 for any; not with --connections",
+            "10",
+        ).conflicts_with("connections")?)?
+        .arg(seconds_argument(
+            alloc,
+            "reply-time",
+            "For how many seconds a client may take no byte of its waiting replies, which keep room: 0 to 86400, 0 for ever; not \
+with --connections",
+            "30",
+        ).conflicts_with("connections")?)?
+        .arg(most_connections_argument(alloc)?)?
+        .arg(per_address_argument(alloc)?)?
+        .arg(seconds_argument(
             alloc,
             "desk-idle",
             "The same of a desk's connection, which keeps all other desks out",
@@ -205,7 +228,7 @@ fn workers_argument<'a>(alloc: Global) -> Arg<'a> {
     number_argument(
         alloc,
         "workers",
-        "How many threads answer requests, each one connection at a time: 1 to 64",
+        "How many threads answer requests: 1 to 64",
     )
     .value_parser(value_parser!(u32).range(1..=64))
     .required(true)
@@ -220,7 +243,32 @@ fn connections_argument<'a>(alloc: Global) -> Arg<'a> {
     .value_parser(value_parser!(u32).range(1..=1_000_000))
 }
 
-fn idle_argument<'a>(
+fn most_connections_argument<'a>(alloc: Global) -> Result<Arg<'a>, Error> {
+    let argument = number_argument(
+        alloc,
+        "most-connections",
+        "How many query connections may be open, since each takes room and a file: 1 to 1000000; not with --connections",
+    )
+    .value_parser(value_parser!(u32).range(1..=1_000_000))
+    .default_value("65536")
+    .conflicts_with("connections")?;
+    Ok(argument)
+}
+
+fn per_address_argument<'a>(alloc: Global) -> Result<Arg<'a>, Error> {
+    let argument = number_argument(
+        alloc,
+        "per-address",
+        "How many of one address may be, so that no client keeps the others out: 0 to 1000000, 0 for any; not with \
+--connections",
+    )
+    .value_parser(value_parser!(u32).range(0..=1_000_000))
+    .default_value("1024")
+    .conflicts_with("connections")?;
+    Ok(argument)
+}
+
+fn seconds_argument<'a>(
     alloc: Global,
     name: &'static str,
     help: &'static str,

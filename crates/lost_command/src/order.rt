@@ -29,6 +29,14 @@ pub struct ServeOrder<'a> {
     pub connections: Option<u32>,
     /// After how many seconds without a byte a query connection is ended: 0 to 86,400, 0 for never.
     pub idle: u32,
+    /// In how many seconds a line must be whole after its first byte: 0 to 86,400, 0 for any.
+    pub line_time: u32,
+    /// For how many seconds a client may take no byte of its waiting replies: 0 to 86,400, 0 for ever.
+    pub reply_time: u32,
+    /// How many query connections may be open: 1 to 1,000,000.
+    pub most_connections: u32,
+    /// How many of one address may be: 0 to 1,000,000, 0 for any.
+    pub per_address: u32,
     /// The same of a desk's connection.
     pub desk_idle: u32,
     /// Whether nothing is said of connections that end in a fault.
@@ -60,6 +68,10 @@ pub(crate) fn order_of<'a, R: Eprint + AllocGlobal>(
         workers: given.get_one::<u32>("workers").unwrap_or(0),
         connections: given.get_one::<u32>("connections"),
         idle: given.get_one::<u32>("idle").unwrap_or(0),
+        line_time: given.get_one::<u32>("line-time").unwrap_or(0),
+        reply_time: given.get_one::<u32>("reply-time").unwrap_or(0),
+        most_connections: given.get_one::<u32>("most-connections").unwrap_or(0),
+        per_address: given.get_one::<u32>("per-address").unwrap_or(0),
         desk_idle: given.get_one::<u32>("desk-idle").unwrap_or(0),
         is_quiet: given.get_flag("quiet"),
     })

@@ -70,6 +70,11 @@ impl<I, O> Client<I, O> {
         !self.unsent.is_empty()
     }
 
+    /// Whether so many replies wait to be taken that nothing is read.
+    pub fn is_held(&self) -> bool {
+        self.unsent.len() >= MOST_UNSENT
+    }
+
     /// What is read.
     pub fn input(&self) -> &I {
         &self.input

@@ -1,2 +1,5 @@
-pub mod RunFault
+pub mod Admission
+pub mod Deadlines
 pub mod Map
+pub mod RunFault
+pub mod Strangers

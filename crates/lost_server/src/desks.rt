@@ -1,13 +1,14 @@
 //! What the thread of the desk does. Rules without a section are this profile's own.
-use crate::accepting::accept_until;
 use crate::counting::{DeskCounting, tell_book};
+use crate::desk_ends::{DeskTurn, TurnInput, TurnOutput, is_of_waiting};
+use crate::desk_turns::DeskDoor;
 use crate::shared::Shared;
 use lost_desk::Desk;
 use lost_lines::{Counts, ServeError, Turns, Watched};
 use lost_sockets::{Listener, Peer, Stream, accept};
 use lost_worker::serve_desk_with;
 use std::io;
-use std::io::{Eprint, ErrorKind, Read};
+use std::io::{Eprint, Read};
 use std::sync::Wait;
 use std::sync::atomic::{AtomicBool, Ordering};
 use std::time::Clock;
@@ -26,24 +27,67 @@ pub(crate) fn serve_one_desk<R: Wait + Clock + Eprint + Drop, G>(
     true
 }
 
-/// Serves the connections of desks one after another, until the server is over. What a desk left pending is dropped before
-/// the next one is served.
+/// Serves the connections of desks in turn, until the server is over. What a desk left pending is dropped before the next one
+/// is served.
 pub(crate) fn serve_desks<R: Wait + Clock + Eprint + Drop, G>(
     shared: &Shared<'_, R, G>,
     listener: &Listener,
     desk: &mut Desk,
 ) {
+    let door = DeskDoor::new(listener);
     for _ in shared.rt.forever() {
-        let Some((stream, peer)) = accept_until(shared.rt, listener, shared.is_over) else {
+        let Some((stream, peer)) = door.next(shared.rt, shared.is_over) else {
             return;
         };
-        serve_desk_connection(shared, &stream, &peer, desk);
+        shared.status.set_desk(true);
+        if let Some(cause) = serve_turn(shared, &door, &stream, desk) {
+            shared.notices.say_of_desk(&peer, cause);
+        }
+        shared.status.set_desk(false);
         drop(stream);
         if desk.drop_pending().is_err() {
             shared.notices.say_of_pending();
         }
         tell_book(shared.status, desk);
     }
+}
+
+/// Answers what comes over a desk's connection while it is its turn. Gives the cause where it ended in a fault.
+fn serve_turn<R: Wait + Clock + Eprint + Drop, G>(
+    shared: &Shared<'_, R, G>,
+    door: &DeskDoor<'_>,
+    stream: &Stream,
+    desk: &mut Desk,
+) -> Option<&'static str> {
+    let turn = DeskTurn {
+        rt: shared.rt,
+        door,
+        stream,
+        idle: shared.settings.desk_idle,
+    };
+    if !turn.begin() {
+        return Some("it could not be read");
+    }
+    let mut input = Watched::new(TurnInput::new(shared.alloc, &turn));
+    let mut output = Watched::new(TurnOutput::new(&turn));
+    let mut counting = DeskCounting {
+        rt: shared.rt,
+        status: shared.status,
+    };
+    let served = serve_desk_with(
+        shared.rt,
+        shared.alloc,
+        &mut input,
+        &mut output,
+        desk,
+        &mut counting,
+        Turns::USUAL,
+    );
+    let Err(fault) = served else {
+        return None;
+    };
+    let cause = input.inner().cause().or(output.inner().cause());
+    Some(cause.unwrap_or(desk_fault_text(fault, false)))
 }
 
 /// Serves a desk's connection, and says it where it ended in a fault.
@@ -107,11 +151,6 @@ impl Read for DeskInput<'_, '_> {
         }
         result
     }
-}
-
-/// Whether an error says that a read or a write waited for too long.
-fn is_of_waiting(kind: ErrorKind) -> bool {
-    matches!(kind, ErrorKind::WouldBlock | ErrorKind::TimedOut)
 }
 
 /// What is said of a desk's connection that ended in a fault.

@@ -1,10 +1,11 @@
 //! What is said of connections on standard error. Rules without a section are this profile's own.
+use crate::voice::Mouth;
 use lost_sockets::Peer;
 use lost_status::Status;
 use std::alloc::{AllocError, Global};
 use std::io::Eprint;
-use std::sync::Arc;
 use std::sync::atomic::{AtomicU64, Ordering};
+use std::sync::{Arc, Wait};
 use std::time::Clock;
 
 /// The most lines that are said in a second.
@@ -13,37 +14,48 @@ const MAX_A_SECOND: u64 = 10;
 /// Says on standard error, in one line each, how connections end in a fault: at most ten lines a second, the next of
 /// which says how many were left out.
 #[derive(Drop)]
-pub(crate) struct Notices<R: Clock + Eprint + Drop> {
+pub(crate) struct Notices<R: Wait + Clock + Eprint + Drop> {
     rt: R,
     alloc: Global,
     is_quiet: bool,
     status: Arc<Status>,
+    /// Where lines are given; without it, who says one waits until standard error takes it.
+    mouth: Option<Mouth>,
     second: AtomicU64,
     said: AtomicU64,
     left_out: AtomicU64,
 }
 
-/// Notices for all threads, on the standard error of `rt`; none where it is quiet. With them goes what is counted.
-pub(crate) fn notices_of<R: Clock + Eprint + Clone>(
+/// Notices for all threads, given to `mouth`, or without it said on the standard error of `rt`; none of connections where it
+/// is quiet. With them goes what is counted.
+pub(crate) fn notices_of<R: Wait + Clock + Eprint + Clone>(
     rt: &R,
     alloc: Global,
     is_quiet: bool,
     status: &Arc<Status>,
+    mouth: Option<Mouth>,
 ) -> Result<Arc<Notices<R>>, AllocError> {
     let status = Arc::try_clone(status)?;
-    match Arc::new(alloc, Notices::new(rt.clone()?, alloc, is_quiet, status)) {
+    match Arc::new(alloc, Notices::new(rt.clone()?, alloc, is_quiet, status, mouth)) {
         Ok(notices) => Ok(notices),
         Err(_) => Err(AllocError),
     }
 }
 
-impl<R: Clock + Eprint + Drop> Notices<R> {
-    fn new(rt: R, alloc: Global, is_quiet: bool, status: Arc<Status>) -> Notices<R> {
+impl<R: Wait + Clock + Eprint + Drop> Notices<R> {
+    fn new(
+        rt: R,
+        alloc: Global,
+        is_quiet: bool,
+        status: Arc<Status>,
+        mouth: Option<Mouth>,
+    ) -> Notices<R> {
         Notices {
             rt,
             alloc,
             is_quiet,
             status,
+            mouth,
             second: AtomicU64::new(0),
             said: AtomicU64::new(0),
             left_out: AtomicU64::new(0),
@@ -72,24 +84,28 @@ impl<R: Clock + Eprint + Drop> Notices<R> {
 
     /// Says that what a desk left pending is pending for the next one.
     pub(crate) fn say_of_pending(&self) {
-        // Where standard error fails, the next desk still sees how many edits are pending.
-        let _said = self.rt.eprint(
-            "lostd: memory ran out: what the last desk left pending could not be dropped, and the next desk's commit publishes it\n",
-        );
+        self.say(format!(in self.alloc;
+            "lostd: memory ran out: what the last desk left pending could not be dropped, and the next desk's commit publishes it\n"
+        ));
     }
 
     /// Says that a listener was given up.
     pub(crate) fn say_of_listener(&self) {
-        // Where standard error fails, the status still tells.
-        let _said = self.rt.eprint(
-            "lostd: no more connections could be accepted: the server ends when those that stand have ended\n",
-        );
+        self.say(format!(in self.alloc;
+            "lostd: no more connections could be accepted: the server ends when those that stand have ended\n"
+        ));
     }
 
     /// Says a line in one piece. One for which there is no memory is not said; where standard error fails, nothing is.
     fn say(&self, line: Result<String, AllocError>) {
-        if let Ok(line) = line {
-            let _said = self.rt.eprint(line.as_str());
+        let Ok(line) = line else {
+            return;
+        };
+        match &self.mouth {
+            Some(mouth) => mouth.say(&self.rt, line),
+            None => {
+                let _said = self.rt.eprint(line.as_str());
+            }
         }
     }
 

@@ -5,12 +5,26 @@ use std::time::Duration;
 /// How a server treats those that it serves.
 #[derive(Clone, Copy, PartialEq, Eq, Debug)]
 pub struct ConnectionSettings {
-    /// For how long a read or a write of a query connection may wait; `None` for ever.
+    /// For how long a read or a write of a query connection may wait; `None` for ever. Where many are watched, for how long no
+    /// byte of one may come while no reply waits to be taken.
     pub idle: Option<Duration>,
     /// For how long a read or a write of a desk's connection may wait; `None` for ever.
     pub desk_idle: Option<Duration>,
     /// Whether nothing is said on standard error of connections that end in a fault.
     pub is_quiet: bool,
+}
+
+/// The limits of the query connections of a server that has no number of them.
+#[derive(Clone, Copy, PartialEq, Eq, Debug)]
+pub struct ClientLimits {
+    /// In which time a line must be whole after its first byte; `None` for any.
+    pub line_time: Option<Duration>,
+    /// For how long a client may take no byte of the replies that wait for it; `None` for ever.
+    pub reply_time: Option<Duration>,
+    /// How many may be open.
+    pub most_connections: u32,
+    /// How many of one address may be; `None` for any number.
+    pub per_address: Option<u32>,
 }
 
 /// What is ordered of a server.
@@ -37,6 +51,8 @@ pub struct ServerOrder<'a> {
     pub connections: Option<u32>,
     /// How those that are served are treated.
     pub settings: ConnectionSettings,
+    /// What the query connections are limited to, where no number of them is given.
+    pub limits: ClientLimits,
     /// Whether it is said how far a long map is.
     pub shows_progress: bool,
 }

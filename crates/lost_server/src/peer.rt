@@ -4,13 +4,13 @@ use lost_sockets::{Peer, Stream};
 use std::alloc::{AllocError, Global};
 use std::io;
 use std::io::{Eprint, ErrorKind, Read, Write};
-use std::sync::Arc;
 use std::sync::atomic::{AtomicBool, Ordering};
+use std::sync::{Arc, Wait};
 use std::time::Clock;
 
 /// A query connection. It is closed when both its ends are dropped.
 #[derive(Drop)]
-struct Client<R: Clock + Eprint + Drop> {
+struct Client<R: Wait + Clock + Eprint + Drop> {
     stream: Stream,
     number: u64,
     peer: Peer,
@@ -21,7 +21,7 @@ struct Client<R: Clock + Eprint + Drop> {
     has_failed: AtomicBool,
 }
 
-impl<R: Clock + Eprint + Drop> Client<R> {
+impl<R: Wait + Clock + Eprint + Drop> Client<R> {
     /// Says how it ended in a fault.
     fn say(&self, cause: &str) {
         self.is_over.store(true, Ordering::SeqCst);
@@ -32,19 +32,19 @@ impl<R: Clock + Eprint + Drop> Client<R> {
 
 /// What the lines of a query connection are read from. A failed read is said; so is an end of the connection before the
 /// end of its lines.
-pub(crate) struct Incoming<R: Clock + Eprint + Drop> {
+pub(crate) struct Incoming<R: Wait + Clock + Eprint + Drop> {
     client: Arc<Client<R>>,
     has_read: bool,
 }
 
 /// What the replies of a query connection are written to. A failed write is said.
 #[derive(Drop)]
-pub(crate) struct Outgoing<R: Clock + Eprint + Drop> {
+pub(crate) struct Outgoing<R: Wait + Clock + Eprint + Drop> {
     client: Arc<Client<R>>,
 }
 
 /// The two ends of a query connection, counted from 1.
-pub(crate) fn ends<R: Clock + Eprint + Drop>(
+pub(crate) fn ends<R: Wait + Clock + Eprint + Drop>(
     alloc: Global,
     stream: Stream,
     number: u64,
@@ -70,7 +70,7 @@ pub(crate) fn ends<R: Clock + Eprint + Drop>(
     Ok((incoming, Outgoing { client: other }))
 }
 
-impl<R: Clock + Eprint + Drop> Read for Incoming<R> {
+impl<R: Wait + Clock + Eprint + Drop> Read for Incoming<R> {
     fn read(&mut self, buf: &mut [u8]) -> io::Result<usize> {
         if !self.has_read {
             self.has_read = true;
@@ -87,7 +87,7 @@ impl<R: Clock + Eprint + Drop> Read for Incoming<R> {
     }
 }
 
-impl<R: Clock + Eprint + Drop> Write for Outgoing<R> {
+impl<R: Wait + Clock + Eprint + Drop> Write for Outgoing<R> {
     fn write(&mut self, buf: &[u8]) -> io::Result<usize> {
         let mut stream = &self.client.stream;
         let result = stream.write(buf);
@@ -102,7 +102,7 @@ impl<R: Clock + Eprint + Drop> Write for Outgoing<R> {
     }
 }
 
-impl<R: Clock + Eprint + Drop> Drop for Incoming<R> {
+impl<R: Wait + Clock + Eprint + Drop> Drop for Incoming<R> {
     fn drop(self) {
         let Incoming { client, has_read } = self;
         if has_read && !client.is_over.load(Ordering::SeqCst) {

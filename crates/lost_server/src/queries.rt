@@ -25,12 +25,12 @@ pub(crate) fn hand_over_all<R: Wait + Clock + Eprint + Drop, G>(
     shared: &Shared<'_, R, G>,
     listener: &Listener,
     sender: &Sender<Query<R>>,
-    connections: Option<u32>,
+    connections: u32,
 ) -> Result<Counts, RunFault>
     ensures { result ≢ Err RunFault.Workers }
 {
     let mut counts = Counts::default();
-    for number in 1..=most_of(connections) {
+    for number in 1..=u64::from(connections) {
         let Some((stream, peer)) = accept(shared.rt, listener) else {
             shared.notices.say_of_listener();
             return Err(RunFault::Accept);
@@ -47,14 +47,6 @@ pub(crate) fn hand_over_all<R: Wait + Clock + Eprint + Drop, G>(
         }
     }
     Ok(counts)
-}
-
-/// How many connections are accepted: without a number, as many as a program ever sees.
-fn most_of(connections: Option<u32>) -> u64 {
-    match connections {
-        Some(connections) => u64::from(connections),
-        None => u64::MAX,
-    }
 }
 
 /// Hands a query connection to a worker, or closes it. Says whether it was handed over.

@@ -92,7 +92,7 @@ fn serve_open<
     ensures { result ≢ Err RunFault.Workers }
 {
     let status = shared_status(alloc, workers, Duration::from_secs(0))?;
-    let notices = notices_of(rt, alloc, settings.is_quiet, &status)?;
+    let notices = notices_of(rt, alloc, settings.is_quiet, &status, None)?;
     let queries = listener_of(query_listener)?;
     let desks = listener_of(desk_listener)?;
     let is_over = AtomicBool::new(false);
@@ -111,7 +111,7 @@ fn serve_open<
         queries,
         desk: Some(desks),
     };
-    serve_all(&shared, &doors, desk, readers, Some(connections))
+    serve_all(&shared, &doors, desk, readers, connections)
 }
 
 /// A listener of its own for a server, of the same address.

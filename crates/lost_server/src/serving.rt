@@ -1,7 +1,7 @@
 //! The threads of a server. Rules without a section are this profile's own.
 ghost use Rattle.std.specs.Prelude.{◌≡◌, ◌≢◌, Err};
 
-use crate::desks::{serve_desks, serve_one_desk};
+use crate::desks::serve_one_desk;
 use crate::doors::Doors;
 use crate::queries::{Query, hand_over_all};
 use crate::run_fault::RunFault;
@@ -30,7 +30,7 @@ pub(crate) fn serve_all<
     doors: &Doors,
     desk: &mut Desk,
     readers: Readers,
-    connections: Option<u32>,
+    connections: u32,
 ) -> Result<Counts, RunFault>
     requires { readers.each.opening ≡ desk.old.opening }
     ensures { result ≢ Err RunFault.Workers }
@@ -49,7 +49,7 @@ fn in_threads<R: Threads + Wait + Clock + Eprint + Drop + Send + Sync, G: Gate +
     doors: &Doors,
     desk: &mut Desk,
     sender: Sender<Query<R>>,
-    connections: Option<u32>,
+    connections: u32,
 ) -> Result<Counts, RunFault>
     ensures { result ≢ Err RunFault.Workers }
 {
@@ -70,7 +70,7 @@ fn in_threads<R: Threads + Wait + Clock + Eprint + Drop + Send + Sync, G: Gate +
                     return Err(RunFault::Memory);
                 }
             }
-            let Ok(desk_thread) = scope.spawn(move || edit(shared, doors, desk, connections)) else {
+            let Ok(desk_thread) = scope.spawn(move || edit(shared, doors, desk)) else {
                 return Err(RunFault::Memory);
             };
             let handed = hand_over_all(shared, &doors.queries, &sender, connections);
@@ -86,7 +86,7 @@ fn in_threads<R: Threads + Wait + Clock + Eprint + Drop + Send + Sync, G: Gate +
 }
 
 /// Waits for all workers to end, and gives the sum of what they counted.
-fn sum_of<R: Threads + Wait>(rt: &R, threads: Vec<JoinHandle<Counts>>) -> Counts {
+pub(crate) fn sum_of<R: Threads + Wait>(rt: &R, threads: Vec<JoinHandle<Counts>>) -> Counts {
     let mut sum = Counts::default();
     for thread in threads {
         sum = sum.plus(thread.join(rt));
@@ -94,20 +94,14 @@ fn sum_of<R: Threads + Wait>(rt: &R, threads: Vec<JoinHandle<Counts>>) -> Counts
     sum
 }
 
-/// What the thread of the desk does: where the number of connections is given it serves one desk, and else one after
-/// another. Says whether the desk that was waited for came.
+/// What the thread of the desk does: it serves one desk. Says whether it came, where one is waited for.
 fn edit<R: Wait + Clock + Eprint + Drop, G>(
     shared: &Shared<'_, R, G>,
     doors: &Doors,
     desk: &mut Desk,
-    connections: Option<u32>,
 ) -> bool {
-    let Some(listener) = &doors.desk else {
-        return true;
-    };
-    if connections.is_some() {
-        return serve_one_desk(shared, listener, desk);
+    match &doors.desk {
+        Some(listener) => serve_one_desk(shared, listener, desk),
+        None => true,
     }
-    serve_desks(shared, listener, desk);
-    true
 }

@@ -5,13 +5,13 @@ use lost_mapping::Source;
 use lost_status::Status;
 use std::alloc::Global;
 use std::io::Eprint;
-use std::sync::Arc;
 use std::sync::atomic::AtomicBool;
+use std::sync::{Arc, Wait};
 use std::time::Clock;
 
 /// What all threads of a server share.
 #[derive(Drop)]
-pub(crate) struct Shared<'n, R: Clock + Eprint + Drop, G> {
+pub(crate) struct Shared<'n, R: Wait + Clock + Eprint + Drop, G> {
     pub(crate) rt: &'n R,
     pub(crate) alloc: Global,
     pub(crate) name: &'n Source,

@@ -12,7 +12,9 @@ use crate::run_fault::{RunFault, fault_of_opening};
 use crate::server_fault::{MapFault, ServerFault};
 use crate::serving::serve_all;
 use crate::shared::Shared;
+use crate::standing::watch_all;
 use crate::status_port::{answer_status, shared_status};
+use crate::voice::{Mouth, start_voice};
 use lost_book::Limits;
 use lost_desk::{Desk, Readers, open_desk};
 use lost_lines::{Counts, NoGate};
@@ -53,7 +55,8 @@ pub fn run_server<
         + RandomSource
         + Clone
         + Send
-        + Sync,
+        + Sync
+        + 'static,
     Y: Ready,
 >(rt: &R, order: &ServerOrder<'_>, ready: &Y, is_over: &AtomicBool) -> Result<Counts, ServerFault> {
     match open_desk(rt, rt.alloc(), Limits::widest(), order.workers) {
@@ -79,7 +82,8 @@ fn run_open<
         + RandomSource
         + Clone
         + Send
-        + Sync,
+        + Sync
+        + 'static,
     Y: Ready,
 >(
     rt: &R,
@@ -114,7 +118,8 @@ fn beside_status<
         + RandomSource
         + Clone
         + Send
-        + Sync,
+        + Sync
+        + 'static,
     Y: Ready,
 >(
     rt: &R,
@@ -170,7 +175,8 @@ fn start<
         + RandomSource
         + Clone
         + Send
-        + Sync,
+        + Sync
+        + 'static,
     Y: Ready,
 >(
     rt: &R,
@@ -226,7 +232,17 @@ fn remove_sockets<R: Files>(rt: &R, order: &ServerOrder<'_>) {
 
 /// Says that the server is ready, and answers connections.
 fn answer<
-    R: Threads + Wait + Clock + Eprint + AllocGlobal + RandomSource + Clone + Send + Sync,
+    R: Threads
+        + Wait
+        + Clock
+        + Eprint
+        + AllocGlobal
+        + Net
+        + RandomSource
+        + Clone
+        + Send
+        + Sync
+        + 'static,
     Y: Ready,
 >(
     rt: &R,
@@ -246,7 +262,32 @@ fn answer<
     {
         return Err(ServerFault::Run(RunFault::Accept));
     }
-    let Ok(notices) = notices_of(rt, rt.alloc(), order.settings.is_quiet, status) else {
+    let Ok((mouth, voice)) = start_voice(rt, rt.alloc()) else {
+        return Err(ServerFault::Run(RunFault::Memory));
+    };
+    let result = answer_aloud(rt, order, ready, is_over, doors, desk, readers, status, mouth);
+    voice.finish(rt);
+    result
+}
+
+/// Says that the server is ready, and answers connections. What is said of them is given to `mouth`.
+fn answer_aloud<
+    R: Threads + Wait + Clock + Eprint + AllocGlobal + Net + RandomSource + Clone + Send + Sync,
+    Y: Ready,
+>(
+    rt: &R,
+    order: &ServerOrder<'_>,
+    ready: &Y,
+    is_over: &AtomicBool,
+    doors: &Doors,
+    desk: &mut Desk,
+    readers: Readers,
+    status: &Arc<Status>,
+    mouth: Mouth,
+) -> Result<Counts, ServerFault>
+    requires { readers.each.opening ≡ desk.old.opening }
+{
+    let Ok(notices) = notices_of(rt, rt.alloc(), order.settings.is_quiet, status, Some(mouth)) else {
         return Err(ServerFault::Run(RunFault::Memory));
     };
     let shared = Shared {
@@ -264,7 +305,11 @@ fn answer<
     if ready.ready(doors).is_err() {
         return Err(ServerFault::Ready);
     }
-    serve_all(&shared, doors, desk, readers, order.connections).map_err(ServerFault::Run)
+    let served = match order.connections {
+        Some(connections) => serve_all(&shared, doors, desk, readers, connections),
+        None => watch_all(&shared, &order.limits, doors, desk, readers),
+    };
+    served.map_err(ServerFault::Run)
 }
 
 /// Reads the map from a file, or from standard input.

@@ -19,11 +19,11 @@ use std::time::Clock;
 const MAX_WORKERS: u32 = 64;
 
 /// How many places each worker keeps what holds them of.
-const PLACES: u32 = 1_024;
+pub(crate) const PLACES: u32 = 1_024;
 
 /// What one worker has: its number, from 0, its reader, and where it takes connections from.
 #[derive(Drop)]
-pub(crate) struct WorkerParts<R: Clock + Eprint + Drop> {
+pub(crate) struct WorkerParts<R: Wait + Clock + Eprint + Drop> {
     number: usize,
     reader: CachedReader<RandomState>,
     queries: Queries<R>,
@@ -31,7 +31,7 @@ pub(crate) struct WorkerParts<R: Clock + Eprint + Drop> {
 
 /// A worker for each reader, all of which take query connections from one channel. Each begins with what the desk has
 /// published, and keeps places by hashes of its own, which no client knows.
-pub(crate) fn workers_of<R: Clock + Eprint + RandomSource + Drop>(
+pub(crate) fn workers_of<R: Wait + Clock + Eprint + RandomSource + Drop>(
     rt: &R,
     alloc: Global,
     desk: &mut Desk,

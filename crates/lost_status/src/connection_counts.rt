@@ -1,13 +1,15 @@
 //! What is counted of query connections. Rules without a section are this profile's own.
 use std::sync::atomic::{AtomicU64, Ordering};
 
-/// How many query connections were accepted, taken by a worker and ended, and how many of them in a fault.
+/// How many query connections were accepted, taken by a worker and ended, how many of them in a fault, and how many others
+/// were refused.
 #[derive(Drop)]
 pub(crate) struct ConnectionCounts {
     accepted: AtomicU64,
     taken: AtomicU64,
     ended: AtomicU64,
     faults: AtomicU64,
+    refused: AtomicU64,
 }
 
 /// How many query connections there are at one moment.
@@ -21,6 +23,8 @@ pub(crate) struct Connections {
     pub(crate) waiting: u64,
     /// How many ended in a fault.
     pub(crate) faults: u64,
+    /// How many others were closed at once, past a limit.
+    pub(crate) refused: u64,
 }
 
 impl ConnectionCounts {
@@ -31,6 +35,7 @@ impl ConnectionCounts {
             taken: AtomicU64::new(0),
             ended: AtomicU64::new(0),
             faults: AtomicU64::new(0),
+            refused: AtomicU64::new(0),
         }
     }
 
@@ -52,6 +57,11 @@ impl ConnectionCounts {
         }
     }
 
+    /// One more was refused.
+    pub(crate) fn count_refused(&self) {
+        self.refused.fetch_add(1, Ordering::SeqCst);
+    }
+
     /// How many there are now. What comes last in the life of a connection is read first, so that none is missing from
     /// those that were accepted.
     pub(crate) fn now(&self) -> Connections {
@@ -64,6 +74,7 @@ impl ConnectionCounts {
             open: accepted.saturating_sub(ended),
             waiting: accepted.saturating_sub(taken),
             faults,
+            refused: self.refused.load(Ordering::SeqCst),
         }
     }
 }

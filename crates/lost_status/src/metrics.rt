@@ -157,6 +157,12 @@ fn write_connections(text: &mut String, connections: &Connections) -> Result<(),
         "lostd_faults_total",
         "Query connections that ended in a fault.",
         connections.faults,
+    )?;
+    write_counter(
+        text,
+        "lostd_connections_refused_total",
+        "Query connections that were closed at once, past a limit.",
+        connections.refused,
     )
 }
 

@@ -44,6 +44,7 @@ fn connections_of(alloc: Global, connections: &Connections) -> Result<Value, All
     json!(in alloc; {
         "accepted": connections.accepted,
         "open": connections.open,
+        "refused": connections.refused,
         "waiting": connections.waiting
     })
 }

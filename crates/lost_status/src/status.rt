@@ -77,6 +77,11 @@ impl Status {
         self.connections.count_ended(is_fault);
     }
 
+    /// Counts one more query connection that was closed at once, past a limit. It is not counted as accepted.
+    pub fn count_refused(&self) {
+        self.connections.count_refused();
+    }
+
     /// Says that the server answers from its map. It stays so.
     pub fn set_ready(&self) {
         self.is_ready.store(true, Ordering::SeqCst);

@@ -36,7 +36,8 @@ fn run<
         + RandomSource
         + Clone
         + Send
-        + Sync,
+        + Sync
+        + 'static,
 >(rt: &R, is_terminal: bool) -> Result<(), ExitReason> {
     let mut words = Vec::new(rt.alloc());
     for word in env::args(rt).map_err(|error| ExitReason::of_words(&error))? {

@@ -4,8 +4,8 @@ ghost use Rattle.lostd.specs.ExitReasons.{serve_reason, map_reason};
 
 use lost_command::{ExitReason, ServeOrder};
 use lost_server::{
-    ConnectionSettings, Doors, MapFault, Ready, RunFault, ServeError, ServerFault, ServerOrder,
-    run_server,
+    ClientLimits, ConnectionSettings, Doors, MapFault, Ready, RunFault, ServeError, ServerFault,
+    ServerOrder, run_server,
 };
 use lost_sockets::{ListenError, Listener};
 use std::fs::Files;
@@ -33,7 +33,8 @@ pub(crate) fn serve_as_ordered<
         + RandomSource
         + Clone
         + Send
-        + Sync,
+        + Sync
+        + 'static,
 >(rt: &R, order: &ServeOrder<'_>, is_terminal: bool) -> Result<(), ExitReason> {
     let ordered = ServerOrder {
         name: &order.name,
@@ -46,6 +47,7 @@ pub(crate) fn serve_as_ordered<
         workers: order.workers,
         connections: order.connections,
         settings: settings_of(order),
+        limits: limits_of(order),
         shows_progress: is_terminal,
     };
     // Signals end the program, so nothing sets it.
@@ -80,6 +82,19 @@ fn settings_of(order: &ServeOrder<'_>) -> ConnectionSettings {
         idle: limit_of(order.idle),
         desk_idle: limit_of(order.desk_idle),
         is_quiet: order.is_quiet,
+    }
+}
+
+/// What query connections are limited to, as it is ordered.
+fn limits_of(order: &ServeOrder<'_>) -> ClientLimits {
+    ClientLimits {
+        line_time: limit_of(order.line_time),
+        reply_time: limit_of(order.reply_time),
+        most_connections: order.most_connections,
+        per_address: match order.per_address {
+            0 => None,
+            per_address => Some(per_address),
+        },
     }
 }
 

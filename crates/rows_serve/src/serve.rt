@@ -52,7 +52,8 @@ pub(crate) fn run<
         + Clone
         + Send
         + Sync
-        + AllocGlobal,
+        + AllocGlobal
+        + 'static,
 >(rt: &R) -> io::Result<()> {
     for scene in SCENES {
         println!(rt; "-- {scene}")?;

@@ -3,7 +3,7 @@ use super::guests::{many_clients, one_client, then_end, three_desks, two_probes}
 use super::ports::{Ports, Teller};
 use lost_mapping::Source;
 use lost_server::{
-    ConnectionSettings, Counts, MapFault, RunFault, ServerFault, ServerOrder, run_server,
+    ClientLimits, ConnectionSettings, Counts, MapFault, RunFault, ServerFault, ServerOrder, run_server,
 };
 use std::fs::Files;
 use std::io;
@@ -29,6 +29,14 @@ const IDLE: u64 = 30;
 /// How many workers there are.
 const WORKERS: u32 = 2;
 
+/// No limit that a client here could pass.
+const LIMITS: ClientLimits = ClientLimits {
+    line_time: None,
+    reply_time: None,
+    most_connections: 1_000,
+    per_address: None,
+};
+
 /// Who starts servers.
 #[derive(Clone, Copy)]
 pub(crate) struct Starter<'a, R> {
@@ -49,7 +57,8 @@ impl<
         + Clone
         + Send
         + Sync
-        + AllocGlobal,
+        + AllocGlobal
+        + 'static,
 > Starter<'_, R> {
     /// A server with a map, and no desk and no status.
     fn order<'m>(&'m self, map: Option<&'m str>) -> ServerOrder<'m> {
@@ -69,6 +78,7 @@ impl<
                 desk_idle: idle,
                 is_quiet: false,
             },
+            limits: LIMITS,
             shows_progress: false,
         }
     }
@@ -171,7 +181,8 @@ fn serve_told<
         + Clone
         + Send
         + Sync
-        + AllocGlobal,
+        + AllocGlobal
+        + 'static,
 >(rt: &R, order: &ServerOrder<'_>, ports: &Ports) -> Result<Counts, ServerFault> {
     let teller = Teller { rt, ports };
     run_server(rt, order, &teller, &ports.is_over)

@@ -1,0 +1,165 @@
+//! How many connections there may be, in all and of one address. Rules without a section are this profile's own.
+ghost use Rattle.std.specs.Prelude.{◌≡◌, ◌+◌, ◌-◌, ◌<◌, ◌≤◌, true, if◌then◌else◌};
+ghost use Rattle.lost_server.specs.Admission.{count_of, most_of};
+
+use std::alloc::Global;
+use std::collections::HashMap;
+use std::hash::RandomState;
+use std::net::IpAddr;
+
+/// A number of connections, and the most that it may be.
+#[derive(Drop)]
+pub(crate) struct Tally {
+    count: u32,
+    most: u32,
+    ghost within: { count ≤ most },
+}
+
+impl Tally {
+    /// No connection, of so many at most.
+    pub(crate) fn new(most: u32) -> Tally
+        ensures count { count_of result ≡ 0 }
+        ensures most { most_of result ≡ most }
+    {
+        Tally { count: 0, most }
+    }
+
+    /// Whether there is no connection.
+    fn is_empty(&self) -> bool {
+        self.count == 0
+    }
+
+    /// Counts one more, unless there are as many as there may be. Says whether it was counted.
+    pub(crate) fn add(&mut self) -> bool
+        ensures room { result ≡ true → count_of self.old < most_of self.old }
+        ensures count { count_of self.new ≡ (if result then count_of self.old + 1 else count_of self.old) }
+        ensures most { most_of self.new ≡ most_of self.old }
+    {
+        if self.count >= self.most {
+            return false;
+        }
+        self.count += 1;
+        true
+    }
+
+    /// Counts one less.
+    pub(crate) fn take(&mut self)
+        ensures count { count_of self.new ≡ count_of self.old - 1 }
+        ensures most { most_of self.new ≡ most_of self.old }
+    {
+        self.count = self.count.saturating_sub(1);
+    }
+}
+
+/// Why a connection is not let in.
+#[derive(Clone, Copy, PartialEq, Eq, Debug)]
+pub(crate) enum Refusal {
+    /// There are as many as there may be.
+    Most,
+    /// There are as many of its address as there may be.
+    MostOfAddress,
+    /// Memory ran out.
+    Memory,
+}
+
+impl Refusal {
+    /// What is said of a connection that is closed for it.
+    pub(crate) fn text(self) -> &'static str {
+        match self {
+            Refusal::Most => "refused: --most-connections are open",
+            Refusal::MostOfAddress => "refused: --per-address of its address are open",
+            Refusal::Memory => "refused: memory ran out",
+        }
+    }
+}
+
+/// The connections that are let in: how many, in all and of each address.
+#[derive(Drop)]
+pub(crate) struct Admission {
+    all: Tally,
+    most_of_address: Option<u32>,
+    by_address: HashMap<IpAddr, Tally, RandomState>,
+}
+
+impl Admission {
+    /// No connection, of so many at most, and so many of one address; `None` for any number of it. Addresses are hashed by
+    /// `keys`, which no client knows.
+    pub(crate) fn new(
+        alloc: Global,
+        most: u32,
+        most_of_address: Option<u32>,
+        keys: RandomState,
+    ) -> Admission {
+        Admission {
+            all: Tally::new(most),
+            most_of_address,
+            by_address: HashMap::with_hasher(alloc, keys),
+        }
+    }
+
+    /// Lets a connection of an address in, or of none, which has no limit of its own.
+    ///
+    /// # Errors
+    ///
+    /// [`Refusal`], by which nothing changes.
+    pub(crate) fn enter(&mut self, address: Option<IpAddr>) -> Result<(), Refusal> {
+        if !self.all.add() {
+            return Err(Refusal::Most);
+        }
+        let entered = self.enter_address(address);
+        if entered.is_err() {
+            self.all.take();
+        }
+        entered
+    }
+
+    /// Counts one more connection of an address.
+    fn enter_address(&mut self, address: Option<IpAddr>) -> Result<(), Refusal> {
+        let (Some(address), Some(most)) = (address, self.most_of_address) else {
+            return Ok(());
+        };
+        let has_room = match self.by_address.get_mut(&address) {
+            Some(tally) => tally.add(),
+            None => return self.begin_address(address, most),
+        };
+        if has_room {
+            Ok(())
+        } else {
+            Err(Refusal::MostOfAddress)
+        }
+    }
+
+    /// Counts the first connection of an address.
+    fn begin_address(&mut self, address: IpAddr, most: u32) -> Result<(), Refusal> {
+        let mut tally = Tally::new(most);
+        if !tally.add() {
+            return Err(Refusal::MostOfAddress);
+        }
+        match self.by_address.insert(address, tally) {
+            Ok(_) => Ok(()),
+            Err(_) => Err(Refusal::Memory),
+        }
+    }
+
+    /// Counts that a connection of an address, or of none, has ended.
+    pub(crate) fn leave(&mut self, address: Option<IpAddr>) {
+        self.all.take();
+        if let Some(address) = address {
+            self.leave_address(address);
+        }
+    }
+
+    /// Counts one less connection of an address. One that has none is forgotten.
+    fn leave_address(&mut self, address: IpAddr) {
+        let is_last = match self.by_address.get_mut(&address) {
+            Some(tally) => {
+                tally.take();
+                tally.is_empty()
+            }
+            None => false,
+        };
+        if is_last {
+            let _last = self.by_address.remove(&address);
+        }
+    }
+}

@@ -1,0 +1,217 @@
+//! The two ends of a desk's connection, while it is its turn. Rules without a section are this profile's own.
+use crate::desk_turns::DeskDoor;
+use crate::strangers::{MOST_LOOKED_AT, stranger_text};
+use lost_sockets::Stream;
+use memchr::memrchr;
+use std::alloc::Global;
+use std::io;
+use std::io::{ErrorKind, Read, Write};
+use std::sync::Wait;
+use std::time::{Clock, Duration};
+
+/// For how long a desk has its turn without a whole line, in seconds: from its start, and once another one waits from its
+/// last line.
+const TURN: u64 = 10;
+
+/// For how long a read or a write waits before it is looked whether the turn is over, in milliseconds.
+const LOOK: u64 = 250;
+
+/// The turn of a desk.
+#[derive(Drop)]
+pub(crate) struct DeskTurn<'t, 'l, R> {
+    pub(crate) rt: &'t R,
+    pub(crate) door: &'t DeskDoor<'l>,
+    pub(crate) stream: &'t Stream,
+    /// For how long a read or a write may wait; `None` for ever.
+    pub(crate) idle: Option<Duration>,
+}
+
+impl<R: Wait + Clock> DeskTurn<'_, '_, R> {
+    /// Has reads and writes wait no longer than until it is looked whether the turn is over. Says whether that could be set.
+    pub(crate) fn begin(&self) -> bool {
+        self.stream.limit_waiting(Some(Duration::from_millis(LOOK)))
+    }
+
+    /// The moment, of the monotonic clock; the one before where it cannot be read.
+    fn now(&self, before: Duration) -> Duration {
+        self.rt.monotonic().unwrap_or(before)
+    }
+
+    /// Whether the time that a read or a write may wait has passed.
+    fn is_idle(&self, since: Duration, now: Duration) -> bool {
+        match self.idle {
+            Some(idle) => now.saturating_sub(since) >= idle,
+            None => false,
+        }
+    }
+
+    /// Whether the time of a turn has passed.
+    fn is_long(since: Duration, now: Duration) -> bool {
+        now.saturating_sub(since) >= Duration::from_secs(TURN)
+    }
+
+    /// Whether another desk waits.
+    fn is_waited_for(&self) -> bool {
+        self.door.is_waited_at(self.rt)
+    }
+}
+
+/// What the lines of a desk are read from. A read fails once the turn is over, or where it is seen that this is no desk.
+#[derive(Drop)]
+pub(crate) struct TurnInput<'t, 'l, R> {
+    turn: &'t DeskTurn<'t, 'l, R>,
+    /// The first bytes that came.
+    front: Vec<u8>,
+    /// Since when a whole line is waited for.
+    since: Duration,
+    /// Whether a whole line has come, and whether one ended in the last read.
+    has_line: bool,
+    is_at_line: bool,
+    /// Why the turn is over.
+    cause: Option<&'static str>,
+}
+
+impl<'t, 'l, R: Wait + Clock> TurnInput<'t, 'l, R> {
+    /// The input of a turn that begins.
+    pub(crate) fn new(alloc: Global, turn: &'t DeskTurn<'t, 'l, R>) -> TurnInput<'t, 'l, R> {
+        TurnInput {
+            turn,
+            front: Vec::new(alloc),
+            since: turn.now(Duration::ZERO),
+            has_line: false,
+            is_at_line: false,
+            cause: None,
+        }
+    }
+
+    /// Why the turn is over, where this end found it.
+    pub(crate) fn cause(&self) -> Option<&'static str> {
+        self.cause
+    }
+
+    /// Why the turn is over at this moment, where nothing came since another one.
+    fn passed(&self, heard: Duration, now: Duration) -> Option<&'static str> {
+        if self.turn.is_idle(heard, now) {
+            return Some("it sent nothing for too long");
+        }
+        if !DeskTurn::<R>::is_long(self.since, now) {
+            return None;
+        }
+        if !self.has_line {
+            return Some("it sent no whole line within 10 seconds");
+        }
+        if self.turn.is_waited_for() {
+            return Some("it sent no whole line for 10 seconds, and another desk waits");
+        }
+        None
+    }
+
+    /// Looks at bytes that came, and gives why the turn is over where they are none of a desk.
+    fn look_at(&mut self, bytes: &[u8]) -> Option<&'static str> {
+        if memrchr(b'\n', bytes).is_some() {
+            self.has_line = true;
+            self.is_at_line = true;
+        }
+        let room = MOST_LOOKED_AT.saturating_sub(self.front.len());
+        if room == 0 {
+            return None;
+        }
+        let count = room.min(bytes.len());
+        if self.front.extend_from_slice(&bytes[..count]).is_err() {
+            return None;
+        }
+        stranger_text(self.front.as_slice())
+    }
+
+    /// Ends the turn.
+    fn end(&mut self, cause: &'static str) -> io::Error {
+        self.cause = Some(cause);
+        io::Error::from(ErrorKind::TimedOut)
+    }
+}
+
+impl<R: Wait + Clock> Read for TurnInput<'_, '_, R> {
+    fn read(&mut self, buf: &mut [u8]) -> io::Result<usize> {
+        let heard = self.turn.now(self.since);
+        if self.is_at_line {
+            self.since = heard;
+            self.is_at_line = false;
+        }
+        for _ in self.turn.rt.forever() {
+            let now = self.turn.now(heard);
+            if let Some(cause) = self.passed(heard, now) {
+                return Err(self.end(cause));
+            }
+            let mut stream = self.turn.stream;
+            match stream.read(buf) {
+                Ok(count) => {
+                    return match self.look_at(&buf[..count]) {
+                        Some(cause) => Err(self.end(cause)),
+                        None => Ok(count),
+                    };
+                }
+                Err(error) if is_of_waiting(error.kind()) => {}
+                Err(error) => return Err(error),
+            }
+        }
+        Ok(0)
+    }
+}
+
+/// What the replies to a desk are written to. A write fails once the turn is over.
+#[derive(Drop)]
+pub(crate) struct TurnOutput<'t, 'l, R> {
+    turn: &'t DeskTurn<'t, 'l, R>,
+    cause: Option<&'static str>,
+}
+
+impl<'t, 'l, R: Wait + Clock> TurnOutput<'t, 'l, R> {
+    /// The output of a turn that begins.
+    pub(crate) fn new(turn: &'t DeskTurn<'t, 'l, R>) -> TurnOutput<'t, 'l, R> {
+        TurnOutput { turn, cause: None }
+    }
+
+    /// Why the turn is over, where this end found it.
+    pub(crate) fn cause(&self) -> Option<&'static str> {
+        self.cause
+    }
+
+    /// Why the turn is over at this moment, where nothing was taken since another one.
+    fn passed(&self, since: Duration, now: Duration) -> Option<&'static str> {
+        if self.turn.is_idle(since, now) {
+            return Some("it took no reply for too long");
+        }
+        if DeskTurn::<R>::is_long(since, now) && self.turn.is_waited_for() {
+            return Some("it took no reply for 10 seconds, and another desk waits");
+        }
+        None
+    }
+}
+
+impl<R: Wait + Clock> Write for TurnOutput<'_, '_, R> {
+    fn write(&mut self, buf: &[u8]) -> io::Result<usize> {
+        let since = self.turn.now(Duration::ZERO);
+        for _ in self.turn.rt.forever() {
+            let mut stream = self.turn.stream;
+            match stream.write(buf) {
+                Err(error) if is_of_waiting(error.kind()) => {}
+                written => return written,
+            }
+            let now = self.turn.now(since);
+            if let Some(cause) = self.passed(since, now) {
+                self.cause = Some(cause);
+                return Err(io::Error::from(ErrorKind::TimedOut));
+            }
+        }
+        Ok(0)
+    }
+
+    fn flush(&mut self) -> io::Result<()> {
+        Ok(())
+    }
+}
+
+/// Whether an error says that a read or a write waited for too long.
+pub(crate) fn is_of_waiting(kind: ErrorKind) -> bool {
+    matches!(kind, ErrorKind::WouldBlock | ErrorKind::TimedOut)
+}

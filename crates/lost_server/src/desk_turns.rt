@@ -1,0 +1,51 @@
+//! How desks take turns. Rules without a section are this profile's own.
+use crate::accepting::accept_until;
+use lost_sockets::{Listener, Peer, Stream};
+use std::sync::atomic::AtomicBool;
+use std::sync::{Mutex, Wait};
+use std::time::Clock;
+
+/// Where desks come from, one after another, and the next of them where it has come. The listener does not wait.
+#[derive(Drop)]
+pub(crate) struct DeskDoor<'l> {
+    listener: &'l Listener,
+    next: Mutex<Option<(Stream, Peer)>>,
+}
+
+impl<'l> DeskDoor<'l> {
+    /// The door of a listener, at which nobody waits yet.
+    pub(crate) fn new(listener: &'l Listener) -> DeskDoor<'l> {
+        DeskDoor {
+            listener,
+            next: Mutex::new(None),
+        }
+    }
+
+    /// Whether another desk waits.
+    pub(crate) fn is_waited_at<R: Wait>(&self, rt: &R) -> bool {
+        let mut next = self.next.lock(rt);
+        if next.is_none()
+            && let Ok(accepted) = self.listener.accept_once()
+        {
+            *next = Some(accepted);
+        }
+        next.is_some()
+    }
+
+    /// Waits for the next desk, or until `is_over` is set.
+    pub(crate) fn next<R: Wait + Clock>(
+        &self,
+        rt: &R,
+        is_over: &AtomicBool,
+    ) -> Option<(Stream, Peer)> {
+        if let Some(waiting) = self.waiting(rt) {
+            return Some(waiting);
+        }
+        accept_until(rt, self.listener, is_over)
+    }
+
+    /// The desk that waits, where it was seen.
+    fn waiting<R: Wait>(&self, rt: &R) -> Option<(Stream, Peer)> {
+        self.next.lock(rt).take()
+    }
+}

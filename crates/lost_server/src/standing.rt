@@ -1,0 +1,173 @@
+//! The threads of a server that watches many connections. Rules without a section are this profile's own.
+ghost use Rattle.std.specs.Prelude.{◌≡◌, ◌≢◌, Err};
+
+use crate::arrivals::{Entrance, entrance_of, let_in_all};
+use crate::counting::Counting;
+use crate::desks::serve_desks;
+use crate::doors::Doors;
+use crate::hall::Hall;
+use crate::order::ClientLimits;
+use crate::run_fault::RunFault;
+use crate::serving::sum_of;
+use crate::shared::Shared;
+use crate::watching::Watcher;
+use crate::workers::{PLACES, told_reader};
+use lost_desk::{Desk, Readers};
+use lost_lines::Counts;
+use lost_worker::CachedReader;
+use std::alloc::{AllocError, Global};
+use std::hash::RandomState;
+use std::io::Eprint;
+use std::net::Net;
+use std::random::RandomSource;
+use std::sync::Wait;
+use std::sync::atomic::Ordering;
+use std::thread;
+use std::thread::Threads;
+use std::time::Clock;
+
+/// The most workers.
+const MAX_WORKERS: u32 = 64;
+
+/// What one worker has: its number, from 0, its reader, and the connections that it watches.
+#[derive(Drop)]
+struct StandingWorker {
+    number: usize,
+    reader: CachedReader<RandomState>,
+    watcher: Watcher,
+}
+
+/// Watches all connections that come, by a worker for each reader, until the server is over, and serves desks beside.
+pub(crate) fn watch_all<
+    R: Threads + Wait + Clock + Eprint + RandomSource + Net + Drop + Send + Sync,
+    G: Sync,
+>(
+    shared: &Shared<'_, R, G>,
+    limits: &ClientLimits,
+    doors: &Doors,
+    desk: &mut Desk,
+    readers: Readers,
+) -> Result<Counts, RunFault>
+    requires { readers.each.opening ≡ desk.old.opening }
+    ensures { result ≢ Err RunFault.Workers }
+{
+    let hall = Hall::new(shared.rt, shared.alloc, shared.settings.idle, limits)?;
+    let mut entrances = Vec::new(shared.alloc);
+    let workers = standing_workers(shared.rt, shared.alloc, desk, readers, &mut entrances)?;
+    in_threads(shared, &hall, workers, doors, desk, entrances)
+}
+
+/// A worker for each reader, which begins with what the desk has published, and keeps places by hashes of its own, which no
+/// client knows. Adds the entrance of each.
+fn standing_workers<R: RandomSource + Net>(
+    rt: &R,
+    alloc: Global,
+    desk: &mut Desk,
+    mut readers: Readers,
+    entrances: &mut Vec<Entrance>,
+) -> Result<Vec<StandingWorker>, AllocError>
+    requires { readers.each.opening ≡ desk.old.opening }
+    ensures { desk.new ≡ desk.old }
+{
+    let mut workers = Vec::new(alloc);
+    for number in 0..MAX_WORKERS as usize {
+        let Some(reader) = told_reader(desk, &mut readers) else {
+            break;
+        };
+        let Ok(hasher) = RandomState::new(rt) else {
+            return Err(AllocError);
+        };
+        let Ok(reader) = CachedReader::with_hasher(alloc, reader, PLACES, hasher) else {
+            return Err(AllocError);
+        };
+        let (entrance, arrivals, poll) = entrance_of(rt, alloc)?;
+        entrances.push(entrance)?;
+        workers.push(StandingWorker {
+            number,
+            reader,
+            watcher: Watcher::new(alloc, arrivals, poll)?,
+        })?;
+    }
+    Ok(workers)
+}
+
+/// Starts a thread for each worker and one for desks, accepts connections in this thread until the server is over, and
+/// waits for all threads. Gives the sum of what was counted.
+fn in_threads<R: Threads + Wait + Clock + Eprint + Drop + Send + Sync, G: Sync>(
+    shared: &Shared<'_, R, G>,
+    hall: &Hall,
+    workers: Vec<StandingWorker>,
+    doors: &Doors,
+    desk: &mut Desk,
+    entrances: Vec<Entrance>,
+) -> Result<Counts, RunFault>
+    ensures { result ≢ Err RunFault.Workers }
+{
+    thread::scope(
+        thread::scope_env(),
+        shared.rt,
+        |scope| -> Result<Counts, RunFault>
+            ensures { result ≢ Err RunFault.Workers }
+        {
+            let mut entrances = entrances;
+            let mut threads = Vec::new(shared.alloc);
+            let mut is_short = false;
+            for worker in workers {
+                match scope.spawn(move || watch(shared, hall, worker)) {
+                    Ok(thread) => is_short = threads.push(thread).is_err() || is_short,
+                    Err(_) => is_short = true,
+                }
+            }
+            let desks = scope.spawn(move || edit(shared, doors, desk));
+            let handed = if is_short || desks.is_err() {
+                Err(RunFault::Memory)
+            } else {
+                let_in_all(shared, hall, &doors.queries, entrances.as_slice())
+            };
+            shared.is_over.store(true, Ordering::SeqCst);
+            close_all(&mut entrances);
+            let counts = sum_of(shared.rt, threads);
+            if let Ok(desks) = desks {
+                desks.join(shared.rt);
+            }
+            Ok(counts.plus(handed?))
+        },
+    )
+}
+
+/// Tells each worker that no further connections come.
+fn close_all(entrances: &mut Vec<Entrance>) {
+    for entrance in entrances.iter_mut() {
+        entrance.close();
+    }
+}
+
+/// What the thread of a worker does: it serves connections until no further ones come, and gives what it counted.
+fn watch<R: Wait + Clock + Eprint + Drop, G>(
+    shared: &Shared<'_, R, G>,
+    hall: &Hall,
+    worker: StandingWorker,
+) -> Counts {
+    let StandingWorker {
+        number,
+        mut reader,
+        mut watcher,
+    } = worker;
+    match shared.status.worker(number) {
+        Some(counts) if shared.counts_replies => {
+            let mut counting = Counting {
+                reader: &mut reader,
+                counts,
+            };
+            watcher.watch(shared, hall, Some(counts), &mut counting)
+        }
+        _ => watcher.watch(shared, hall, None, &mut reader),
+    }
+}
+
+/// What the thread of the desk does: it serves one desk after another, where there may be any.
+fn edit<R: Wait + Clock + Eprint + Drop, G>(shared: &Shared<'_, R, G>, doors: &Doors, desk: &mut Desk) {
+    if let Some(listener) = &doors.desk {
+        serve_desks(shared, listener, desk);
+    }
+}

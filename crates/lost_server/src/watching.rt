@@ -1,0 +1,411 @@
+//! The loop of a worker that watches many connections. Rules without a section are this profile's own.
+ghost use Rattle.std.specs.Prelude.{◌<◌, length};
+
+use crate::arrivals::{ARRIVALS, Arrival};
+use crate::clock::MachineClock;
+use crate::deadlines::{Passed, Shown, Times};
+use crate::hall::Hall;
+use crate::halves::{InHalf, OutHalf, halves_of};
+use crate::shared::Shared;
+use crossbeam_channel::{Receiver, TryRecvError};
+use lost_connections::{Client, ClientFault, Clients, Progress, Seat};
+use lost_lines::Counts;
+use lost_sockets::{Peer, Stream};
+use lost_status::WorkerCounts;
+use lost_worker::{Moments, Replier};
+use mio::unix::SourceFd;
+use mio::{Events, Interest, Poll, Token};
+use std::alloc::{AllocError, Global};
+use std::collections::VecDeque;
+use std::io::Eprint;
+use std::sync::Wait;
+use std::thread::sleep;
+use std::time::{Clock, Duration};
+
+/// The most bytes of one read, and so the most of one burst.
+const CHUNK: usize = 8_192;
+
+/// The most events that are reported at once.
+const MOST_EVENTS: usize = 1_024;
+
+/// How often in a row it is asked for further events, where as many came as are reported at once.
+const MOST_POLLS: u32 = 256;
+
+/// How often it is looked which connections have passed a limit, in milliseconds.
+const SWEEP: u64 = 250;
+
+/// How long to wait where it cannot be waited for events, in milliseconds.
+const PAUSE: u64 = 20;
+
+/// What a worker notes of a connection.
+#[derive(Drop)]
+struct Note {
+    /// Its number, from 1.
+    number: u64,
+    peer: Peer,
+    /// Whether it is among those that are to be served at once.
+    is_queued: bool,
+    /// How often bytes had come, and the ends of lines, and how many bytes were taken, when it was last looked at.
+    reads: u64,
+    ends: u64,
+    taken: u64,
+    times: Times,
+}
+
+impl Note {
+    /// What is noted of a connection that begins now.
+    fn new(number: u64, peer: Peer, now: Duration) -> Note {
+        Note {
+            number,
+            peer,
+            is_queued: false,
+            reads: 0,
+            ends: 0,
+            taken: 0,
+            times: Times::at(now),
+        }
+    }
+}
+
+/// The connections that one worker watches: those that come, all of them, and those that are to be served at once.
+#[derive(Drop)]
+pub(crate) struct Watcher {
+    arrivals: Receiver<Arrival>,
+    poll: Poll,
+    events: Events,
+    clients: Clients<InHalf, OutHalf, Note>,
+    queue: VecDeque<usize>,
+    chunk: Vec<u8>,
+    /// The moment of this round, of the monotonic clock.
+    now: Duration,
+    /// When it was last looked which connections have passed a limit.
+    swept: Duration,
+    /// Whether no further ones come.
+    is_closing: bool,
+    counts: Counts,
+    ghost room: { 0 < length chunk.items },
+}
+
+impl Watcher {
+    /// No connection, where those come from `arrivals` of which `poll` is told.
+    pub(crate) fn new(
+        alloc: Global,
+        arrivals: Receiver<Arrival>,
+        poll: Poll,
+    ) -> Result<Watcher, AllocError> {
+        Ok(Watcher {
+            arrivals,
+            poll,
+            events: Events::with_capacity(alloc, MOST_EVENTS)?,
+            clients: Clients::new(alloc),
+            queue: VecDeque::new(alloc),
+            chunk: Vec::from_elem(alloc, 0, CHUNK)?,
+            now: Duration::ZERO,
+            swept: Duration::ZERO,
+            is_closing: false,
+            counts: Counts::default(),
+        })
+    }
+
+    /// Serves connections until no further ones come and all have ended, and gives what was counted.
+    pub(crate) fn watch<R: Wait + Clock + Eprint + Drop, P: Replier, G>(
+        &mut self,
+        shared: &Shared<'_, R, G>,
+        hall: &Hall,
+        counts: Option<&WorkerCounts>,
+        replier: &mut P,
+    ) -> Counts {
+        let mut moments = MachineClock::new(shared.rt);
+        for _ in shared.rt.forever() {
+            self.wait(shared, hall);
+            set_busy(counts, true);
+            self.serve_queued(shared, hall, replier, &mut moments);
+            set_busy(counts, false);
+            self.sweep(shared, hall);
+            if self.is_closing && self.clients.is_empty() {
+                break;
+            }
+        }
+        self.counts
+    }
+
+    /// Waits until something is to be done, and takes what has come.
+    fn wait<R: Wait + Clock + Eprint + Drop, G>(&mut self, shared: &Shared<'_, R, G>, hall: &Hall) {
+        let mut patience = self.patience(hall);
+        let mut have_come = false;
+        for _ in 0..MOST_POLLS {
+            if self.poll.poll(&mut self.events, patience).is_err() {
+                sleep(shared.rt, Duration::from_millis(PAUSE));
+                break;
+            }
+            patience = Some(Duration::ZERO);
+            have_come = self.queue_ready() || have_come;
+            if self.events.iter().count() < MOST_EVENTS {
+                break;
+            }
+        }
+        self.now = shared.rt.monotonic().unwrap_or(self.now);
+        if have_come {
+            self.take_arrivals(shared, hall);
+        }
+    }
+
+    /// For how long nothing may be done: for ever where nobody is there who could pass a limit.
+    fn patience(&self, hall: &Hall) -> Option<Duration> {
+        if !self.queue.is_empty() {
+            return Some(Duration::ZERO);
+        }
+        if self.clients.is_empty() || hall.limits.are_none() {
+            return None;
+        }
+        Some(Duration::from_millis(SWEEP))
+    }
+
+    /// Queues the connections at which something happened. Says whether further ones came.
+    fn queue_ready(&mut self) -> bool {
+        let mut have_come = false;
+        for event in self.events.iter() {
+            let token = event.token();
+            if token == ARRIVALS {
+                have_come = true;
+            } else {
+                queue_once(&mut self.clients, &mut self.queue, token.0);
+            }
+        }
+        have_come
+    }
+
+    /// Takes the connections that have come.
+    fn take_arrivals<R: Wait + Clock + Eprint + Drop, G>(
+        &mut self,
+        shared: &Shared<'_, R, G>,
+        hall: &Hall,
+    ) {
+        for _ in 0..u64::MAX {
+            match self.arrivals.try_recv(shared.rt) {
+                Ok(arrival) => self.take(shared, hall, arrival),
+                Err(TryRecvError::Empty) => return,
+                Err(TryRecvError::Disconnected) => {
+                    self.is_closing = true;
+                    return;
+                }
+            }
+        }
+    }
+
+    /// Takes a connection, or closes it where memory runs out.
+    fn take<R: Wait + Clock + Eprint + Drop, G>(
+        &mut self,
+        shared: &Shared<'_, R, G>,
+        hall: &Hall,
+        arrival: Arrival,
+    ) {
+        let Arrival {
+            stream,
+            number,
+            peer,
+        } = arrival;
+        shared.status.count_taken();
+        if !self.seat(shared.alloc, stream, Note::new(number, peer, self.now)) {
+            hall.leave(shared.rt, peer.address());
+            self.count_ended(
+                shared,
+                number,
+                &peer,
+                Some("no worker could take it: memory ran out"),
+            );
+        }
+    }
+
+    /// Watches a connection from here on. Says whether it could be; else it is closed.
+    fn seat(&mut self, alloc: Global, stream: Stream, note: Note) -> bool {
+        let fd = stream.raw_fd();
+        if stream.set_nonblocking(true).is_err() {
+            return false;
+        }
+        let Ok((input, output)) = halves_of(alloc, stream) else {
+            return false;
+        };
+        // Each is queued once at most, so that there is room for all.
+        if self
+            .queue
+            .reserve(self.clients.len().saturating_add(1))
+            .is_err()
+        {
+            return false;
+        }
+        let Ok(key) = self
+            .clients
+            .insert(Client::new(alloc, input, output), note)
+        else {
+            return false;
+        };
+        let interest = Interest::READABLE | Interest::WRITABLE;
+        if self
+            .poll
+            .registry()
+            .register(&mut SourceFd(&fd), Token(key), interest)
+            .is_err()
+        {
+            let _closed = self.clients.remove(key);
+            return false;
+        }
+        queue_once(&mut self.clients, &mut self.queue, key);
+        true
+    }
+
+    /// Serves a burst of each connection that is queued.
+    fn serve_queued<R: Wait + Clock + Eprint + Drop, P: Replier, M: Moments, G>(
+        &mut self,
+        shared: &Shared<'_, R, G>,
+        hall: &Hall,
+        replier: &mut P,
+        moments: &mut M,
+    ) {
+        for _ in 0..self.queue.len() {
+            if let Some(key) = self.queue.pop_front() {
+                self.serve(shared, hall, key, replier, moments);
+            }
+        }
+    }
+
+    /// Serves a burst of a connection. Where more may be there at once, it is queued behind the others.
+    fn serve<R: Wait + Clock + Eprint + Drop, P: Replier, M: Moments, G>(
+        &mut self,
+        shared: &Shared<'_, R, G>,
+        hall: &Hall,
+        key: usize,
+        replier: &mut P,
+        moments: &mut M,
+    ) {
+        if let Some(seat) = self.clients.get_mut(key) {
+            seat.note.is_queued = false;
+        }
+        let served = self.clients.serve(
+            key,
+            shared.alloc,
+            &mut self.chunk,
+            replier,
+            shared.name,
+            moments,
+        );
+        match served {
+            None => {}
+            Some(Ok(Progress::Over)) => self.end(shared, hall, key, None),
+            Some(Err(fault)) => self.end(shared, hall, key, Some(fault_text(fault))),
+            Some(Ok(progress)) => {
+                self.look_at(key);
+                if progress == Progress::More {
+                    queue_once(&mut self.clients, &mut self.queue, key);
+                }
+            }
+        }
+    }
+
+    /// Notes what a burst showed of a connection.
+    fn look_at(&mut self, key: usize) {
+        let now = self.now;
+        if let Some(seat) = self.clients.get_mut(key) {
+            let shown = shown_of(seat);
+            seat.note.times = seat.note.times.after(&shown, now);
+            seat.note.reads = seat.client.input().reads();
+            seat.note.ends = seat.client.input().ends();
+            seat.note.taken = seat.client.output().taken();
+        }
+    }
+
+    /// Closes the connections that have passed a limit, where it is time to look.
+    fn sweep<R: Wait + Clock + Eprint + Drop, G>(&mut self, shared: &Shared<'_, R, G>, hall: &Hall) {
+        if self.now.saturating_sub(self.swept) < Duration::from_millis(SWEEP) {
+            return;
+        }
+        self.swept = self.now;
+        for key in 0..self.clients.bound() {
+            if let Some(passed) = self.passed_at(hall, key) {
+                self.end(shared, hall, key, Some(passed.text()));
+            }
+        }
+    }
+
+    /// The limit that the connection under a key has passed, if it has.
+    fn passed_at(&self, hall: &Hall, key: usize) -> Option<Passed> {
+        let seat = self.clients.get(key)?;
+        seat.note.times.passed(&hall.limits, self.now)
+    }
+
+    /// Closes a connection, whose cause is said where it is a fault.
+    fn end<R: Wait + Clock + Eprint + Drop, G>(
+        &mut self,
+        shared: &Shared<'_, R, G>,
+        hall: &Hall,
+        key: usize,
+        cause: Option<&'static str>,
+    ) {
+        let Some(seat) = self.clients.remove(key) else {
+            return;
+        };
+        let lines = seat.client.output().lines();
+        self.counts.lines = self.counts.lines.saturating_add(lines);
+        hall.leave(shared.rt, seat.note.peer.address());
+        self.count_ended(shared, seat.note.number, &seat.note.peer, cause);
+    }
+
+    /// Counts that a connection has ended, and says the cause where it is a fault.
+    fn count_ended<R: Wait + Clock + Eprint + Drop, G>(
+        &mut self,
+        shared: &Shared<'_, R, G>,
+        number: u64,
+        peer: &Peer,
+        cause: Option<&'static str>,
+    ) {
+        shared.status.count_ended(cause.is_some());
+        if let Some(cause) = cause {
+            self.counts = self.counts.plus(Counts::of_fault());
+            shared.notices.say_of_query(number, peer, cause);
+        }
+    }
+}
+
+/// Queues a connection behind those that are to be served at once, unless it is among them.
+fn queue_once(
+    clients: &mut Clients<InHalf, OutHalf, Note>,
+    queue: &mut VecDeque<usize>,
+    key: usize,
+) {
+    if let Some(seat) = clients.get_mut(key)
+        && !seat.note.is_queued
+        && queue.push_back(key).is_ok()
+    {
+        seat.note.is_queued = true;
+    }
+}
+
+/// What a connection shows since it was last looked at.
+fn shown_of(seat: &Seat<InHalf, OutHalf, Note>) -> Shown {
+    let (input, output) = (seat.client.input(), seat.client.output());
+    let has_taken = output.taken() != seat.note.taken;
+    Shown {
+        has_moved: has_taken || input.reads() != seat.note.reads,
+        has_taken,
+        has_ended_line: input.ends() != seat.note.ends,
+        has_begun: seat.client.has_begun(),
+        has_unsent: seat.client.has_unsent(),
+        is_held: seat.client.is_held(),
+    }
+}
+
+/// Says in the status whether a worker serves.
+fn set_busy(counts: Option<&WorkerCounts>, is_busy: bool) {
+    if let Some(counts) = counts {
+        counts.set_busy(is_busy);
+    }
+}
+
+/// What is said of a connection that cannot be served further.
+fn fault_text(fault: ClientFault) -> &'static str {
+    match fault {
+        ClientFault::Read => "it could not be read",
+        ClientFault::Write => "it could not be written",
+        ClientFault::Memory => "memory ran out",
+    }
+}
