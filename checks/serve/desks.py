@@ -99,7 +99,7 @@ def counted_as(server, books, counted):
     status = server.quiet_status()
     replies, made = sum(one.replies for one in counted), sum(one.connections for one in counted)
     wrong = differs("replies counted", sum(status["replies"].values()), replies)
-    wrong += differs("connections counted", status["connections"], {"open": 0, "waiting": 0, "accepted": made})
+    wrong += differs("connections counted", status["connections"], {"open": 0, "waiting": 0, "refused": 0, "accepted": made})
     wrong += differs("faults counted", status["faults"], 0) + differs("pending", status["pending"], 0)
     return wrong + differs("edition", status["edition"], books.last())
 

@@ -125,8 +125,8 @@ class Running:
     queries = desk_port = None
     made = 0
 
-    def __init__(self, program, words, megabytes=None):
-        self.errors = tempfile.TemporaryFile()
+    def __init__(self, program, words, megabytes=None, errors=None):
+        self.errors = tempfile.TemporaryFile() if errors is None else errors
         self.process = subprocess.Popen(
             ["lostd", "serve", "--name", NAME, *words],
             executable=program,
@@ -139,7 +139,8 @@ class Running:
         self.first_line = self.process.stdout.readline()
         if self.first_line != b"ready\n":
             self.stop()
-            raise Ended(f"the server did not begin: {self.first_line!r} {self.said()}")
+            said = self.said() if errors is None else ""
+            raise Ended(f"the server did not begin: {self.first_line!r} {said}")
 
     def __enter__(self):
         return self
@@ -208,10 +209,10 @@ class Server(Running):
 class Standing(Running):
     """A server without end: desks one after another, as many query connections as come, and a status."""
 
-    def __init__(self, program, workers, *more):
+    def __init__(self, program, workers, *more, errors=None):
         self.queries, self.desk_port, self.status_port = free_ports(3)
         words = [*addresses(self.queries, self.desk_port), "--status", f"127.0.0.1:{self.status_port}"]
-        super().__init__(program, [*words, "--workers", str(workers), *more])
+        super().__init__(program, [*words, "--workers", str(workers), *more], errors=errors)
 
     def status(self):
         """What the server says of itself."""

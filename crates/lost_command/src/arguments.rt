@@ -152,22 +152,6 @@ fn serve_command<'a>(alloc: Global) -> Result<Command<'a>, Error> {
         ))?
         .arg(seconds_argument(
             alloc,
-            "line-time",
-            "In how many seconds a line must be whole after its first byte, so that nobody keeps room by sending slowly: 0 to \
-86400, 0 for any; not with --connections",
-            "10",
-        ).conflicts_with("connections")?)?
-        .arg(seconds_argument(
-            alloc,
-            "reply-time",
-            "For how many seconds a client may take no byte of its waiting replies, which keep room: 0 to 86400, 0 for ever; not \
-with --connections",
-            "30",
-        ).conflicts_with("connections")?)?
-        .arg(most_connections_argument(alloc)?)?
-        .arg(per_address_argument(alloc)?)?
-        .arg(seconds_argument(
-            alloc,
             "desk-idle",
             "The same of a desk's connection, which keeps all other desks out",
             "0",
@@ -177,6 +161,30 @@ with --connections",
             "quiet",
             "Says nothing of connections that end in a fault",
         ))?;
+    limited(alloc, command)
+}
+
+/// The limits of the connections of a server that has no number of them.
+fn limited<'a>(alloc: Global, command: Command<'a>) -> Result<Command<'a>, Error> {
+    let line_time = seconds_argument(
+        alloc,
+        "line-time",
+        "In how many seconds a line must be whole after its first byte, so that nobody keeps room by sending slowly: 0 to 86400, \
+0 for any; not with --connections",
+        "10",
+    );
+    let reply_time = seconds_argument(
+        alloc,
+        "reply-time",
+        "For how many seconds a client may take no byte of its waiting replies, which keep room: 0 to 86400, 0 for ever; not \
+with --connections",
+        "30",
+    );
+    let command = command
+        .arg(line_time.conflicts_with("connections")?)?
+        .arg(reply_time.conflicts_with("connections")?)?
+        .arg(most_connections_argument(alloc).conflicts_with("connections")?)?
+        .arg(per_address_argument(alloc).conflicts_with("connections")?)?;
     Ok(command)
 }
 
@@ -243,29 +251,24 @@ fn connections_argument<'a>(alloc: Global) -> Arg<'a> {
     .value_parser(value_parser!(u32).range(1..=1_000_000))
 }
 
-fn most_connections_argument<'a>(alloc: Global) -> Result<Arg<'a>, Error> {
-    let argument = number_argument(
+fn most_connections_argument<'a>(alloc: Global) -> Arg<'a> {
+    number_argument(
         alloc,
         "most-connections",
         "How many query connections may be open, since each takes room and a file: 1 to 1000000; not with --connections",
     )
     .value_parser(value_parser!(u32).range(1..=1_000_000))
     .default_value("65536")
-    .conflicts_with("connections")?;
-    Ok(argument)
 }
 
-fn per_address_argument<'a>(alloc: Global) -> Result<Arg<'a>, Error> {
-    let argument = number_argument(
+fn per_address_argument<'a>(alloc: Global) -> Arg<'a> {
+    number_argument(
         alloc,
         "per-address",
-        "How many of one address may be, so that no client keeps the others out: 0 to 1000000, 0 for any; not with \
---connections",
+        "How many of one address may be, so that no client keeps the others out: 0 to 1000000, 0 for any; not with --connections",
     )
     .value_parser(value_parser!(u32).range(0..=1_000_000))
     .default_value("1024")
-    .conflicts_with("connections")?;
-    Ok(argument)
 }
 
 fn seconds_argument<'a>(

@@ -36,7 +36,10 @@ pub(crate) fn notices_of<R: Wait + Clock + Eprint + Clone>(
     mouth: Option<Mouth>,
 ) -> Result<Arc<Notices<R>>, AllocError> {
     let status = Arc::try_clone(status)?;
-    match Arc::new(alloc, Notices::new(rt.clone()?, alloc, is_quiet, status, mouth)) {
+    match Arc::new(
+        alloc,
+        Notices::new(rt.clone()?, alloc, is_quiet, status, mouth),
+    ) {
         Ok(notices) => Ok(notices),
         Err(_) => Err(AllocError),
     }

@@ -166,7 +166,11 @@ fn watch<R: Wait + Clock + Eprint + Drop, G>(
 }
 
 /// What the thread of the desk does: it serves one desk after another, where there may be any.
-fn edit<R: Wait + Clock + Eprint + Drop, G>(shared: &Shared<'_, R, G>, doors: &Doors, desk: &mut Desk) {
+fn edit<R: Wait + Clock + Eprint + Drop, G>(
+    shared: &Shared<'_, R, G>,
+    doors: &Doors,
+    desk: &mut Desk,
+) {
     if let Some(listener) = &doors.desk {
         serve_desks(shared, listener, desk);
     }

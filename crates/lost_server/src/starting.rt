@@ -265,7 +265,9 @@ fn answer<
     let Ok((mouth, voice)) = start_voice(rt, rt.alloc()) else {
         return Err(ServerFault::Run(RunFault::Memory));
     };
-    let result = answer_aloud(rt, order, ready, is_over, doors, desk, readers, status, mouth);
+    let result = answer_aloud(
+        rt, order, ready, is_over, doors, desk, readers, status, mouth,
+    );
     voice.finish(rt);
     result
 }
@@ -287,7 +289,8 @@ fn answer_aloud<
 ) -> Result<Counts, ServerFault>
     requires { readers.each.opening ≡ desk.old.opening }
 {
-    let Ok(notices) = notices_of(rt, rt.alloc(), order.settings.is_quiet, status, Some(mouth)) else {
+    let Ok(notices) = notices_of(rt, rt.alloc(), order.settings.is_quiet, status, Some(mouth))
+    else {
         return Err(ServerFault::Run(RunFault::Memory));
     };
     let shared = Shared {

@@ -13,6 +13,7 @@ const MOST_WAITING: usize = 256;
 
 /// How often it is looked at the end whether all lines are said, and how long to wait between, in milliseconds: 5 seconds.
 const LAST_LOOKS: u32 = 250;
+
 const PAUSE: u64 = 20;
 
 /// Where lines are given that are to be said.
@@ -122,5 +123,7 @@ impl Voice {
 
 /// The line about lines that were left out.
 fn left_out_line(alloc: Global, count: u64) -> Result<String, AllocError> {
-    format!(in alloc; "lostd: {count} lines were left out here: standard error took none for too long\n")
+    format!(in alloc;
+        "lostd: {count} lines were left out here: standard error took none for too long\n"
+    )
 }

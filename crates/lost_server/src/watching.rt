@@ -23,7 +23,7 @@ use std::thread::sleep;
 use std::time::{Clock, Duration};
 
 /// The most bytes of one read, and so the most of one burst.
-const CHUNK: usize = 8_192;
+const CHUNK: usize = 4_096;
 
 /// The most events that are reported at once.
 const MOST_EVENTS: usize = 1_024;
@@ -234,10 +234,7 @@ impl Watcher {
         {
             return false;
         }
-        let Ok(key) = self
-            .clients
-            .insert(Client::new(alloc, input, output), note)
-        else {
+        let Ok(key) = self.clients.insert(Client::new(alloc, input, output), note) else {
             return false;
         };
         let interest = Interest::READABLE | Interest::WRITABLE;
@@ -315,7 +312,11 @@ impl Watcher {
     }
 
     /// Closes the connections that have passed a limit, where it is time to look.
-    fn sweep<R: Wait + Clock + Eprint + Drop, G>(&mut self, shared: &Shared<'_, R, G>, hall: &Hall) {
+    fn sweep<R: Wait + Clock + Eprint + Drop, G>(
+        &mut self,
+        shared: &Shared<'_, R, G>,
+        hall: &Hall,
+    ) {
         if self.now.saturating_sub(self.swept) < Duration::from_millis(SWEEP) {
             return;
         }

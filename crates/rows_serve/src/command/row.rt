@@ -65,7 +65,7 @@ fn order_text(alloc: Global, order: &ServeOrder<'_>) -> Result<String, AllocErro
         None => String::from_str(alloc, "-"),
     }?;
     format!(in alloc;
-        "name={} map={} keep-going={} queries={} desk={} status={} mode={:o} workers={} connections={connections} idle={} desk-idle={} quiet={}\n",
+        "name={} map={} keep-going={} queries={} desk={} status={} mode={:o} workers={} connections={connections} idle={} desk-idle={} line-time={} reply-time={} most-connections={} per-address={} quiet={}\n",
         order.name.text(),
         order.map.unwrap_or("-"),
         order.keeps_going,
@@ -76,6 +76,10 @@ fn order_text(alloc: Global, order: &ServeOrder<'_>) -> Result<String, AllocErro
         order.workers,
         order.idle,
         order.desk_idle,
+        order.line_time,
+        order.reply_time,
+        order.most_connections,
+        order.per_address,
         order.is_quiet
     )
 }

@@ -3,7 +3,8 @@ use super::guests::{many_clients, one_client, then_end, three_desks, two_probes}
 use super::ports::{Ports, Teller};
 use lost_mapping::Source;
 use lost_server::{
-    ClientLimits, ConnectionSettings, Counts, MapFault, RunFault, ServerFault, ServerOrder, run_server,
+    ClientLimits, ConnectionSettings, Counts, MapFault, RunFault, ServerFault, ServerOrder,
+    run_server,
 };
 use std::fs::Files;
 use std::io;

@@ -7,6 +7,7 @@
 //! | `busy WORKER`, `idle WORKER` | a worker takes a connection, and is done with it |
 //! | `hits WORKER COUNT` | a worker's cache was of use so often |
 //! | `accepted`, `taken`, `ended`, `failed` | a query connection is accepted, is taken by a worker, ends well or in a fault |
+//! | `turned away` | a query connection is refused |
 //! | `refused CODE` | the desk refuses a line |
 //! | `book EDITION MAPPINGS PENDING` | what the desk holds |
 //! | `commit SECONDS` | the desk commits so many seconds after 1970 |
@@ -31,6 +32,7 @@ pub(crate) fn happen(
         "taken" => status.count_taken(),
         "ended" => status.count_ended(false),
         "failed" => status.count_ended(true),
+        "turned" => status.count_refused(),
         "after" => watch.pass(number_of(rest)),
         "ready" => status.set_ready(),
         _ => at_desk(event, status),
