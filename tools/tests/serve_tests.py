@@ -8,10 +8,11 @@ import socket
 import stat
 import subprocess
 import tempfile
+import time
 import unittest
 from typing import List, Tuple
 
-from tests.running import TOP, lostd
+from tests.running import TOP, lostd, serve_has
 
 PATIENCE = 60
 FREE = "127.0.0.1:0"
@@ -80,6 +81,19 @@ def unix(path: str) -> socket.socket:
     connection = socket.socket(socket.AF_UNIX)
     connection.connect(path)
     return connection
+
+
+def ended(connection: socket.socket) -> bool:
+    """Whether the server ends a connection soon; what comes before is passed over."""
+    connection.settimeout(PATIENCE)
+    try:
+        while connection.recv(65_536):
+            pass
+    except ConnectionResetError:
+        pass
+    except socket.timeout:
+        return False
+    return True
 
 
 def has_ipv6() -> bool:
@@ -222,3 +236,133 @@ class ServeTests(unittest.TestCase):
             for _ in range(200):
                 with unix(queries) as client:
                     self.assertIn('"findServiceResponse":{"edition":1', ask(client, self.question))
+
+
+LIST = '{"listServices":{}}\n'
+NOTHING = '{"listServicesResponse":{"edition":0,"path":["lost.example"],"serviceList":[]}}\n'
+
+
+@unittest.skipUnless(serve_has("--line-time"), "no program with --line-time is built")
+class LimitTests(unittest.TestCase):
+    """What a server without --connections does with clients and desks that keep it waiting, or are too many."""
+
+    def setUp(self) -> None:
+        self.folder = tempfile.TemporaryDirectory()
+        self.desk, self.queries = (os.path.join(self.folder.name, name) for name in ("desk.sock", "queries.sock"))
+
+    def tearDown(self) -> None:
+        self.folder.cleanup()
+
+    def server(self, *words: str) -> Server:
+        """A server of a desk and clients, which is ready."""
+        server = Server(["--desk", f"unix:{self.desk}", "--queries", f"unix:{self.queries}", *words])
+        self.assertEqual(server.first_line(), READY)
+        return server
+
+    def said(self, server: Server) -> str:
+        """The next line on standard error."""
+        errors = server.process.stderr
+        assert errors is not None
+        self.assertTrue(select.select([errors], [], [], PATIENCE)[0], "nothing is said")
+        return errors.readline().decode()
+
+    def test_line_time(self) -> None:
+        """A line that is not whole in time ends its connection, and others are served."""
+        with self.server("--line-time", "1") as server, unix(self.queries) as half, unix(self.queries) as whole:
+            half.sendall(b'{"list')
+            self.assertEqual(ask(whole, LIST), NOTHING)
+            begun = time.monotonic()
+            self.assertTrue(ended(half))
+            self.assertLess(time.monotonic() - begun, 10)
+            self.assertRegex(self.said(server), r"^lostd: query connection 1 of a unix socket: a line of it was not whole in time$")
+            self.assertEqual(ask(whole, LIST), NOTHING)
+
+    def test_no_line_time(self) -> None:
+        """With --line-time 0 a line may come in any time."""
+        with self.server("--line-time", "0"), unix(self.queries) as half:
+            half.sendall(b'{"list')
+            time.sleep(1.5)
+            self.assertEqual(ask(half, LIST[6:]), NOTHING)
+
+    def test_reply_time(self) -> None:
+        """A client that takes no reply is ended."""
+        with self.server("--reply-time", "1") as server, unix(self.queries) as greedy:
+            greedy.settimeout(PATIENCE)
+            with self.assertRaises(OSError) as caught:
+                for _ in range(100_000):
+                    greedy.sendall(LIST.encode() * 100)
+            self.assertNotIsInstance(caught.exception, socket.timeout)
+            self.assertRegex(self.said(server), r": it took no reply for too long$")
+
+    def test_idle(self) -> None:
+        """A client that sends nothing is ended."""
+        with self.server("--idle", "1") as server, unix(self.queries) as silent:
+            self.assertTrue(ended(silent))
+            self.assertRegex(self.said(server), r": it sent nothing for too long$")
+
+    def test_most_connections(self) -> None:
+        """One too many is closed at once, and once another has ended there is room again."""
+        with self.server("--most-connections", "2") as server, unix(self.queries) as first, unix(self.queries) as second:
+            self.assertEqual([ask(first, LIST), ask(second, LIST)], [NOTHING] * 2)
+            with unix(self.queries) as third:
+                self.assertTrue(ended(third))
+            self.assertRegex(self.said(server), r"^lostd: query connection 3 of .*: refused: --most-connections are open$")
+            first.shutdown(socket.SHUT_WR)
+            self.assertTrue(ended(first))
+            with unix(self.queries) as fourth:
+                self.assertEqual(ask(fourth, LIST), NOTHING)
+
+    def test_per_address(self) -> None:
+        """One too many of an address is closed at once, and others are served. A Unix socket has no such limit."""
+        with socket.create_server(("127.0.0.1", 0)) as probe:
+            port = probe.getsockname()[1]
+        with Server(["--desk", f"unix:{self.desk}", "--queries", f"127.0.0.1:{port}", "--per-address", "1"]) as server:
+            self.assertEqual(server.first_line(), READY)
+            with socket.create_connection(("127.0.0.1", port)) as first:
+                self.assertEqual(ask(first, LIST), NOTHING)
+                with socket.create_connection(("127.0.0.1", port)) as second:
+                    self.assertTrue(ended(second))
+                self.assertRegex(self.said(server), r": refused: --per-address of its address are open$")
+                with socket.create_connection(("127.0.0.1", port), PATIENCE, ("127.0.0.2", 0)) as other:
+                    self.assertEqual(ask(other, LIST), NOTHING)
+        with self.server("--per-address", "1"), unix(self.queries) as first, unix(self.queries) as second:
+            self.assertEqual([ask(first, LIST), ask(second, LIST)], [NOTHING] * 2)
+
+    def test_more_clients_than_workers(self) -> None:
+        """Fifty clients stay connected to two workers, and each is answered."""
+        with self.server():
+            clients = [unix(self.queries) for _ in range(50)]
+            for client in clients * 2:
+                self.assertEqual(ask(client, LIST), NOTHING)
+            for client in clients:
+                client.close()
+
+    def test_no_desk(self) -> None:
+        """What speaks HTTP or TLS at the desk's address is ended at once, and a desk is served after it."""
+        with self.server() as server:
+            for text, name in ((b"GET / HTTP/1.1\r\n", "HTTP"), (b"\x16\x03\x01", "TLS")):
+                with unix(self.desk) as stranger:
+                    stranger.sendall(text)
+                    self.assertTrue(ended(stranger))
+                self.assertEqual(self.said(server), f"lostd: desk connection of a unix socket: it speaks {name}, and no desk does\n")
+            with unix(self.desk) as desk:
+                self.assertEqual(ask(desk, '{"commit":{}}\n'), '{"committed":{"edition":0}}\n')
+
+    def test_turns_of_desks(self) -> None:
+        """A desk that is silent from its start gives its turn to the next."""
+        with self.server() as server, unix(self.desk) as silent, unix(self.desk) as next_one:
+            begun = time.monotonic()
+            self.assertEqual(ask(next_one, '{"commit":{}}\n'), '{"committed":{"edition":0}}\n')
+            self.assertTrue(9 < time.monotonic() - begun < 20)
+            self.assertTrue(ended(silent))
+            self.assertRegex(self.said(server), r": it sent no whole line within 10 seconds$")
+
+    def test_mistakes(self) -> None:
+        """The limits are no words of a server with --connections, and have ends."""
+        words = ["--desk", f"unix:{self.desk}", "--queries", f"unix:{self.queries}"]
+        for limit in ("--line-time", "--reply-time", "--most-connections", "--per-address"):
+            for more in ([limit, "5", "--connections", "1"], [limit, "1000001"], [limit, "x"]):
+                with Server([*words, *more]) as server:
+                    status, said = server.end()
+                self.assertEqual((status, len(said)), (2, 1), more)
+                self.assertIn(limit, said[0])
