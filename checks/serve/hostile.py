@@ -112,12 +112,13 @@ def has_ended(one):
 def idle(program, is_long):
     """5,000 silent clients with --idle 20: they stay, and then all are ended"""
     with crowded(program, "--idle", "20") as (server, wrong):
-        silent = crowd(server.queries, MANY)
         begun = time.monotonic()
-        time.sleep(10)
+        silent = crowd(server.queries, MANY)
+        opened = time.monotonic()
+        time.sleep(max(0, begun + 15 - opened))
         wrong += differs("ended before their time", ended_among(silent), 0)
         wrong += [] if server.status()["connections"]["open"] >= MANY else ["some are not open"]
-        time.sleep(max(0, begun + 24 - time.monotonic()))
+        time.sleep(max(0, opened + 24 - time.monotonic()))
         wrong += differs("ended", ended_among(silent), MANY)
         close_all(silent)
         wrong += all_closed(server)
@@ -214,7 +215,7 @@ def most_connections(program, is_long):
             wrong += differs("the reply to one that has room", again.recv(1 << 16), EMPTY + b"\n")
         counted = server.status()["connections"]
         wrong += differs("refused", counted["refused"], 5) + differs("accepted", counted["accepted"], 21)
-        wrong += differs("lines said", said_of(server, "refused: --most-connections are open"), 5)
+        wrong += differs("lines said", said_of(server, "refused: too many connections are open"), 5)
         close_all(kept + late)
     return wrong
 
@@ -234,7 +235,7 @@ def per_address(program, is_long):
             again.sendall(LIST + b"\n")
             wrong += differs("the reply to one that has room", again.recv(1 << 16), EMPTY + b"\n")
         wrong += differs("refused", server.status()["connections"]["refused"], 1)
-        wrong += differs("lines said", said_of(server, "refused: --per-address of its address are open"), 1)
+        wrong += differs("lines said", said_of(server, "refused: too many connections of its address are open"), 1)
         close_all(kept + others)
     return wrong
 

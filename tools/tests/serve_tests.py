@@ -306,7 +306,7 @@ class LimitTests(unittest.TestCase):
             self.assertEqual([ask(first, LIST), ask(second, LIST)], [NOTHING] * 2)
             with unix(self.queries) as third:
                 self.assertTrue(ended(third))
-            self.assertRegex(self.said(server), r"^lostd: query connection 3 of .*: refused: --most-connections are open$")
+            self.assertRegex(self.said(server), r"^lostd: query connection 3 of .*: refused: too many connections are open$")
             first.shutdown(socket.SHUT_WR)
             self.assertTrue(ended(first))
             with unix(self.queries) as fourth:
@@ -322,7 +322,7 @@ class LimitTests(unittest.TestCase):
                 self.assertEqual(ask(first, LIST), NOTHING)
                 with socket.create_connection(("127.0.0.1", port)) as second:
                     self.assertTrue(ended(second))
-                self.assertRegex(self.said(server), r": refused: --per-address of its address are open$")
+                self.assertRegex(self.said(server), r": refused: too many connections of its address are open$")
                 with socket.create_connection(("127.0.0.1", port), PATIENCE, ("127.0.0.2", 0)) as other:
                     self.assertEqual(ask(other, LIST), NOTHING)
         with self.server("--per-address", "1"), unix(self.queries) as first, unix(self.queries) as second:

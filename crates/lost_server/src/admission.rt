@@ -66,8 +66,8 @@ impl Refusal {
     /// What is said of a connection that is closed for it.
     pub(crate) fn text(self) -> &'static str {
         match self {
-            Refusal::Most => "refused: --most-connections are open",
-            Refusal::MostOfAddress => "refused: --per-address of its address are open",
+            Refusal::Most => "refused: too many connections are open",
+            Refusal::MostOfAddress => "refused: too many connections of its address are open",
             Refusal::Memory => "refused: memory ran out",
         }
     }

@@ -1,13 +1,22 @@
 //! What the threads of a server share that watch many connections. Rules without a section are this profile's own.
+ghost use Rattle.std.specs.Prelude.{◌≤◌};
+
 use crate::admission::{Admission, Refusal};
 use crate::deadlines::TimeLimits;
 use crate::order::ClientLimits;
+use lost_sockets::most_files;
 use std::alloc::{AllocError, Global};
 use std::hash::RandomState;
 use std::net::IpAddr;
 use std::random::RandomSource;
 use std::sync::{Mutex, Wait};
 use std::time::Duration;
+
+/// How many files a server has open beside those of its connections and workers, at most.
+const OTHER_FILES: u64 = 32;
+
+/// How many files each worker has open.
+const FILES_OF_A_WORKER: u64 = 2;
 
 /// The limits of the connections that are watched, and how many there are.
 #[derive(Drop)]
@@ -18,17 +27,20 @@ pub(crate) struct Hall {
 }
 
 impl Hall {
-    /// No connection, with these limits.
+    /// No connection, with these limits, watched by so many workers. Where the program may not have as many files open, there
+    /// may be so much fewer connections: one that is too many is closed, and waits for no file.
     pub(crate) fn new<R: RandomSource>(
         rt: &R,
         alloc: Global,
         idle: Option<Duration>,
         limits: &ClientLimits,
+        workers: usize,
     ) -> Result<Hall, AllocError> {
         let Ok(keys) = RandomState::new(rt) else {
             return Err(AllocError);
         };
-        let admission = Admission::new(alloc, limits.most_connections, limits.per_address, keys);
+        let most = most_open(limits.most_connections, workers as u64, most_files());
+        let admission = Admission::new(alloc, most, limits.per_address, keys);
         Ok(Hall {
             limits: TimeLimits {
                 idle,
@@ -51,5 +63,22 @@ impl Hall {
     /// A connection that was let in has ended.
     pub(crate) fn leave<R: Wait>(&self, rt: &R, address: Option<IpAddr>) {
         self.admission.lock(rt).leave(address);
+    }
+}
+
+/// How many connections may be open, where so many are wished, there are so many workers, and the program may have so many
+/// files open.
+fn most_open(wished: u32, workers: u64, files: Option<u64>) -> u32
+    ensures { result ≤ wished }
+{
+    let Some(files) = files else {
+        return wished;
+    };
+    let others = workers
+        .saturating_mul(FILES_OF_A_WORKER)
+        .saturating_add(OTHER_FILES);
+    match u32::try_from(files.saturating_sub(others)) {
+        Ok(room) => wished.min(room),
+        Err(_) => wished,
     }
 }

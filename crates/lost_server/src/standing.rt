@@ -51,9 +51,16 @@ pub(crate) fn watch_all<
     requires { readers.each.opening ≡ desk.old.opening }
     ensures { result ≢ Err RunFault.Workers }
 {
-    let hall = Hall::new(shared.rt, shared.alloc, shared.settings.idle, limits)?;
+    doors.queries.let_more_wait();
     let mut entrances = Vec::new(shared.alloc);
     let workers = standing_workers(shared.rt, shared.alloc, desk, readers, &mut entrances)?;
+    let hall = Hall::new(
+        shared.rt,
+        shared.alloc,
+        shared.settings.idle,
+        limits,
+        workers.len(),
+    )?;
     in_threads(shared, &hall, workers, doors, desk, entrances)
 }
 

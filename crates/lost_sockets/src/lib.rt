@@ -4,6 +4,7 @@
 mod accepting;
 mod address;
 mod closed_folder;
+mod files;
 mod listen_error;
 mod listener;
 mod mode;
@@ -14,6 +15,7 @@ mod unix;
 
 pub use accepting::accept;
 pub use address::Address;
+pub use files::most_files;
 pub use listen_error::ListenError;
 pub use listener::{Listener, listen};
 pub use mode::mode_of;

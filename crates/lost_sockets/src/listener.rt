@@ -9,9 +9,13 @@ use crate::stream::Stream;
 use crate::unix::listen_unix;
 use std::io;
 use std::net::{Net, TcpListener, TcpStream};
+use std::os::fd::AsRawFd;
 use std::os::unix::net::UnixListener;
 use std::random::RandomSource;
 use std::rt::Files;
+
+/// How many connections may wait to be accepted, at most.
+const MOST_WAITING: i32 = 4_096;
 
 /// What connections are accepted from, over TCP or a Unix socket. It is closed when it is dropped; the file of a Unix
 /// socket stays ([`crate::remove_socket`] removes it).
@@ -34,6 +38,16 @@ impl Listener {
             Listener::Tcp(listener) => listener.set_nonblocking(is_nonblocking),
             Listener::Unix(listener) => listener.set_nonblocking(is_nonblocking),
         }
+    }
+
+    /// Lets 4,096 connections wait to be accepted, or as many as the system allows (on Linux `net.core.somaxconn`), where at
+    /// first 128 may. One more has to ask again, and comes a second later. Where it cannot be set, it stays as it was.
+    pub fn let_more_wait(&self) {
+        let fd = match self {
+            Listener::Tcp(listener) => listener.as_raw_fd(),
+            Listener::Unix(listener) => listener.as_raw_fd(),
+        };
+        let _status = libc::net::listen(fd, MOST_WAITING);
     }
 
     /// Waits for the next connection, which sends at once what is written to it.
