@@ -41,8 +41,8 @@ pub struct MapFound {
 /// # Errors
 ///
 /// [`MapFault::Unread`] where the map could not be read. Unless it `keeps_going`, [`MapFault::Refused`] where a line was
-/// refused, or where no commit stands behind the last edit; else such edits are dropped, and [`MapFault::Memory`] is want of
-/// memory for that. The edits of the lines that were accepted stand in each case.
+/// refused, or where no commit stands behind the last edit; else such edits are dropped, which is said, and
+/// [`MapFault::Memory`] is want of memory for that. The edits of the lines that were accepted stand in each case.
 pub fn load_map<T: Wait + Eprint, I: Read + Drop>(
     rt: &T,
     alloc: Global,
@@ -63,6 +63,12 @@ pub fn load_map<T: Wait + Eprint, I: Read + Drop>(
             refused: found.refused,
             pending,
         });
+    }
+    if pending > 0 {
+        say(
+            rt,
+            format!(in alloc; "lostd: --map: {pending} edits behind the last commit are left out\n"),
+        );
     }
     match desk.drop_pending() {
         Ok(()) => Ok(found),
@@ -121,21 +127,19 @@ impl<R: Eprint> DeskWitness for MapReading<'_, R> {
         let lines = self.found.lines;
         if let DeskReply::Refused(code) = reply {
             self.found.refused = self.found.refused.saturating_add(1);
-            self.say(refusal_line(self.alloc, lines, code, line, desk.staged()));
+            let line = refusal_line(self.alloc, lines, code, line, desk.staged());
+            say(self.rt, line);
         }
         if self.shows_progress && lines % STEP == 0 {
-            self.say(format!(in self.alloc; "lostd: --map: {lines} lines\n"));
+            say(self.rt, format!(in self.alloc; "lostd: --map: {lines} lines\n"));
         }
     }
 }
 
-impl<R: Eprint> MapReading<'_, R> {
-    /// Says a line in one piece. One for which there is no memory is not said; where standard error fails, the status still
-    /// tells.
-    fn say(&self, line: Result<String, AllocError>) {
-        if let Ok(line) = line {
-            let _said = self.rt.eprint(line.as_str());
-        }
+/// Says a line in one piece. One for which there is no memory is not said; where standard error fails, the status still tells.
+fn say<R: Eprint>(rt: &R, line: Result<String, AllocError>) {
+    if let Ok(line) = line {
+        let _said = rt.eprint(line.as_str());
     }
 }
 

@@ -191,6 +191,9 @@ fn start<
 {
     if let Some(path) = order.map {
         load_from(rt, path, order, desk)?;
+        if let Ok(since) = rt.since_1970() {
+            status.set_commit(since);
+        }
     }
     tell_book(status, desk);
     let doors = open_doors(rt, order)?;
