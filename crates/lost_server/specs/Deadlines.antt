@@ -2,7 +2,7 @@
 use Rattle.std.specs.Prelude.{ℕ, ◌-◌, Bool, true, false, Option, None, Some, if◌then◌else◌, ◌||◌, ◌&&◌, not, is_some}
 use Rattle.std.specs.Bool.{nat_le}
 use Rattle.std.specs.Duration.{as_nanos}
-use Rattle.core.specs.declared.time.Duration.{Duration}
+use Rattle.std.specs.declared.time.Duration.{Duration}
 use Rattle.lost_server.specs.declared.deadlines.TimeLimits.{TimeLimits}
 use Rattle.lost_server.specs.declared.deadlines.Times.{Times}
 use Rattle.lost_server.specs.declared.deadlines.Shown.{Shown}

@@ -1,6 +1,5 @@
 //! How many connections there may be, in all and of one address. Rules without a section are this profile's own.
 ghost use Rattle.std.specs.Prelude.{◌≡◌, ◌+◌, ◌-◌, ◌<◌, ◌≤◌, true, if◌then◌else◌};
-ghost use Rattle.lost_server.specs.Admission.{count_of, most_of};
 
 use std::alloc::Global;
 use std::collections::HashMap;
@@ -16,6 +15,8 @@ pub(crate) struct Tally {
 }
 
 impl Tally {
+    ghost use Rattle.lost_server.specs.Admission.{count_of, most_of};
+
     /// No connection, of so many at most.
     pub(crate) fn new(most: u32) -> Tally
         ensures count { count_of result ≡ 0 }
