@@ -67,7 +67,9 @@ pub fn load_map<T: Wait + Eprint, I: Read + Drop>(
     if pending > 0 {
         say(
             rt,
-            format!(in alloc; "lostd: --map: {pending} edits behind the last commit are left out\n"),
+            format!(in alloc;
+                "lostd: --map: {pending} edits behind the last commit are left out\n"
+            ),
         );
     }
     match desk.drop_pending() {
@@ -131,7 +133,10 @@ impl<R: Eprint> DeskWitness for MapReading<'_, R> {
             say(self.rt, line);
         }
         if self.shows_progress && lines % STEP == 0 {
-            say(self.rt, format!(in self.alloc; "lostd: --map: {lines} lines\n"));
+            say(
+                self.rt,
+                format!(in self.alloc; "lostd: --map: {lines} lines\n"),
+            );
         }
     }
 }

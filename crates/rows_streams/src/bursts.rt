@@ -27,11 +27,22 @@ pub(crate) fn cut_everywhere<R: Print + AllocGlobal, P: Replier>(
     write_text(rt, whole.as_slice())?;
     let mut others = 0u64;
     for place in 0..=bytes.len() {
-        if !is_same(rt.alloc(), replier, setting, bytes, place, most, whole.as_slice())? {
+        if !is_same(
+            rt.alloc(),
+            replier,
+            setting,
+            bytes,
+            place,
+            most,
+            whole.as_slice(),
+        )? {
             others = others.saturating_add(1);
         }
     }
-    println!(rt; "cut at {} places, other replies at {others}", bytes.len() + 1)
+    println!(rt;
+        "cut at {} places, other replies at {others}",
+        bytes.len() + 1
+    )
 }
 
 /// The same, cut at one place alone.
@@ -44,7 +55,15 @@ pub(crate) fn cut_once<R: Print + AllocGlobal, P: Replier>(
 ) -> io::Result<()> {
     let whole = whole_text(rt.alloc(), replier, setting, bytes)?;
     write_text(rt, whole.as_slice())?;
-    let same = is_same(rt.alloc(), replier, setting, bytes, place, CHUNK, whole.as_slice())?;
+    let same = is_same(
+        rt.alloc(),
+        replier,
+        setting,
+        bytes,
+        place,
+        CHUNK,
+        whole.as_slice(),
+    )?;
     println!(rt; "cut at {place}, the same replies {same}")
 }
 

@@ -105,7 +105,9 @@ fn serve<P: Replier>(
 /// Has the desk publish a mapping with a number, and commit it.
 fn publish<R: Wait + AllocGlobal>(rt: &R, desk: &mut Desk, number: u64) -> io::Result<()> {
     let alloc = rt.alloc();
-    let lines = format!(in alloc; "{{\"publish\":{{\"default\":true,\"expires\":\"NO-EXPIRATION\",\"lastUpdated\":\"2025-12-01T00:00:00Z\",\"service\":\"urn:service:sos.n{number}\",\"source\":\"map.example\",\"sourceId\":\"N{number}\",\"uri\":[\"sip:n@map.example\"]}}}}\n{{\"commit\":{{}}}}\n")?;
+    let lines = format!(in alloc;
+        "{{\"publish\":{{\"default\":true,\"expires\":\"NO-EXPIRATION\",\"lastUpdated\":\"2025-12-01T00:00:00Z\",\"service\":\"urn:service:sos.n{number}\",\"source\":\"map.example\",\"sourceId\":\"N{number}\",\"uri\":[\"sip:n@map.example\"]}}}}\n{{\"commit\":{{}}}}\n"
+    )?;
     let mut input = Watched::new(lines.as_bytes());
     let mut output = Watched::new(Vec::new(alloc));
     match serve_desk(rt, alloc, &mut input, &mut output, desk, Turns::USUAL) {

@@ -28,7 +28,11 @@ impl Read for Piecewise<'_> {
             self.has_waited = true;
             return Err(io::Error::from(ErrorKind::WouldBlock));
         }
-        let most = if self.has_waited { usize::MAX } else { self.first };
+        let most = if self.has_waited {
+            usize::MAX
+        } else {
+            self.first
+        };
         let count = self.text.len().min(buf.len()).min(most);
         let (now, later) = self.text.split_at(count);
         buf[..count].copy_from_slice(now);
