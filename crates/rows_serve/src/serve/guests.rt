@@ -16,7 +16,7 @@ const CLIENTS: u32 = 200;
 const HEALTH: &[u8] = b"GET /health HTTP/1.1\r\nHost: lost.example\r\n\r\n";
 
 /// What guests give, once the server was told that it is over.
-pub(crate) fn then_end<R: Net<Listener = TcpListener, Stream = TcpStream> + Clock, T>(
+pub(crate) fn then_end<R: Net<Listener = TcpListener, Stream = TcpStream> + Clock, T: Drop>(
     rt: &R,
     alloc: Global,
     ports: &Ports,
