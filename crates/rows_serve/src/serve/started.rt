@@ -6,14 +6,15 @@ use lost_server::{
     ClientLimits, ConnectionSettings, Counts, MapFault, RunFault, ServerFault, ServerOrder,
     run_server,
 };
+use std::alloc::AllocError;
 use std::fs::Files;
-use std::io;
 use std::net::{Net, TcpListener, TcpStream};
 use std::random::RandomSource;
 use std::sync::Wait;
 use std::sync::atomic::Ordering;
-use std::thread::{Threads, join};
+use std::thread::Threads;
 use std::time::{Clock, Duration};
+use std::{io, thread};
 
 /// A map of two mappings.
 const MAP: &str = "two.jsonl";
@@ -100,11 +101,19 @@ impl<
     pub(crate) fn map_alone(&self) -> io::Result<()> {
         let (rt, order, ports) = (self.rt, self.order(Some(MAP)), Ports::new());
         let (order, ports) = (&order, &ports);
-        let (served, reply) = join(
+        let (served, reply) = thread::scope(
+            thread::scope_env(),
             rt,
-            || serve_told(rt, order, ports),
-            || then_end(rt, rt.alloc(), ports, one_client(rt, rt.alloc(), ports)),
-        );
+            |scope| -> io::Result<(Result<Counts, ServerFault>, io::Result<String>)> {
+                let Ok(guests) = scope.spawn(move || {
+                    then_end(rt, rt.alloc(), ports, one_client(rt, rt.alloc(), ports))
+                }) else {
+                    return Err(AllocError.into());
+                };
+                let served = serve_told(rt, order, ports);
+                Ok((served, guests.join(rt)))
+            },
+        )?;
         println!(rt; "{}", reply?)?;
         self.tell(served)
     }
@@ -115,11 +124,19 @@ impl<
         let mut order = self.order(None);
         order.desk = Some(ANY_PORT);
         let (order, ports) = (&order, &ports);
-        let (served, replies) = join(
+        let (served, replies) = thread::scope(
+            thread::scope_env(),
             rt,
-            || serve_told(rt, order, ports),
-            || then_end(rt, rt.alloc(), ports, three_desks(rt, rt.alloc(), ports)),
-        );
+            |scope| -> io::Result<(Result<Counts, ServerFault>, io::Result<Vec<String>>)> {
+                let Ok(guests) = scope.spawn(move || {
+                    then_end(rt, rt.alloc(), ports, three_desks(rt, rt.alloc(), ports))
+                }) else {
+                    return Err(AllocError.into());
+                };
+                let served = serve_told(rt, order, ports);
+                Ok((served, guests.join(rt)))
+            },
+        )?;
         for reply in replies?.iter() {
             println!(rt; "{reply}")?;
         }
@@ -130,11 +147,19 @@ impl<
     pub(crate) fn clients(&self) -> io::Result<()> {
         let (rt, order, ports) = (self.rt, self.order(Some(MAP)), Ports::new());
         let (order, ports) = (&order, &ports);
-        let (served, count) = join(
+        let (served, count) = thread::scope(
+            thread::scope_env(),
             rt,
-            || serve_told(rt, order, ports),
-            || then_end(rt, rt.alloc(), ports, many_clients(rt, rt.alloc(), ports)),
-        );
+            |scope| -> io::Result<(Result<Counts, ServerFault>, io::Result<u32>)> {
+                let Ok(guests) = scope.spawn(move || {
+                    then_end(rt, rt.alloc(), ports, many_clients(rt, rt.alloc(), ports))
+                }) else {
+                    return Err(AllocError.into());
+                };
+                let served = serve_told(rt, order, ports);
+                Ok((served, guests.join(rt)))
+            },
+        )?;
         println!(rt; "clients that were told of the mapping {}", count?)?;
         self.tell(served)
     }
@@ -145,11 +170,19 @@ impl<
         let mut order = self.order(Some(MAP));
         order.status = Some(ANY_PORT);
         let (order, ports) = (&order, &ports);
-        let (served, lines) = join(
+        let (served, lines) = thread::scope(
+            thread::scope_env(),
             rt,
-            || serve_told(rt, order, ports),
-            || then_end(rt, rt.alloc(), ports, two_probes(rt, rt.alloc(), ports)),
-        );
+            |scope| -> io::Result<(Result<Counts, ServerFault>, io::Result<(String, String)>)> {
+                let Ok(guests) = scope.spawn(move || {
+                    then_end(rt, rt.alloc(), ports, two_probes(rt, rt.alloc(), ports))
+                }) else {
+                    return Err(AllocError.into());
+                };
+                let served = serve_told(rt, order, ports);
+                Ok((served, guests.join(rt)))
+            },
+        )?;
         let (before, after) = lines?;
         println!(rt; "{}", before.as_str().trim_end())?;
         println!(rt; "{}", after.as_str().trim_end())?;
