@@ -8,6 +8,7 @@ says so, and the second desk's withdrawal is refused, since it is pending alread
 """
 import http.client
 import subprocess
+import time
 from collections import Counter
 
 from server import Ended, Standing
@@ -21,6 +22,7 @@ UNKNOWN = b'{"refused":{"code":14,"name":"IdentityUnknown"}}'
 COMMITTED = b'{"committed":{"edition":3}}'
 # A server without an end makes no end of growths: so many in a row that nobody notices are behind the last that matters.
 QUIET = 100
+PATIENCE = 5
 LEFT = "lostd: memory ran out: what the last desk left pending could not be dropped, and the next desk's commit publishes it"
 with open(f"{TOP}/examples/one-mapping.jsonl", "rb") as session:
     QUESTION = session.read().splitlines()[2]
@@ -65,7 +67,10 @@ class Run:
         if reply == MEMORY:
             self.ways[reply.decode()] += 1
             reply, second = self.ask(self.server.desk, second, WITHDRAW)
-        is_left = LEFT in self.server.said()
+        # What is said goes by a thread of its own, and may come after the reply.
+        end = time.monotonic() + (PATIENCE if reply == UNKNOWN else 0)
+        while not (is_left := LEFT in self.server.said()) and time.monotonic() < end:
+            time.sleep(0.01)
         self.ways["left pending"] += is_left
         if reply != (UNKNOWN if is_left else STAGED):
             raise Wrong(f"growth {self.refused}: the second desk gets {reply!r}; it said {self.server.said()}")
