@@ -10,6 +10,7 @@ pub use polygon::{MAX_POSITIONS, MIN_POSITIONS, Polygon};
 pub use positions::{Positions, is_ring, is_ring_of};
 
 mod bounds;
+mod decimal;
 mod edge;
 pub mod laws;
 mod point;

@@ -4,5 +4,6 @@ pub mod EachLemmas
 pub mod FitLemmas
 pub mod LocationLemmas
 pub mod PatternLemmas
+pub mod PositionLemmas
 pub mod TreeLemmas
 pub mod ServiceLemmas

@@ -1,5 +1,6 @@
 -- How members of a JSON object are read. (Own format.)
 use Rattle.std.specs.Prelude.{if◌then◌else◌, List, [], ◌∷◌, Option, Some, None, is_some, option_map, option_and_then, unwrap_or, ℤ}
+use Rattle.std.specs.Option.{option_or}
 use Rattle.std.specs.Result.{result_ok}
 use Rattle.std.specs.Str.{is_utf8}
 use Rattle.serde_json.specs.Data.{Data, Items, no_items, item, Members, no_members, member}
@@ -8,6 +9,7 @@ use Rattle.serde_json.specs.Read.{read}
 use Rattle.lost_spec.specs.Text.{Text}
 use Rattle.lost_spec.specs.Service.{Service, read_service}
 use Rattle.lost_spec.specs.Civic.{Pairs}
+use Rattle.lost_spec.specs.Decimal.{decimal}
 
 -- the tree of a line, where its bytes are UTF-8 and JSON
 unfoldable pub tree_of : Text → Option Data
@@ -52,15 +54,19 @@ whole_in value = option_and_then as_i64 (as_number value)
 abbrev pub service_in : Data → Option Service
 service_in value = option_and_then (λ text. result_ok (read_service text)) (as_str value)
 
--- a list of two whole numbers: a latitude and a longitude
+-- a list of two whole numbers: a latitude and a longitude in units of 1e-7 degrees
 abbrev pub two_of : List ℤ → Option (ℤ × ℤ)
 two_of [] = None
 two_of (lat ∷ []) = None
 two_of (lat ∷ lon ∷ []) = Some (lat, lon)
 two_of (lat ∷ lon ∷ more ∷ rest) = None
 
+abbrev pub pair_in : Data → Option (ℤ × ℤ)
+pair_in value = option_and_then two_of (list_in whole_in value)
+
+-- a position: such a pair, or a text of decimal degrees
 abbrev pub position_in : Data → Option (ℤ × ℤ)
-position_in value = option_and_then two_of (list_in whole_in value)
+position_in value = option_or (pair_in value) (option_and_then decimal (as_str value))
 
 -- an object whose values are texts: names and values, in ascending byte order of the names
 abbrev pub pairs_of : Members → Option Pairs

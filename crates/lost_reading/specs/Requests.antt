@@ -9,7 +9,7 @@ use Rattle.lost_reading.specs.Members.{tree_of, the_member, required, optional, 
 
 -- ---- locations (RFC 5222, section 12)
 
--- the content of a location of `geodetic-2d`: `pos`, a list of two whole numbers
+-- the content of a location of `geodetic-2d`: `pos`, a position
 abbrev pub point_body : Option Data → Body
 point_body pos = unwrap_or (option_map (λ position. PointBody position.0 position.1) (option_and_then position_in pos)) UnreadableBody
 

@@ -6,10 +6,11 @@ ghost use Rattle.lost_civic.specs.Pairs.{seen_pairs};
 ghost use Rattle.std.specs.Result.{result_ok};
 ghost use Rattle.lost_spec.specs.Service.{read_service};
 ghost use Rattle.lost_reading.specs.Gives.{Gives};
-ghost use Rattle.lost_reading.specs.Members.{required, each_of, list_in, whole_in, service_in, two_of, position_in, pairs_of, pairs_in};
+ghost use Rattle.lost_reading.specs.Members.{required, each_of, list_in, whole_in, service_in, two_of, pair_in, position_in, pairs_of, pairs_in};
 
 use crate::reading::{Kind, member};
 use crate::request::ReadError;
+use lost_geo::GeoPoint;
 use lost_spec::faults::UrnError;
 use lost_urn::ServiceUrn;
 use serde_json::{Map, Value};
@@ -116,9 +117,20 @@ impl Kind for (i64, i64) {
     }
 }
 
-/// The position that a value is: a list of two whole numbers. It takes no memory.
+/// The position that a value is: a list of two whole numbers, or a text of decimal degrees. It takes no memory.
+#[tactic(auto, using(crate::proofs::PositionLemmas::positions))]
 pub(crate) fn position(value: &Value) -> Option<(i64, i64)>
     ensures { result ≡ position_in (view value.now) }
+{
+    match value.as_str() {
+        Some(text) => GeoPoint::decimal(text.as_bytes()),
+        None => pair(value),
+    }
+}
+
+/// The position that a list of two whole numbers is.
+fn pair(value: &Value) -> Option<(i64, i64)>
+    ensures { result ≡ pair_in (view value.now) }
 {
     match value.as_array() {
         Some(items) => position_of(items.as_slice()),

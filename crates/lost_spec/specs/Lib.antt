@@ -5,6 +5,7 @@ pub mod Service
 pub mod Ring
 pub mod Civic
 pub mod Moment
+pub mod Decimal
 pub mod Mapping
 pub mod Book
 pub mod Find
@@ -19,6 +20,7 @@ pub mod OwnRows
 pub mod BoundRows
 pub mod MoreRows
 pub mod TraceRows
+pub mod DecimalRows
 pub mod Laws
 pub mod FindLaws
 pub mod BookLaws

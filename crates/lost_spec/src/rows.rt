@@ -5,6 +5,7 @@ ghost use Rattle.lost_spec.specs.Rows.{Urn, Stamps, Empty, OneMapping, StagedOnl
 ghost use Rattle.lost_spec.specs.OwnRows.{FirstFaults, LabelOrder, Comparison, EditOrder, DeskOrder, AnswerOrder, LongestFirst, ReferencePatterns, NameOrder};
 ghost use Rattle.lost_spec.specs.BoundRows.{StampFractions, StampBounds, DayOrder, ServiceBounds, TextBounds, UriBounds, PlaceBounds, PairBounds, PartsBounds, CivicNames};
 ghost use Rattle.lost_spec.specs.MoreRows.{Slopes, KeptAsGiven, FreedKey, PatternChange, LaterDay, Expired, OtherReference, DefaultAsked, DeepServices, Paths, UnfittingBodies, Additive, ExactCase};
+ghost use Rattle.lost_spec.specs.DecimalRows.{DecimalTexts, NoDecimals};
 ghost use Rattle.lost_spec.specs.TraceRows.{PublishedAgain, TracesLimit, WithdrawnBeforeFull, AllowedTraces, TraceOrder, OtherIdentities, WhichTraces};
 
 /// A text spells a service URN, or is refused by the first check that fails.
@@ -330,4 +331,14 @@ pub fn other_identities()
 /// A withdrawal adds a trace behind, a replacement changes none, and a publish takes its own away.
 pub fn which_traces()
     ensures { WhichTraces }
+{}
+
+/// A text spells a latitude and a longitude in degrees.
+pub fn decimal_texts()
+    ensures { DecimalTexts }
+{}
+
+/// Any other text spells no position.
+pub fn no_decimals()
+    ensures { NoDecimals }
 {}

@@ -12,7 +12,7 @@ use Rattle.serde_json.specs.Data.{Data, null, boolean, number, string, array, ob
 use Rattle.serde_json.specs.Find.{get_member, as_null, as_bool, as_number, as_str, as_array, as_object}
 use Rattle.serde_json.specs.Read.{number_of, of_json, of_items, of_members}
 use Rattle.serde_json.proofs.Views.{get_member-put, get_member-put_other}
-use Rattle.lost_reading.specs.Members.{unless_null, only_member, each_of, whole_in, two_of, position_in}
+use Rattle.lost_reading.specs.Members.{unless_null, only_member, each_of, whole_in, two_of, pair_in}
 use Rattle.lost_reading.specs.Desk.{is_desk_name}
 use Rattle.lost_tape.specs.Tapes.{tree_at, data_of, members_of, IsTree, HoldsItems}
 use Rattle.lost_tape.proofs.TreeLemmas.{held, tree_at-from, data_of-from, IsTree-from}
@@ -255,9 +255,9 @@ each_of_next kind before d thing rest is =
     more xs x None = refl
     more xs x (Some ys) = ap Some (sym (append_assoc xs (x ∷ []) ys))
 
-pub position_held : (d : Data) (held one two : Items) (a b : Data) (lat lon : ℤ) → as_array d ≡ Some held → held ≡ item a one → one ≡ item b two → two ≡ no_items
-    → whole_in a ≡ Some lat → whole_in b ≡ Some lon → position_in d ≡ Some (lat, lon)
-position_held d items one two a b lat lon from first second ended is_lat is_lon =
+pub pair_held : (d : Data) (held one two : Items) (a b : Data) (lat lon : ℤ) → as_array d ≡ Some held → held ≡ item a one → one ≡ item b two → two ≡ no_items
+    → whole_in a ≡ Some lat → whole_in b ≡ Some lon → pair_in d ≡ Some (lat, lon)
+pair_held d items one two a b lat lon from first second ended is_lat is_lon =
     let whole : items ≡ item a (item b no_items) = first ∙ ap (item a) (second ∙ ap (item b) ended) in
     ap (λ o. option_and_then two_of (option_and_then (each_of whole_in) o)) (from ∙ ap Some whole)
     ∙ ap (λ o. option_and_then two_of (option_and_then (λ x. option_map (λ xs. x ∷ xs) (each_of whole_in (item b no_items))) o)) is_lat

@@ -2,10 +2,11 @@
 ghost use Rattle.std.specs.Prelude.{◌≡◌, ◌++◌, ◌∷◌, [], Some, IfSome, OnSome, map, option_map, option_and_then, string_bytes};
 ghost use Rattle.serde_json.specs.Data.{Items as SpecItems};
 ghost use Rattle.serde_json.specs.Find.{as_str};
-ghost use Rattle.lost_reading.specs.Members.{the_member, required, optional, defaulting, each_of, list_in, position_in};
+ghost use Rattle.lost_reading.specs.Members.{the_member, required, optional, defaulting, each_of, list_in, pair_in, position_in};
 ghost use Rattle.lost_tape.specs.Tapes.{data_of, members_of, HoldsItems};
 
 use crate::tree::{Tree, Trees};
+use lost_geo::GeoPoint;
 use std::alloc::Global;
 use std::borrow::CowStr;
 
@@ -155,9 +156,19 @@ pub(crate) fn required_text<'a>(object: &Tree<'_, 'a>, name: &str) -> Option<&'a
     tree.text()
 }
 
-/// A latitude and a longitude.
+/// A position: a pair of whole numbers, or a text of decimal degrees.
 pub(crate) fn read_position(tree: &Tree<'_, '_>) -> Option<(i64, i64)>
     ensures { IfSome result (λ position. position_in (data_of tree.now) ≡ Some position) }
+{
+    match tree.text() {
+        Some(text) => GeoPoint::decimal(text.as_bytes()),
+        None => read_pair(tree),
+    }
+}
+
+/// A latitude and a longitude, each a whole number.
+fn read_pair(tree: &Tree<'_, '_>) -> Option<(i64, i64)>
+    ensures { IfSome result (λ position. pair_in (data_of tree.now) ≡ Some position) }
 {
     let mut items = tree.items()?;
     let first = items.next()?;

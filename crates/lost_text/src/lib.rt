@@ -1,6 +1,10 @@
-//! A short text that takes no memory (own rules): the lines of the map desk's replies, which are written also where
-//! memory is short.
+//! Short texts of numbers that take no memory (own rules): a text that the map desk's replies are written into, and numbers
+//! in decimal digits.
 #![tactic(auto)]
+
+pub use digits::digits_value;
+
+mod digits;
 
 ghost use Rattle.std.specs.Prelude.{◌≡◌, ◌<◌, ◌≤◌, ◌+◌, [], ◌++◌, length, decimal};
 

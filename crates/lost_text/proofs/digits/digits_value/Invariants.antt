@@ -1,6 +1,6 @@
 use Rattle.std.proofs.Common.{◌≡◌, ◌+◌, ◌*◌, ◌^◌, ◌≤◌, take}
 use Rattle.lost_spec.specs.Moment.{digits_value}
-use Rattle.lost_mapping.proofs.digits.digits_value.Given as goal
+use Rattle.lost_text.proofs.digits.digits_value.Given as goal
 
 abbrev pub invariant-loop-digit : goal.invariant-loop-digit
 invariant-loop-digit l = record {

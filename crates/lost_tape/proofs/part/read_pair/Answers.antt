@@ -1,7 +1,7 @@
 use Rattle.std.proofs.Common.{SFits, w64, to_z-of_z, rules}
 use Rattle.lost_tape.specs.Tapes.{data_of}
-use Rattle.lost_tape.proofs.PartLemmas.{position_held}
-use Rattle.lost_tape.proofs.part.read_position.Goals as goal
+use Rattle.lost_tape.proofs.PartLemmas.{pair_held}
+use Rattle.lost_tape.proofs.part.read_pair.Goals as goal
 
 pub returns-in-None : goal.returns-in-None
 returns-in-None c =
@@ -12,4 +12,4 @@ returns-in-None c =
     let lat : SFits w64 c.in_ok-lat.lat = search rules in
     let lon : SFits w64 c.in_ok-lon.lon = search rules in
     rw (to_z-of_z lat, to_z-of_z lon)
-    (position_held (data_of c.args.tree.now) all.0 one.0 two.0 (data_of c.in_ok-first.first) (data_of c.in_ok-second.second) _ _ all.1 one.1 two.1 ended c.in_ok-lat.ensures c.in_ok-lon.ensures)
+    (pair_held (data_of c.args.tree.now) all.0 one.0 two.0 (data_of c.in_ok-first.first) (data_of c.in_ok-second.second) _ _ all.1 one.1 two.1 ended c.in_ok-lat.ensures c.in_ok-lon.ensures)
