@@ -1,5 +1,5 @@
-//! A short text that takes no memory (own rules): the lines of the map desk's replies, which are written also where
-//! memory is short.
+//! A short text that takes no memory: the lines of the map desk's replies, which are written even where memory is
+//! short.
 #![tactic(auto)]
 
 ghost use Rattle.std.specs.Prelude.{◌≡◌, ◌<◌, ◌≤◌, ◌+◌, [], ◌++◌, length, decimal};
@@ -28,7 +28,7 @@ impl Model for DeskText {
 }
 
 impl DeskText {
-    /// The text of no bytes.
+    /// The empty text.
     pub fn new() -> DeskText
         ensures { result ≡ [] }
     {
@@ -38,7 +38,7 @@ impl DeskText {
         }
     }
 
-    /// Appends a part. The caller has: there is room for it.
+    /// Appends a part. The caller makes sure that there is room.
     pub fn push(&mut self, part: &[u8])
         requires { length self.old + length part.now ≤ 64 }
         ensures text { self.new ≡ self.old ++ part.now }
@@ -49,8 +49,8 @@ impl DeskText {
         self.len = end;
     }
 
-    /// Appends the decimal digits of a number: at most 20, and at most two of a number below 100. The caller has: there
-    /// is room for 20.
+    /// Appends the decimal digits of a number: at most 20, and at most two of a number below 100. The caller makes sure
+    /// that there is room for 20.
     pub fn push_number(&mut self, number: u64)
         requires { length self.old ≤ 44 }
         ensures digits { self.new ≡ self.old ++ decimal number }
