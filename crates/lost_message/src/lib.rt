@@ -1,5 +1,5 @@
-//! What lines say, as values: requests, replies and edits (RFC 5222, sections 5 to 13). What reads lines and what writes
-//! them stands on these types, and not on what answers or holds anything.
+//! What lines say, as values: requests, replies and edits (RFC 5222, sections 5 to 13). The crates that read and write
+//! lines use these types, and none of the crates that answer or hold anything.
 #![tactic(auto)]
 
 mod edit;
