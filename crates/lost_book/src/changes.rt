@@ -5,7 +5,7 @@ ghost use Rattle.lost_spec.specs.Book.{replaced, without};
 use crate::held::position_of;
 use lost_mapping::{Identity, Mapping};
 
-/// Replaces the mapping that has the same identity.
+/// Replaces the mapping that has the same identity, in its place.
 pub(crate) fn replace(mappings: &mut Vec<Mapping>, mapping: Mapping)
     ensures { mappings.new.items ≡ replaced mapping mappings.old.items }
 {

@@ -18,8 +18,8 @@ use std::hash::{Hash, Hasher};
 use std::marker::Model;
 
 /// A civic address (RFC 5222, section 12.3; RFC 4119, section 2.2.1): pairs of a name and a value, in the order in
-/// which they were given. Contracts see an address as its pairs. At least one name is an
-/// element's; others may be unknown.
+/// which they were given. Contracts see an address as its pairs. At least one name is an element's; others may be
+/// unknown.
 #[derive(Drop)]
 pub struct CivicAddress {
     pairs: Vec<(String, String)>,

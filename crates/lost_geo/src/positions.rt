@@ -34,8 +34,8 @@ impl Positions for (i64, i64) {
     }
 }
 
-/// Whether each of these latitudes and longitudes is a point, and together they are a ring: whether `GeoPoint::new` takes
-/// each of them, and `Polygon::new` all the points (RFC 5222, section 12.2; own bounds). It takes no memory.
+/// Whether these latitudes and longitudes are points, and together a ring: whether `GeoPoint::new` takes each of them,
+/// and `Polygon::new` all the points (RFC 5222, section 12.2; own bounds). It takes no memory.
 pub fn is_ring(positions: &[(i64, i64)]) -> bool
     ensures { result ≡ is_ring positions.now }
 {

@@ -116,7 +116,7 @@ impl LineServer {
         Ok(rest)
     }
 
-    /// Takes the bytes up to their first byte 10, at `end`, and answers the line that it ends. Gives the bytes after it.
+    /// Takes the bytes up to their first byte 10, at `end`, and answers that line. Gives the bytes after it.
     fn take_line<'c, W: Write, A: Answerer, G: Gate>(
         &mut self,
         alloc: Global,

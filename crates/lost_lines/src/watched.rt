@@ -8,9 +8,9 @@ use std::io;
 use std::io::{Read, Write};
 
 /// A reader or a writer, with two flags that stay set, one that a flush clears, and a count of reads. Each call is
-/// passed on. `failed` is set where a read, a write or a flush failed, an interrupted one too, or where a write that was
-/// given a byte took none; `ended` is set where a read with room for a byte gave none; `unflushed` is set from a write
-/// to the next flush that does not fail.
+/// passed on. `failed` is set where a read, a write or a flush failed, an interrupted one too, or where a write that
+/// was given a byte took none; `ended` is set where a read with room for a byte gave none; `unflushed` is set from a
+/// write to the next flush that does not fail.
 #[derive(Drop)]
 pub struct Watched<T> {
     inner: T,

@@ -105,8 +105,8 @@ impl Mapping {
         )
     }
 
-    /// Ok where `build` takes these parts, else the first refusal in the order of the codes. It takes no memory. The parts
-    /// may lie anywhere: `T` says how to read the items of their lists.
+    /// Ok where `build` takes these parts, else the first refusal in the order of the codes. It takes no memory. The
+    /// parts may lie anywhere: `T` says how to read the items of their lists.
     ///
     /// # Errors
     ///

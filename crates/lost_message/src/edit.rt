@@ -9,7 +9,7 @@ use std::alloc::AllocError;
 pub enum Edit {
     /// Holds a mapping of a new identity, after those held.
     Publish(Mapping),
-    /// Replaces the mapping held with the same identity.
+    /// Replaces the mapping held with the same identity, in its place.
     Replace(Mapping),
     /// Removes the mapping with this identity; the stamp says when that was decided.
     Withdraw(Identity, Stamp),

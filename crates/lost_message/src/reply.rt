@@ -4,8 +4,8 @@ use lost_mapping::Mapping;
 use lost_spec::answers::{AnswerError, Warning};
 use lost_urn::ServiceUrn;
 
-/// A reply (RFC 5222, sections 8.4, 9 to 11 and 13.1). `edition` is the number of edits of the book that it
-/// answers from, `path` the request's with the server's name after it.
+/// A reply (RFC 5222, sections 8.4, 9 to 11 and 13.1). `edition` is the number of edits of the book that it answers
+/// from, `path` the request's with the server's name after it.
 #[derive(Drop)]
 pub enum Reply<'a> {
     /// The mappings found (RFC 5222, section 8.4).

@@ -33,8 +33,7 @@ pub enum Request<'a> {
     },
 }
 
-/// The locations of a request, at least one (RFC 5222, section 8.3.1): a request with one takes
-/// no memory for a list.
+/// The locations of a request, at least one (RFC 5222, section 8.3.1): a request with one takes no memory for a list.
 #[derive(Drop)]
 pub struct Locations<'a> {
     /// The first location.

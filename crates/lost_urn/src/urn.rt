@@ -33,9 +33,9 @@ impl Model for ServiceUrn {
 
 impl ServiceUrn {
     /// Reads a service URN in any case (RFC 5031, section 3): `urn:service:` and then the labels with a dot between
-    /// each two. The first check that fails gives the refusal (own order): `Prefix`; then for each label from the
-    /// left `EmptyLabel`, `BadCharacter`, `HyphenAtEnd`, `LabelTooLong`; then `TooManyLabels`. `Memory` comes
-    /// only where the text spells a service.
+    /// each two. The first check that fails gives the refusal (own order): `Prefix`; then for each label from the left
+    /// `EmptyLabel`, `BadCharacter`, `HyphenAtEnd`, `LabelTooLong`; then `TooManyLabels`. `Memory` comes only where the
+    /// text spells a service.
     pub fn parse(alloc: Global, text: &[u8]) -> Result<ServiceUrn, UrnError>
         ensures ok { IfOk result (λ s. read_service text.now ≡ Ok s) }
         ensures err { IfErr result (λ e. e ≢ UrnError.Memory → read_service text.now ≡ Err e) }

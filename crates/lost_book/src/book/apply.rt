@@ -1,4 +1,4 @@
-//! How edits change a book. Rules without a section are this profile's own.
+//! How edits change a book.
 ghost use Rattle.std.specs.Prelude.{◌≡◌, ◌≢◌, false, None, Some, IfErr, OnOk, OnErr};
 ghost use Rattle.lost_spec.specs.Book.{Publish, Replace, Withdraw, refusal, after};
 ghost use Rattle.lost_book.specs.Applied.{IsApplied, is_replacement};

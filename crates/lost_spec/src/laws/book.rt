@@ -4,8 +4,8 @@ ghost use Rattle.lost_spec.specs.BookLaws.{AcceptedBookIsInOrder, UntouchedStay,
 ghost use Rattle.lost_spec.specs.TraceLaws.{OtherTracesStay, WithdrawalLeavesATrace, WithdrawnStaysWithdrawn};
 
 /// The book of an accepted list has each identity and each key at most once, no more mappings than its limit, one trace
-/// at most of an identity and none of one that is held, no more traces than their limit, and as its number the length of
-/// the list.
+/// at most of an identity and none of one that is held, no more traces than their limit, and as its number the length
+/// of the list.
 pub fn accepted_book_is_in_order()
     ensures { AcceptedBookIsInOrder }
 {}
