@@ -1,5 +1,5 @@
-//! What lines say, as values: requests, replies and edits (RFC 5222, sections 5 to 13). The crates that read and write
-//! lines use these types, and none of the crates that answer or hold anything.
+//! What lines say, as values: requests, replies and edits (RFC 5222, sections 5 to 13). `lost_reading`, `lost_tape` and
+//! `lost_writing` use these types, and no crate that answers or holds anything.
 #![tactic(auto)]
 
 mod edit;
