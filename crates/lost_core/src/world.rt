@@ -137,8 +137,7 @@ impl World {
         }
     }
 
-    /// The worker has met at least this many edits. Gives how many it has then met, or `None` if there is no such
-    /// worker.
+    /// The worker has met at least this many edits. Gives how many it has then met, or `None` for no such worker.
     fn meet(&mut self, worker: u8, count: u64) -> Option<u64>
         ensures met { result ≡ (if nat_lt worker (length self.old.met) then Some (max (slice_index self.old.met worker) count) else None) }
         ensures after { self.new ≡ record self.old { met = meet self.old.met worker count } }

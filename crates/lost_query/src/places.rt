@@ -101,8 +101,8 @@ fn place_at<'r>(alloc: Global, location: &'r Location<'_>) -> Result<Used<'r>, A
     }
 }
 
-/// The place of a body: a point for `geodetic-2d`, an address for `civic` (RFC 5222, section 12). None if the body is
-/// not one.
+/// The place of a body: a point for `geodetic-2d`, an address for `civic` (RFC 5222, section 12). None for
+/// any other body.
 fn place_of(alloc: Global, geodetic: bool, body: &Body) -> Result<Option<Place>, AllocError>
     ensures { IfOk result (λ place. option_map seen_place place ≡ place_of geodetic (body_of body.now)) }
 {

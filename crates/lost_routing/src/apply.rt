@@ -11,8 +11,8 @@ use std::alloc::AllocError;
 
 impl Routing {
     /// Applies an edit: a publish appends and forgets the withdrawal of its identity, a replacement keeps the place, a
-    /// withdrawal closes up and is remembered, and the edition rises by one. In a withdrawal only remembering it takes
-    /// memory.
+    /// withdrawal closes up and is remembered, and the edition rises by one. A withdrawal takes memory only to be
+    /// remembered.
     ///
     /// # Errors
     ///

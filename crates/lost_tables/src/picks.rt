@@ -28,9 +28,9 @@ pub fn position_of(numbers: &TieredVec<u64>, number: u64) -> Option<usize>
     }
 }
 
-/// The likely position of a number among rising numbers; the caller checks it. Its position is at most the
-/// number itself, and lower by the count of numbers left out below it: mostly few. So the search begins there and
-/// reaches down, which reads fewer far parts of a long list than halving does.
+/// The likely position of a number among rising numbers; the caller checks it. The position is at most the number
+/// itself, lower by the count of numbers left out below it: mostly few. So the search begins there and reaches down,
+/// which reads fewer far parts of a long list than halving does.
 fn likely_position(numbers: &TieredVec<u64>, number: u64) -> usize
     requires rising { IsStrictlySortedBy nat_cmp numbers.now }
 {

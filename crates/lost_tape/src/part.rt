@@ -22,7 +22,7 @@ pub(crate) trait Part<'a>: Drop {
     // What a value means, where it is of this kind.
     ghost meant: { Data → Option Self.Seen };
 
-    /// Reads the value. `None` says nothing of it.
+    /// Reads the value. `None` says nothing about the value.
     fn read(alloc: Global, tree: &Tree<'_, 'a>) -> Option<Self>
         ensures { IfSome result (λ part. meant (data_of tree.now) ≡ Some (seen part)) };
 }
