@@ -19,7 +19,7 @@ pub fn no_refusal_is_memory()
     ensures { NoRefusalIsMemory }
 {}
 
-/// Later steps do not change earlier events.
+/// Later steps change nothing that was counted before.
 pub fn later_steps_change_nothing()
     ensures { LaterStepsChangeNothing }
 {}

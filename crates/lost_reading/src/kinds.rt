@@ -1,4 +1,4 @@
-//! The kinds of values that members have: texts, truth values, services, positions, lists, and pairs of names and texts.
+//! The kinds of values that members have: texts, truth values, services, positions, lists, pairs of names and texts.
 ghost use Rattle.std.specs.Prelude.{◌≡◌, None, Some, Ok, Err, is_some, map, option_and_then, option_map, string_bytes};
 ghost use Rattle.serde_json.specs.Find.{as_bool, as_str};
 ghost use Rattle.serde_json.specs.View.{view, items_view, members_view};
