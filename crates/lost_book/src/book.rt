@@ -1,4 +1,4 @@
-//! The book: the mappings that are held, in order, and the stamps of identities that were withdrawn. Rules without a section are this profile's own.
+//! The book: the mappings held, in order, and the stamps of withdrawn identities.
 ghost use Rattle.std.specs.Prelude.{◌≡◌, ◌<◌, Some, IfOk, length, slice_get};
 ghost use Rattle.lost_spec.specs.Book.{empty_book};
 
@@ -12,8 +12,7 @@ mod apply;
 mod check;
 mod scans;
 
-/// The mappings that are held, in order, with the limits, the stamps of identities that were withdrawn, and the number of
-/// edits that were accepted.
+/// The mappings held, in order, with the limits, the stamps of withdrawn identities, and the number of accepted edits.
 /// Contracts see it as the record `Book`.
 #[derive(Drop)]
 pub struct Book {
@@ -71,14 +70,14 @@ impl Book {
         &self.mappings[position]
     }
 
-    /// The mappings that are held, in order.
+    /// The mappings held, in order.
     fn mappings(&self) -> &[Mapping]
         ensures { result.now ≡ self.now.mappings }
     {
         self.mappings.as_slice()
     }
 
-    /// The stamps of identities that were withdrawn.
+    /// The stamps of withdrawn identities.
     fn traces(&self) -> &Traces
         ensures { result.now ≡ self.now.traces }
     {
@@ -97,7 +96,7 @@ impl Book {
         *self.mappings.allocator()
     }
 
-    /// An equal book, or want of memory. It costs a pointer for each mapping, and a copy of each trace.
+    /// A copy. It costs a pointer for each mapping, and a copy of each trace.
     pub fn clone(&self) -> Result<Book, AllocError>
         ensures { IfOk result (λ copy. copy ≡ self.now) }
     {
@@ -110,7 +109,7 @@ impl Book {
     }
 }
 
-/// The same mappings in a list of their own, or want of memory.
+/// The same mappings in a list of their own.
 fn copied(mappings: &Vec<Mapping>) -> Result<Vec<Mapping>, AllocError>
     ensures { IfOk result (λ copy. copy.items ≡ mappings.now.items) }
 {

@@ -1,11 +1,11 @@
-//! What each kind of edit does to the list of mappings. Nothing here checks the edit.
+//! The change that each kind of edit makes to the list of mappings. Nothing here checks the edit.
 ghost use Rattle.std.specs.Prelude.{◌≡◌};
 ghost use Rattle.lost_spec.specs.Book.{replaced, without};
 
 use crate::held::position_of;
 use lost_mapping::{Identity, Mapping};
 
-/// Puts a mapping in the place of the one with its identity.
+/// Replaces the mapping that has the same identity, in its place.
 pub(crate) fn replace(mappings: &mut Vec<Mapping>, mapping: Mapping)
     ensures { mappings.new.items ≡ replaced mapping mappings.old.items }
 {
@@ -14,7 +14,7 @@ pub(crate) fn replace(mappings: &mut Vec<Mapping>, mapping: Mapping)
     }
 }
 
-/// Takes out the mapping with this identity, and closes up.
+/// Removes the mapping with this identity.
 pub(crate) fn withdraw(mappings: &mut Vec<Mapping>, identity: &Identity)
     ensures { mappings.new.items ≡ without identity.now mappings.old.items }
 {

@@ -7,7 +7,7 @@ ghost use Rattle.lost_spec.specs.Services.{has_live_key};
 
 use lost_mapping::{Identity, Mapping, Moment};
 
-/// Where the mapping with this identity stands.
+/// The position of the mapping with this identity.
 pub(crate) fn position_of(mappings: &[Mapping], identity: &Identity) -> Option<usize>
     ensures { result ≡ position (λ m. has_identity m identity.now) mappings.now }
 {
@@ -16,7 +16,7 @@ pub(crate) fn position_of(mappings: &[Mapping], identity: &Identity) -> Option<u
         .position(|mapping| has_identity(mapping, identity))
 }
 
-/// Where the first mapping stands that is live at an instant and has this key.
+/// The position of the first mapping that is live at an instant and has this key.
 pub(crate) fn position_of_live_key(
     mappings: &[Mapping],
     moment: &Moment,

@@ -1,5 +1,5 @@
-//! Books (own rule): the mappings that are held, in order, the stamps of identities that were withdrawn, the edits that
-//! change them and what edits are refused, and a plain scan for each question that a book is asked.
+//! Books: the mappings held, in order, the stamps of withdrawn identities, the edits that change them, which edits are
+//! refused, and a plain scan for each query.
 #![tactic(auto)]
 
 mod book;

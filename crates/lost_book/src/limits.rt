@@ -1,4 +1,4 @@
-//! How much a book may hold and accept. Rules without a section are this profile's own.
+//! How much a book may hold and accept.
 ghost use Rattle.std.specs.Prelude.{◌≡◌};
 ghost use Rattle.lost_spec.specs.Book.{limits_of, with_traces};
 ghost use Rattle.lost_book.specs.Bounds.{widest, AreAllowed};
@@ -49,7 +49,7 @@ impl Limits {
         }
     }
 
-    /// These limits with so many traces, or `None` unless these are 1 to 65,536. It takes no memory.
+    /// These limits with this number of traces, or `None` unless it is 1 to 65,536. It takes no memory.
     pub fn with_traces(self, traces: u32) -> Option<Limits>
         ensures { result ≡ with_traces self traces }
     {

@@ -1,4 +1,4 @@
-//! Whether two mappings have the same regions, and the same key. Rules without a section are this profile's own.
+//! Whether two mappings have the same regions, and the same key.
 ghost use Rattle.std.specs.Prelude.{◌≡◌};
 ghost use lib.Pointwise.{pointwise};
 ghost use Rattle.lost_spec.specs.Ring.{same_point};

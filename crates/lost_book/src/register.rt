@@ -1,4 +1,4 @@
-//! What the refusal of an edit asks of what holds mappings, and the refusal itself (own order).
+//! Which edits are refused (own order), for any type that holds mappings.
 ghost use Rattle.std.specs.Prelude.{◌≡◌, ◌&&◌, not, length};
 ghost use Rattle.std.specs.List.{list_any};
 ghost use Rattle.std.specs.Option.{option_copied};
@@ -13,9 +13,9 @@ use lost_mapping::{Identity, Mapping, Stamp};
 use lost_message::Edit;
 use lost_spec::faults::EditError;
 
-/// What holds mappings, however it keeps them, as a refusal asks it: it is seen as a book. No question takes memory.
+/// A type that holds mappings, however it keeps them, with what a refusal depends on. No call takes memory.
 pub trait Register {
-    /// The book that it is seen as.
+    /// The book that it stands for.
     ghost book: { Self → spec.Book };
 
     /// How many edits were accepted.
@@ -196,7 +196,7 @@ fn is_not_after<R: Register>(register: &R, identity: &Identity, stamp: &Stamp) -
     }
 }
 
-/// Whether the regions of the mapping held with this one's identity are others, and its key is the same.
+/// Whether the mapping held with this one's identity has other regions and the same key.
 fn is_key_unchanged<R: Register>(register: &R, mapping: &Mapping) -> bool
     ensures { result ≡ is_key_unchanged (held (R.book register.now) (identity_of mapping.now)) mapping.now }
 {

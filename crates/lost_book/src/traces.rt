@@ -1,4 +1,4 @@
-//! The stamps that are remembered of withdrawn identities. Rules without a section are this profile's own.
+//! The remembered stamps of withdrawn identities.
 ghost use Rattle.std.specs.Prelude.{◌≡◌, [], length, IfOk, OnOk, OnErr};
 ghost use Rattle.std.specs.Option.{option_copied};
 ghost use Rattle.lost_spec.specs.Book.{stamp_of_trace, with_trace, without_trace};
@@ -8,8 +8,8 @@ use lost_mapping::{Identity, Stamp};
 use std::alloc::{AllocError, Global};
 use std::marker::Model;
 
-/// The identities that were withdrawn, each with the stamp of its withdrawal. Contracts see them as the list of these
-/// pairs. No call costs more where more are remembered, other than `clone`.
+/// The withdrawn identities, each with the stamp of its withdrawal. Contracts see them as the list of these pairs. No
+/// call but `clone` costs more where more are remembered.
 #[derive(Drop)]
 pub struct Traces {
     alloc: Global,
@@ -50,7 +50,7 @@ impl Traces {
         self.stamps.get(identity)
     }
 
-    /// Remembers a withdrawal, or want of memory, which changes nothing.
+    /// Remembers a withdrawal. If memory is refused, nothing changes.
     #[tactic(auto, using(crate::proofs::TraceLemmas::remembers))]
     pub fn remember(&mut self, identity: &Identity, stamp: &Stamp) -> Result<(), AllocError>
         ensures remembered { OnOk result (self.new ≡ with_trace identity.now stamp.now self.old) }
@@ -68,7 +68,7 @@ impl Traces {
         self.stamps.swap_remove(identity);
     }
 
-    /// The same traces, or want of memory.
+    /// A copy.
     pub fn clone(&self) -> Result<Traces, AllocError>
         ensures { IfOk result (λ copy. copy ≡ self.now) }
     {

@@ -1,14 +1,13 @@
-//! Code 1: a value that is no object, a member that is missing, and a member of another kind, in the order in which they
-//! are looked for.
+//! Code 1: a value that is no object, a missing member, and a member of another kind, in the order of the checks.
 use crate::object::Object;
 use crate::stop::Stop;
 use serde_json::Value;
 use std::alloc::Global;
 
-/// The texts that a mapping must have, in the order in which they are looked for.
+/// The texts that a mapping must have, in the order of the checks.
 const REQUIRED_TEXTS: [&str; 5] = ["source", "sourceId", "lastUpdated", "expires", "service"];
 
-/// The texts that a withdrawal must have, in that order.
+/// The texts that a withdrawal must have, in the order of the checks.
 const WITHDRAWAL_TEXTS: [&str; 3] = ["source", "sourceId", "lastUpdated"];
 
 /// Looks for code 1 in the desk line of this name.

@@ -1,4 +1,4 @@
-//! Codes 13 to 19, 21 and 22: what a book says against an edit.
+//! Codes 13 to 19, 21 and 22: the book's refusals of an edit.
 use crate::object::Object;
 use crate::quoting::quoted;
 use crate::stop::{Stop, found};
@@ -8,7 +8,7 @@ use lost_query::Holdings;
 use lost_routing::Routing;
 use std::alloc::{AllocError, Global};
 
-/// What the book, staged edits counted, says against an edit that is refused with this code.
+/// Why the book with the staged edits refuses an edit with this code.
 pub(crate) fn book_refusal(edit: &Object<'_>, code: u8, staged: &Routing) -> Result<(), Stop> {
     match code {
         18 => full(edit, staged),
@@ -21,7 +21,7 @@ pub(crate) fn book_refusal(edit: &Object<'_>, code: u8, staged: &Routing) -> Res
     }
 }
 
-/// What names the mapping of an edit.
+/// The identity of an edit's mapping.
 fn identity(edit: &Object<'_>) -> Result<Option<Identity>, Stop> {
     let (Some(source), Some(source_id)) = (edit.text("source"), edit.text("sourceId")) else {
         return Ok(None);
@@ -35,7 +35,7 @@ fn identity(edit: &Object<'_>) -> Result<Option<Identity>, Stop> {
     }
 }
 
-/// What the book has against an edit of the mapping with this identity.
+/// Why the book refuses an edit of the mapping with this identity.
 fn against(edit: &Object<'_>, code: u8, staged: &Routing, identity: &Identity) -> Result<(), Stop> {
     let alloc = edit.alloc;
     let source = identity.source().text();
@@ -51,7 +51,7 @@ fn against(edit: &Object<'_>, code: u8, staged: &Routing, identity: &Identity) -
     }
 }
 
-/// Code 15: the stamp is not after that of the mapping that is held.
+/// Code 15: the stamp is not after that of the held mapping.
 fn not_newer(edit: &Object<'_>, staged: &Routing, identity: &Identity) -> Result<(), Stop> {
     let Some(held) = staged.held(identity) else {
         return Ok(());
@@ -78,7 +78,7 @@ fn key_held(edit: &Object<'_>, staged: &Routing, identity: &Identity) -> Result<
     Err(found(format!(in edit.alloc; "key {shown} is that of {source} / {source_id}")))
 }
 
-/// The first mapping of another identity that has this key. It takes time in proportion to the mappings that are held.
+/// The first mapping of another identity that has this key. It takes time in proportion to the held mappings.
 fn with_key<'h>(staged: &'h Routing, identity: &Identity, key: &str) -> Option<&'h Mapping> {
     for position in 0..staged.len() {
         let held = staged.mapping(position);
@@ -100,13 +100,13 @@ fn key_unchanged(edit: &Object<'_>) -> Result<(), Stop> {
     )))
 }
 
-/// Code 18: as many mappings are held as may be.
+/// Code 18: the book holds as many mappings as it may.
 fn full(edit: &Object<'_>, staged: &Routing) -> Result<(), Stop> {
     let count = staged.len();
     Err(found(format!(in edit.alloc; "{count} mappings are held, and no more may be")))
 }
 
-/// Code 19: as many edits were accepted as may be.
+/// Code 19: the book has accepted as many edits as it may.
 fn spent(edit: &Object<'_>, staged: &Routing) -> Result<(), Stop> {
     let count = staged.edition();
     Err(found(format!(in edit.alloc; "{count} edits were accepted, and no more may be")))
@@ -125,7 +125,7 @@ fn withdrawn(edit: &Object<'_>, staged: &Routing, identity: &Identity) -> Result
     )))
 }
 
-/// Code 22: as many withdrawn mappings are remembered as may be.
+/// Code 22: the book remembers as many withdrawn mappings as it may.
 fn traces_full(edit: &Object<'_>, staged: &Routing) -> Result<(), Stop> {
     let count = with_comma(edit.alloc, staged.limits().traces())?;
     Err(found(format!(in edit.alloc;

@@ -31,7 +31,7 @@ fn no_json(alloc: Global, line: &[u8], error: &Error) -> Stop {
     syntax(alloc, line, error)
 }
 
-/// What a line that is no JSON looks like, or where the reader of JSON stood.
+/// The look of a line that is no JSON, or the place where the JSON reader stopped.
 fn syntax(alloc: Global, line: &[u8], error: &Error) -> Stop {
     let row = error.line();
     let column = error.column();

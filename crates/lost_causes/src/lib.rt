@@ -1,5 +1,5 @@
-//! Why a line was refused or is no line at all, in plain words with the place in the line (own rules). Where a place cannot
-//! be told, nothing is said. No contract here says that what is said holds of the line: the rows of checks compare it, line
+//! Why a line was refused or is no line at all, in plain words with the place in the line (own rules). If the place is
+//! unknown, no cause is given. No contract says that a cause is true of its line: the rows of checks compare them line
 //! by line.
 #![tactic(auto)]
 

@@ -6,7 +6,7 @@ use lost_reading::MAX_LOCATIONS;
 use serde_json::Value;
 use std::alloc::Global;
 
-/// Why the locations of a request are none.
+/// Why the locations of a request are refused.
 pub(crate) fn locations(request: &Object<'_>) -> Result<(), Stop> {
     let alloc = request.alloc;
     let owner = request.name;
@@ -26,7 +26,7 @@ pub(crate) fn locations(request: &Object<'_>) -> Result<(), Stop> {
     repeated(alloc, owner, items)
 }
 
-/// The first profile that a location has and one before it too.
+/// The first profile that repeats an earlier location's.
 fn repeated(alloc: Global, owner: &str, items: &[Value]) -> Result<(), Stop> {
     for (place, item) in items.iter().enumerate() {
         let profile = profile_of(item);

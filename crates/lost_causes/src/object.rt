@@ -3,7 +3,7 @@ use crate::stop::{Stop, found};
 use serde_json::{Map, Value};
 use std::alloc::Global;
 
-/// An object of a line, and what it is called in a cause.
+/// An object of a line, and its name in a cause.
 #[derive(Clone, Copy)]
 pub(crate) struct Object<'v> {
     pub(crate) alloc: Global,
@@ -12,7 +12,7 @@ pub(crate) struct Object<'v> {
 }
 
 impl<'v> Object<'v> {
-    /// The object that a value is.
+    /// The object of a value.
     pub(crate) fn of(alloc: Global, name: &'v str, value: &'v Value) -> Result<Object<'v>, Stop> {
         match value.as_object() {
             Some(members) => Ok(Object {
@@ -24,13 +24,13 @@ impl<'v> Object<'v> {
         }
     }
 
-    /// The value of a member that is there: one that is `null` counts as absent.
+    /// The value of a member. A member that is `null` counts as absent.
     pub(crate) fn member(&self, name: &str) -> Option<&'v Value> {
         let value = self.members.get(name)?;
         if value.is_null() { None } else { Some(value) }
     }
 
-    /// The text of a member that is there and is one.
+    /// The text of a member that is a text.
     pub(crate) fn text(&self, name: &str) -> Option<&'v str> {
         self.member(name)?.as_str()
     }
@@ -67,7 +67,7 @@ impl<'v> Object<'v> {
         }
     }
 
-    /// The items of an optional list, which `what` says of what; none where there is no list.
+    /// The items of an optional list, none if it is absent. `what` names the kind of list.
     pub(crate) fn optional_list(&self, name: &str, what: &str) -> Result<&'v [Value], Stop> {
         match self.member(name) {
             Some(value) => self.list(name, what, value),
@@ -88,7 +88,7 @@ impl<'v> Object<'v> {
         }
     }
 
-    /// Each item of a list of texts is one.
+    /// Checks that each item of a list is a text.
     pub(crate) fn are_texts(&self, name: &str, items: &[Value]) -> Result<(), Stop> {
         let owner = self.name;
         for (place, item) in items.iter().enumerate() {
@@ -101,7 +101,7 @@ impl<'v> Object<'v> {
         Ok(())
     }
 
-    /// The member is missing; `null` counts so.
+    /// The member is missing. `null` counts as missing.
     fn missing(&self, name: &str) -> Stop {
         let owner = self.name;
         if self.members.contains_key(name) {

@@ -6,7 +6,7 @@ use lost_civic::{Element, MAX_TEXT_BYTES};
 use serde_json::Value;
 use std::alloc::Global;
 
-/// Why the pattern of a region is none.
+/// Why the pattern of a region is refused.
 pub(crate) fn pattern(region: &Object<'_>) -> Result<(), Stop> {
     let alloc = region.alloc;
     let owner = region.name;
@@ -23,7 +23,7 @@ pub(crate) fn pattern(region: &Object<'_>) -> Result<(), Stop> {
     Ok(())
 }
 
-/// Why a member is none of a pattern.
+/// Why a member of a pattern is refused.
 fn element(alloc: Global, owner: &str, name: &str, value: &Value) -> Result<(), Stop> {
     let Some(text) = value.as_str() else {
         let shown = quoted(alloc, name)?;
@@ -42,7 +42,7 @@ fn element(alloc: Global, owner: &str, name: &str, value: &Value) -> Result<(), 
     Ok(())
 }
 
-/// A name is that of no element; it may be one in another case.
+/// A name is of no element. It may be one in another case.
 fn unknown(alloc: Global, owner: &str, name: &str) -> Stop {
     let Ok(shown) = quoted(alloc, name) else {
         return Stop::Memory;

@@ -6,7 +6,7 @@ use lost_geo::{GeoPoint, MAX_POSITIONS, MIN_POSITIONS};
 use serde_json::Value;
 use std::alloc::Global;
 
-/// Why the polygon of a region is none.
+/// Why the polygon of a region is refused.
 pub(crate) fn polygon(region: &Object<'_>) -> Result<(), Stop> {
     let alloc = region.alloc;
     let owner = region.name;
@@ -93,7 +93,7 @@ fn coordinates(alloc: Global, name: &str, lat: &Value, lon: &Value) -> Result<()
     }
 }
 
-/// The whole number that a coordinate is.
+/// The whole number of a coordinate.
 fn whole_number(alloc: Global, name: &str, what: &str, value: &Value) -> Result<i64, Stop> {
     match value.as_i64() {
         Some(number) => Ok(number),

@@ -1,4 +1,4 @@
-//! The cause of a refusal, and of `badRequest`. Rules without a section are this profile's own.
+//! The cause of a refusal, and of `badRequest`.
 use crate::bad_line::bad_line;
 use crate::book_refusals::book_refusal;
 use crate::json::tree;
@@ -14,8 +14,8 @@ use lost_routing::Routing;
 use serde_json::Value;
 use std::alloc::{AllocError, Global};
 
-/// Why a desk line is refused with this code of the desk's table, in words, where the book of what is staged is `staged`.
-/// The words are empty where no cause is found. Fails for want of memory.
+/// Why a desk line is refused with this code of the desk's table, in words. `staged` is the book with the staged edits
+/// too. The words are empty if no cause is found.
 pub fn refusal_cause(
     alloc: Global,
     line: &[u8],
@@ -28,8 +28,7 @@ pub fn refusal_cause(
     words(alloc, refusal(alloc, line, code, staged))
 }
 
-/// Why a line is neither a desk line nor a request, in words. They are empty where no cause is found. Fails for want of
-/// memory.
+/// Why a line is neither a desk line nor a request, in words. They are empty if no cause is found.
 pub fn bad_request_cause(alloc: Global, line: &[u8]) -> Result<String, AllocError> {
     words(alloc, bad_request(alloc, line))
 }

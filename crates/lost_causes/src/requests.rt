@@ -9,7 +9,7 @@ use lost_reading::{MAX_NAMES, by_value};
 use serde_json::{Map, Value};
 use std::alloc::Global;
 
-/// What a line may be, by the name of its one member.
+/// The names that the one member of a line may have.
 const NAMES: [&str; 8] = [
     "findService",
     "listServicesByLocation",
@@ -46,7 +46,7 @@ fn one_member(alloc: Global, members: &Map<String, Value>) -> Result<(), Stop> {
     Ok(())
 }
 
-/// A name is that of no line; it may be one in another case.
+/// A name is of no line. It may be one in another case.
 fn unknown(alloc: Global, name: &str) -> Stop {
     let Ok(shown) = quoted(alloc, name) else {
         return Stop::Memory;
@@ -88,7 +88,7 @@ fn find_service(object: &Object<'_>) -> Result<(), Stop> {
     path(object)
 }
 
-/// Why the service of a request is none, where it has one.
+/// Why the service of a request is refused, if it has one.
 fn asked_service(object: &Object<'_>) -> Result<(), Stop> {
     let owner = object.name;
     match object.optional_text("service")? {
@@ -111,7 +111,7 @@ fn preference(object: &Object<'_>) -> Result<(), Stop> {
     }
 }
 
-/// Why the path of a request is none.
+/// Why the path of a request is refused.
 fn path(object: &Object<'_>) -> Result<(), Stop> {
     let names = object.optional_list("path", "a list of texts")?;
     object.are_texts("path", names)?;

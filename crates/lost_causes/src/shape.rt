@@ -1,4 +1,4 @@
-//! Codes 10, 11 and 12: what does not go together, and what is too much.
+//! Codes 10, 11 and 12: parts that do not go together, and parts that are too large.
 use crate::object::Object;
 use crate::stop::{Stop, found};
 use crate::texts::id;
@@ -15,7 +15,7 @@ fn is_default(mapping: &Object<'_>) -> bool {
     }
 }
 
-/// Why the number of regions is that of no mapping.
+/// Why a mapping has no region, or a default has one.
 pub(crate) fn missing(mapping: &Object<'_>) -> Result<(), Stop> {
     let words = if is_default(mapping) {
         "serviceBoundary: a default has no region"
@@ -25,7 +25,7 @@ pub(crate) fn missing(mapping: &Object<'_>) -> Result<(), Stop> {
     Err(found(String::from_str(mapping.alloc, words)))
 }
 
-/// What of a mapping is too much.
+/// Which part of a mapping is too large.
 pub(crate) fn too_large(mapping: &Object<'_>) -> Result<(), Stop> {
     let alloc = mapping.alloc;
     let regions = mapping.optional_list("serviceBoundary", "a list of regions")?;
@@ -79,7 +79,7 @@ fn display_name(alloc: Global, place: usize, item: &Value) -> Result<(), Stop> {
     Ok(())
 }
 
-/// Why the key of a mapping is none.
+/// Why the key of a mapping is refused.
 pub(crate) fn key(mapping: &Object<'_>) -> Result<(), Stop> {
     let words = match mapping.text("key") {
         Some(_) if is_default(mapping) => "key: a default has none",

@@ -1,7 +1,7 @@
-//! What ends the walk through a line.
+//! The end of a walk through a line.
 use std::alloc::{AllocError, AllocFailed};
 
-/// What ends the walk through a line: the cause is found, or memory ran out.
+/// Why the walk through a line ends: the cause is found, or memory ran out.
 #[derive(Drop)]
 pub(crate) enum Stop {
     /// The cause, in words.
@@ -22,7 +22,7 @@ impl<T: Drop> From<AllocFailed<T>> for Stop {
     }
 }
 
-/// The cause, in words that were made, unless memory ran out.
+/// The cause in these words, unless memory ran out.
 pub(crate) fn found(words: Result<String, AllocError>) -> Stop {
     match words {
         Ok(words) => Stop::Cause(words),

@@ -17,7 +17,7 @@ pub(crate) fn source(alloc: Global, text: &str) -> Result<(), Stop> {
     Ok(())
 }
 
-/// Why a text is no sourceId or no key, by the name of the member.
+/// Why a text is no sourceId or no key. `name` is the name of the member.
 pub(crate) fn id(alloc: Global, name: &str, text: &str) -> Result<(), Stop> {
     length(alloc, name, text, MAX_ID_BYTES)?;
     for byte in text.as_bytes() {
@@ -31,7 +31,7 @@ pub(crate) fn id(alloc: Global, name: &str, text: &str) -> Result<(), Stop> {
     Ok(())
 }
 
-/// Why a text is no service URN, by the name of the member.
+/// Why a text is no service URN. `name` is the name of the member.
 pub(crate) fn service(alloc: Global, name: &str, text: &str) -> Result<(), Stop> {
     match ServiceUrn::check(text.as_bytes()) {
         Ok(()) => Ok(()),
@@ -58,7 +58,7 @@ fn is_dial_byte(byte: u8) -> bool {
     byte.is_ascii_digit() || byte == b'*' || byte == b'#'
 }
 
-/// Why the length of a text is not from 1 to the most bytes that it may have.
+/// Why the length of a text is not from 1 to `most` bytes.
 fn length(alloc: Global, name: &str, text: &str, most: usize) -> Result<(), Stop> {
     let bytes = text.len();
     if bytes == 0 {

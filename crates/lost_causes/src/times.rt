@@ -4,7 +4,7 @@ use crate::stop::{Stop, found};
 use lost_mapping::Stamp;
 use std::alloc::Global;
 
-/// The first 19 bytes of a stamp, in which 0 stands for any digit.
+/// The first 19 bytes of a stamp. 0 stands for any digit.
 const SHAPE: &[u8] = b"0000-00-00T00:00:00";
 
 /// Why a text is no stamp.
@@ -30,7 +30,7 @@ pub(crate) fn expires(alloc: Global, text: &str) -> Result<(), Stop> {
     )))
 }
 
-/// Whether a text has the digits and signs of a stamp, in their places, whatever time they name.
+/// Whether a text has the digits and signs of a stamp in their places, whatever time they name.
 fn has_shape(text: &[u8]) -> bool {
     let Some((front, end)) = text.split_at_checked(SHAPE.len()) else {
         return false;

@@ -5,7 +5,7 @@ use lost_mapping::{MAX_URI_BYTES, MAX_URIS};
 use serde_json::Value;
 use std::alloc::Global;
 
-/// Why texts are no URIs of a mapping.
+/// Why the URIs of a mapping are refused.
 pub(crate) fn uris(alloc: Global, items: &[Value]) -> Result<(), Stop> {
     let count = items.len();
     if count == 0 {
@@ -39,7 +39,7 @@ fn uri(alloc: Global, place: usize, text: &str) -> Result<(), Stop> {
     Err(found(format!(in alloc; "uri[{place}]: {shown}: {why}")))
 }
 
-/// What stands before the first colon, or all of a text that has none.
+/// The text before the first colon, or the whole text if it has none.
 fn scheme_of(text: &str) -> &str {
     match text.split_once(":") {
         Some((scheme, _)) => scheme,
@@ -64,7 +64,7 @@ fn is_scheme_byte(byte: u8) -> bool {
     byte.is_ascii_alphanumeric() || byte == b'+' || byte == b'-' || byte == b'.'
 }
 
-/// The first scheme that a URI has and one before it too, in any case.
+/// The first scheme that repeats an earlier URI's, in any case.
 fn repeated(alloc: Global, items: &[Value]) -> Result<(), Stop> {
     for (place, item) in items.iter().enumerate() {
         let scheme = scheme_of(item.as_str().unwrap_or(""));

@@ -1,4 +1,4 @@
-//! What checks the lines of a stream.
+//! Checks the lines of a stream.
 ghost use Rattle.std.specs.Prelude.{◌≡◌};
 ghost use Rattle.lost_lines.specs.Answer.{reply_of};
 ghost use Rattle.lost_replay.specs.Outcome.{IsListed};
@@ -13,7 +13,7 @@ use lost_lines::{Answer, Answerer, MAX_LINE};
 use lost_replay::{Outcome, Replayer};
 use std::alloc::{AllocError, Global};
 
-/// What checks the lines of a stream: a replay answers each line, and what is said of the line is by what that answer is.
+/// Checks the lines of a stream: a replay answers each line, and the outcome decides what is reported of the line.
 #[derive(Drop)]
 pub(crate) struct Checker<'a> {
     pub(crate) alloc: Global,
@@ -22,7 +22,7 @@ pub(crate) struct Checker<'a> {
 }
 
 impl Checker<'_> {
-    /// Counts a line that the replay has answered, and gives what is said of it. The line is there where it was kept whole.
+    /// Counts a line that the replay has answered, and gives its report. `line` is there if the line was kept whole.
     fn judge(&mut self, is_internal_error: bool, line: Option<&[u8]>) -> Answer
         requires { IsListed (outcome_of self.old.replayer) }
         ensures { Judges self.old self.new is_internal_error (reply_of result) }
@@ -36,8 +36,7 @@ impl Checker<'_> {
         }
     }
 
-    /// The cause of an outcome of a line that was kept whole, or of none, behind a colon and a space. It is empty where none
-    /// is found, or where memory is short.
+    /// The cause of an outcome, after a colon and a space. It is empty if none is found or memory is short.
     fn cause(&self, outcome: Outcome, line: Option<&[u8]>) -> String {
         let found = match outcome {
             Outcome::Answered | Outcome::Staged(_) | Outcome::Committed(_) => {
@@ -68,7 +67,7 @@ impl Checker<'_> {
     }
 }
 
-/// A cause, behind a colon and a space where it is not empty.
+/// A cause after a colon and a space. An empty cause stays empty.
 fn behind_colon(alloc: Global, found: Result<String, AllocError>) -> Result<String, AllocError> {
     let words = found?;
     if words.is_empty() {
@@ -78,7 +77,7 @@ fn behind_colon(alloc: Global, found: Result<String, AllocError>) -> Result<Stri
 }
 
 impl Checker<'_> {
-    /// What was found of the lines so far.
+    /// The counts of the lines so far.
     pub(crate) fn findings(&self) -> Findings
         ensures refused { result.refused ≡ self.now.tally.refused }
         ensures bad_requests { result.bad_requests ≡ self.now.tally.bad_requests }

@@ -13,17 +13,17 @@ use lost_replay::Replayer;
 use std::alloc::Global;
 use std::io::{Read, Write};
 
-/// Reads the desk lines and the request lines of `input` as a replay does, by the server of this name at one moment, and
-/// writes a line of text for each line that the replay refuses or answers `badRequest` or `internalError`: its number,
-/// from 1, the code and name of the refusal or the name of the error, and a cause in plain words. Of any other line
-/// nothing is written. Each line is judged only once `gate` let it through. What was found is put into `found`, also where
-/// a fault came later (own rules).
+/// Reads the desk lines and the request lines of `input` as a replay does, by the server of this name at one moment.
+/// Writes a line of text for each line that the replay refuses or answers `badRequest` or `internalError`: its number,
+/// from 1, the code and name of the refusal or the name of the error, and a cause in plain words. For any other line it
+/// writes nothing. Each line is judged only once `gate` let it through. The counts go into `found`, even if a fault
+/// came later (own rules).
 ///
 /// # Errors
 ///
-/// [`ServeError::Memory`] where the replay could not be begun: nothing was read or written. [`ServeError::Read`],
-/// [`ServeError::Write`] and [`ServeError::TurnsSpent`] as [`run_lines`] says. After a fault the output holds a front of
-/// what is said of the lines, and after `Read` and `TurnsSpent` the whole of it for all lines whose byte 10 was read, up to
+/// [`ServeError::Memory`] if the replay could not begin: nothing was read or written. [`ServeError::Read`],
+/// [`ServeError::Write`] and [`ServeError::TurnsSpent`] as in [`run_lines`]. After a fault the output holds a front of
+/// the report. After `Read` and `TurnsSpent` it holds the whole report of all lines whose byte 10 was read, up to
 /// `turns.lines` of them and before any that the gate refused.
 pub fn check_lines<R: Read, W: Write, G: Gate>(
     alloc: Global,
@@ -37,7 +37,7 @@ pub fn check_lines<R: Read, W: Write, G: Gate>(
 ) -> Result<Counts, ServeError>
     requires fresh { AreFresh input.old output.old }
 
-    // Something is written of exactly the lines that a replay refuses or does not answer.
+    // Reports exactly the lines that a replay refuses or answers `badRequest` or `internalError`.
     ensures outcome { IsCheckOutcome (G.says gate.now) name.now moment.now turns
         (passage_of R.remaining W.contents input.old input.new output.old output.new) found.new result }
     ensures faults { StreamFaults R.remaining turns input.new output.old output.new result }
@@ -58,7 +58,7 @@ pub fn check_lines<R: Read, W: Write, G: Gate>(
     served
 }
 
-/// The number of lines that turns allow is one of 64 bits.
+/// The number of lines that turns allow has 64 bits.
 fn law_most_lines(turns: Turns)
     ensures { turns.lines ≤ 2 ^ 64 - 1 }
 {}

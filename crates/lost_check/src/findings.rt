@@ -1,22 +1,22 @@
-//! What a check of a stream found. Rules without a section are this profile's own.
+//! The findings of a check of a stream.
 ghost use Rattle.std.specs.Prelude.{◌≡◌};
 ghost use Rattle.lost_check.specs.Tally.{finds_nothing};
 
-/// What was counted of the lines of a stream.
+/// The counts of the lines of a stream.
 #[derive(Clone, Copy, PartialEq, Eq, Debug, Default)]
 pub struct Findings {
-    /// How many of them a replay refuses.
+    /// The number of lines that a replay refuses.
     pub refused: u64,
-    /// How many of them a replay answers `badRequest`.
+    /// The number of lines that a replay answers `badRequest`.
     pub bad_requests: u64,
-    /// How many of them were not judged, since memory ran out.
+    /// The number of lines that were not judged, since memory ran out.
     pub unjudged: u64,
-    /// How many edits are published at their end.
+    /// The number of published edits at the end.
     pub edition: u64,
 }
 
 impl Findings {
-    /// Whether nothing was said of any line: none is refused, answered `badRequest` or left unjudged.
+    /// Whether no line is reported: none is refused, answered `badRequest` or left unjudged.
     pub fn is_nothing(&self) -> bool
         ensures { result ≡ finds_nothing self.now }
     {

@@ -1,12 +1,12 @@
-//! The head of what is said of a line: its number, and the refusal's code and name. It takes no memory.
+//! The head of a line's report: its number, and the refusal's code and name. It takes no memory.
 ghost use Rattle.std.specs.Prelude.{◌≡◌, ◌≤◌, ◌+◌, ◌++◌, length};
 ghost use Rattle.lost_writing.specs.DeskReplies.{IsCode};
 ghost use Rattle.lost_check.specs.Said.{line_front, code_label};
 
 use lost_writing::{DeskText, refusal_name};
 
-/// The head of what is said of the line with this number: `line 12: badRequest`, where the label is `badRequest`. The
-/// caller has: the label has at most 18 bytes.
+/// The head of the report of the line with this number: `line 12: badRequest` for the label `badRequest`. The label
+/// must have at most 18 bytes.
 pub(crate) fn head(number: u64, label: &[u8]) -> DeskText
     requires { length label.now ≤ 18 }
     ensures text { result ≡ line_front number ++ label.now }
@@ -20,7 +20,7 @@ pub(crate) fn head(number: u64, label: &[u8]) -> DeskText
     text
 }
 
-/// The label of a code: `9 BadRegion`. The caller has: the code is one of the desk's table.
+/// The label of a code: `9 BadRegion`. The code must be one of the desk's table.
 pub(crate) fn label(code: u8) -> DeskText
     requires { IsCode code }
     ensures text { result ≡ code_label code }

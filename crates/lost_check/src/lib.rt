@@ -1,4 +1,4 @@
-//! A check of a stream of desk lines and request lines (own rules): what a replay of it would refuse, line by line.
+//! A check of a stream of desk lines and request lines (own rules): reports the lines that a replay would refuse.
 #![tactic(auto)]
 
 mod checker;

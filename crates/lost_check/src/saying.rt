@@ -1,4 +1,4 @@
-//! What is said of a line.
+//! The report of a line.
 ghost use Rattle.std.specs.Prelude.{◌≡◌, ◌≢◌, ◌≤◌, ◌++◌, All, IfOk, length};
 ghost use Rattle.lost_lines.specs.Answer.{bytes_of};
 ghost use Rattle.lost_lines.specs.Cutting.{newline};
@@ -12,9 +12,9 @@ use lost_writing::DeskText;
 use memchr::memchr;
 use std::alloc::{AllocError, Global};
 
-/// What is said of the line with this number, by the outcome of a replay's answer to it: nothing where the line is taken;
-/// else the line's number and why, and then the cause, up to its first byte 10. Where memory is short the cause is left
-/// out. The caller has: a code of the desk's table.
+/// The report of the line with this number, by the outcome of a replay's answer to it. It is empty if the line is
+/// taken; otherwise it has the line's number and why, then the cause up to its first byte 10. If memory is short, the
+/// cause is left out. A code must be one of the desk's table.
 pub(crate) fn say(alloc: Global, number: u64, outcome: Outcome, cause: &[u8]) -> Text
     requires { IsListed outcome }
     ensures { IsSaid number outcome (bytes_of result) }
@@ -30,7 +30,7 @@ pub(crate) fn say(alloc: Global, number: u64, outcome: Outcome, cause: &[u8]) ->
     }
 }
 
-/// A line of text with this head and this cause. The caller has: the head has at most 45 bytes.
+/// A line of text with this head and this cause. The head must have at most 45 bytes.
 fn headed(alloc: Global, head: DeskText, cause: &[u8]) -> Text
     requires { length head ≤ 45 }
     ensures { IsHeaded head (bytes_of result) }
@@ -51,7 +51,7 @@ fn ended(head: DeskText) -> DeskText
     line
 }
 
-/// A head and a cause as one line, or want of memory.
+/// A head and a cause as one line.
 fn whole_line(alloc: Global, head: &[u8], cause: &[u8]) -> Result<Vec<u8>, AllocError>
     ensures { IfOk result (λ line. IsHeaded head.now line.items) }
 {
@@ -62,7 +62,7 @@ fn whole_line(alloc: Global, head: &[u8], cause: &[u8]) -> Result<Vec<u8>, Alloc
     Ok(line)
 }
 
-/// The bytes before the first byte 10, or all where there is none.
+/// The bytes before the first byte 10, or all if there is none.
 fn first_line(bytes: &[u8]) -> &[u8]
     ensures { All (λ b. b ≢ newline) result.now }
 {

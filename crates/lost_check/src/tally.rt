@@ -4,7 +4,7 @@ ghost use Rattle.lost_check.specs.Tally.{Counted};
 
 use lost_replay::Outcome;
 
-/// What was counted so far. A count stays at its greatest value.
+/// The counts so far. A count stays at its greatest value.
 #[derive(Clone, Copy, PartialEq, Eq, Debug)]
 pub(crate) struct Tally {
     pub(crate) lines: u64,
@@ -14,7 +14,7 @@ pub(crate) struct Tally {
 }
 
 impl Tally {
-    /// Nothing was counted.
+    /// No counts yet.
     pub(crate) fn new() -> Tally
         ensures { result ≡ record { lines = 0; refused = 0; bad_requests = 0; unjudged = 0 } }
     {

@@ -1,4 +1,4 @@
-//! Civic addresses. Rules without a section are this profile's own.
+//! Civic addresses.
 
 ghost use Rattle.std.specs.Prelude.{◌≡◌, ◌≢◌, None, Some, IfOk, IfErr, OnOk, IfSome};
 ghost use Rattle.std.specs.Option.{option_copied};
@@ -18,8 +18,8 @@ use std::hash::{Hash, Hasher};
 use std::marker::Model;
 
 /// A civic address (RFC 5222, section 12.3; RFC 4119, section 2.2.1): pairs of a name and a value, in the order in
-/// which they were given. Contracts see an address as its pairs. A name that is that of no element may stand beside
-/// one that is.
+/// which they were given. Contracts see an address as its pairs. At least one name is an element's; others may be
+/// unknown.
 #[derive(Drop)]
 pub struct CivicAddress {
     pairs: Vec<(String, String)>,
@@ -105,7 +105,7 @@ impl CivicAddress {
         }
     }
 
-    /// An address with the same pairs.
+    /// A copy.
     pub fn clone(&self) -> Result<CivicAddress, AllocError>
         ensures { IfOk result (λ copy. copy ≡ self.now) }
     {

@@ -10,29 +10,29 @@ ghost use Rattle.lost_civic.specs.Element.{element_index, element_name, all_elem
 pub enum Element {
     /// `country`: the two letters of the country.
     Country,
-    /// `A1`: a national subdivision, as a state, a region or a province.
+    /// `A1`: a national subdivision, such as a state, a region or a province.
     A1,
     /// `A2`: a county or a parish.
     A2,
     /// `A3`: a city or a township.
     A3,
-    /// `A4`: a division of a city, as a borough.
+    /// `A4`: a division of a city, such as a borough.
     A4,
     /// `A5`: a neighborhood or a block.
     A5,
     /// `A6`: a group of streets below the neighborhood level.
     A6,
-    /// `PRM`: the road's pre-modifier, as "Old".
+    /// `PRM`: the road's pre-modifier, such as "Old".
     Prm,
     /// `PRD`: the leading direction of the street.
     Prd,
     /// `RD`: the primary road or street.
     Rd,
-    /// `STS`: the street's suffix or type, as "Avenue".
+    /// `STS`: the street's suffix or type, such as "Avenue".
     Sts,
     /// `POD`: the trailing direction of the street.
     Pod,
-    /// `POM`: the road's post-modifier, as "Extended".
+    /// `POM`: the road's post-modifier, such as "Extended".
     Pom,
     /// `RDSEC`: a section of the road.
     RdSec,
@@ -46,21 +46,21 @@ pub enum Element {
     Hns,
     /// `LMK`: a landmark or a vanity address.
     Lmk,
-    /// `LOC`: additional information on the location, as "south wing".
+    /// `LOC`: additional information on the location, such as "south wing".
     Loc,
     /// `FLR`: the floor.
     Flr,
-    /// `NAM`: a name, as of a residence, a business or an office's occupant.
+    /// `NAM`: the name of a residence, a business or an office's occupant.
     Nam,
     /// `PC`: the postal code.
     Pc,
     /// `BLD`: the building.
     Bld,
-    /// `UNIT`: the unit, as an apartment or a suite.
+    /// `UNIT`: the unit, such as an apartment or a suite.
     UnitNumber,
     /// `ROOM`: the room.
     Room,
-    /// `SEAT`: the seat, as a desk or a cubicle.
+    /// `SEAT`: the seat, such as a desk or a cubicle.
     Seat,
     /// `PLC`: the type of the place.
     Plc,
@@ -116,7 +116,7 @@ impl Element {
         self as usize
     }
 
-    /// The name of the element, in exact case, as `country` or `PC`.
+    /// The name of the element, in exact case, such as `country` or `PC`.
     #[tactic(auto, unfolding(crate::specs::Element::element_name))]
     pub fn name(self) -> &'static str
         ensures value { result.now ≡ element_name self }

@@ -1,4 +1,4 @@
-//! Civic patterns. Rules without a section are this profile's own.
+//! Civic patterns.
 
 ghost use Rattle.std.specs.Prelude.{◌≡◌, ◌≢◌, None, Some, IsTrue, IfOk, IfErr, OnOk, IfSome};
 ghost use Rattle.std.specs.Option.{option_copied};
@@ -125,7 +125,7 @@ impl CivicPattern {
         ))
     }
 
-    /// A pattern with the same pairs, or want of memory. It costs a pointer.
+    /// A copy. It costs a pointer.
     pub fn clone(&self) -> Result<CivicPattern, AllocError>
         ensures { IfOk result (λ copy. copy ≡ self.now) }
     {

@@ -64,7 +64,7 @@ pub(crate) fn is_long(name: &str, value: &str) -> bool
     name.len() > MAX_TEXT_BYTES || value.len() > MAX_TEXT_BYTES
 }
 
-/// Whether a name stands twice. It takes the square of their number, which is at most 128 where this is asked.
+/// Whether a name stands twice. The time is quadratic in the number of pairs, at most 128 here.
 fn repeats_name(pairs: &[(String, String)]) -> bool
     ensures { result ≡ has_repeat (names_of (seen_pairs pairs.now)) }
 {

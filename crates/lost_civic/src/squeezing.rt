@@ -1,4 +1,4 @@
-//! Comparison texts: what two values are compared by. Rules without a section are this profile's own.
+//! Comparison texts, by which two values are compared.
 
 ghost use Rattle.std.specs.Prelude.{◌≡◌, ◌==◌, ◌<◌, ◌++◌, not, IfOk, OnOk, string_bytes, string_len, encode_utf8};
 ghost use Rattle.std.specs.Char.{to_ascii_lowercase};
@@ -14,7 +14,7 @@ fn is_white_space(character: char) -> bool
     matches!(character, '\u{9}'..='\u{d}' | ' ')
 }
 
-/// Appends a character in lower case, after one space where white space stands between it and what was written.
+/// Appends a character in lower case, after one space where white space stands between it and the text before.
 fn push_character(text: &mut String, after_white: bool, character: char) -> Result<(), AllocError>
     ensures written { OnOk result
         (string_bytes text.new

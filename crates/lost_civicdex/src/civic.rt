@@ -13,8 +13,8 @@ use lost_profile::Profile;
 use std::alloc::{AllocError, Global};
 
 /// Civic addresses among civic patterns (RFC 5222, section 12.3). A pattern is kept under the key of its last element
-/// in the order of the table, and an address is looked up under the keys of all its known elements. An outline tells
-/// nothing.
+/// in the order of the table, and an address is looked up under the keys of all its known elements. An outline rules
+/// out nothing.
 pub struct Civic;
 
 impl Profile for Civic {

@@ -13,7 +13,7 @@ use std::cmp::Ordering;
 use std::hash::{Hash, Hasher};
 use std::marker::Model;
 
-/// An element with the comparison text of a value: what an index finds civic patterns by. Contracts see a key as the
+/// An element with the comparison text of a value, by which an index finds civic patterns. Contracts see a key as the
 /// pair of both. Keys are ordered by their elements' positions in the table, and then by the bytes of their texts.
 #[derive(Drop)]
 pub struct ElementKey {
@@ -31,7 +31,7 @@ impl Model for ElementKey {
 }
 
 impl ElementKey {
-    /// The key of an element with a comparison text, of which it makes a copy.
+    /// The key of an element with a copy of this comparison text.
     pub fn new(alloc: Global, element: Element, text: &str) -> Result<ElementKey, AllocError>
         ensures { IfOk result (λ key. key ≡ (element, text.now)) }
     {

@@ -1,4 +1,4 @@
-//! What is true of required elements, over the definitions alone. The function's contract is the law; it does nothing.
+//! A law of required elements, over the definitions alone. The function's contract is the law, and its body is empty.
 
 ghost use Rattle.lost_civicdex.specs.References.{RequiredAgree};
 

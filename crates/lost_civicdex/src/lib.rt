@@ -1,5 +1,4 @@
-//! Civic locations as profiles of an index: which keys a pattern is noted under, and which an address asks for. Rules
-//! without a section are this profile's own.
+//! Civic locations as profiles of an index: the keys under which patterns are kept and addresses are looked up.
 #![tactic(auto)]
 
 mod civic;

@@ -1,4 +1,4 @@
-//! The profile of elements that are required of patterns.
+//! The profile of elements that a pattern must name.
 
 ghost use Rattle.std.specs.Prelude.{◌≡◌, true, refl};
 ghost use Rattle.lost_spec.specs.Civic.{has_value};
@@ -14,9 +14,9 @@ use lost_profile::Profile;
 use std::alloc::{AllocError, Global};
 
 /// Required elements among civic patterns: a pattern contains them where it names each of them with its comparison
-/// text. So the patterns that are references for an address in a validation (RFC 5222, section 8.4.2; the policy is an
-/// own rule) are found by an index. A pattern is kept under the keys of all its elements, in the order of the table,
-/// and required elements are looked up under the last of them. An outline tells nothing.
+/// text. So an index finds the patterns that are references for an address in a validation (RFC 5222, section 8.4.2;
+/// the policy is an own rule). A pattern is kept under the keys of all its elements, in the order of the table, and
+/// required elements are looked up under the last of them. An outline rules out nothing.
 pub struct References;
 
 /// Whether the pattern names the key's element with the key's comparison text.

@@ -1,4 +1,4 @@
-//! Elements that a pattern is required to name.
+//! Elements that a pattern must name.
 
 ghost use Rattle.std.specs.Prelude.{◌≡◌, ◌↔◌, ◌<◌, [], IfOk, IfSome, IsNone, filter_map, length};
 ghost use Rattle.lost_civicdex.specs.Keys.{key_of};
@@ -9,8 +9,8 @@ use lost_civic::{CivicAddress, Element};
 use std::alloc::{AllocError, Global};
 use std::marker::Model;
 
-/// Elements with their comparison texts, at least one, which a pattern is required to name. Contracts see them as the
-/// list of their keys.
+/// Elements with their comparison texts, at least one, which a pattern must name. Contracts see them as the list of
+/// their keys.
 #[derive(Drop)]
 pub struct RequiredElements {
     keys: Vec<ElementKey>,
@@ -29,7 +29,7 @@ impl Model for RequiredElements {
 }
 
 impl RequiredElements {
-    /// These elements with their texts; None where there is none.
+    /// These elements with their texts; `None` where the list is empty.
     pub fn new(keys: Vec<ElementKey>) -> Option<RequiredElements>
         ensures some { IfSome result (λ required. required ≡ keys.items) }
         ensures none { IsNone result ↔ (keys.items ≡ []) }
@@ -41,8 +41,8 @@ impl RequiredElements {
         }
     }
 
-    /// Those of these elements that stand in the address, with its comparison texts, in the order given; None where
-    /// none of them does.
+    /// These elements, where they stand in the address, with its comparison texts, in the order given; `None` where
+    /// none does.
     pub fn of_address(
         alloc: Global,
         address: &CivicAddress,

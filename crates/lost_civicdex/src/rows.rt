@@ -2,7 +2,7 @@
 
 ghost use Rattle.lost_civicdex.specs.Rows.{CoversRow, ReferencesRow};
 
-/// The keys that patterns are kept under, and an address is looked up under.
+/// The keys under which patterns are kept, and under which an address is looked up.
 pub fn covers()
     ensures { CoversRow }
 {}

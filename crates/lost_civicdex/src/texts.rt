@@ -10,11 +10,11 @@ use crate::ElementKey;
 use lost_civic::{CivicAddress, CivicPattern, Element};
 use std::alloc::{AllocError, Global};
 
-/// What has comparison texts of elements: an address or a pattern.
+/// An address or a pattern: it has comparison texts of elements.
 pub(crate) trait ElementTexts {
     ghost pairs_of: { Self → Pairs };
 
-    /// The comparison text of an element, where it stands there.
+    /// The comparison text of an element, where the element stands in it.
     fn text(&self, element: Element) -> Option<&str>
         ensures { option_copied result ≡ text_of element (pairs_of self.now) };
 }
@@ -35,7 +35,7 @@ impl ElementTexts for CivicPattern {
     }
 }
 
-/// The keys of those of these elements that stand there, in the order given. Room for so many keys is taken at once.
+/// The keys of these elements, where they stand in it, in the order given. Room for `room` keys is taken at once.
 pub(crate) fn make_keys<T: ElementTexts>(
     alloc: Global,
     texts: &T,

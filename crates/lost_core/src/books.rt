@@ -1,4 +1,4 @@
-//! Books of lists of edits.
+//! Books from lists of edits.
 ghost use Rattle.std.specs.Prelude.{◌≡◌, map, take, IfOk, OnOk};
 ghost use Rattle.lost_spec.specs.Book.{after, book_of as book_meant};
 ghost use Rattle.lost_message.specs.Edit.{edit_of};
@@ -6,7 +6,7 @@ ghost use Rattle.lost_message.specs.Edit.{edit_of};
 use lost_book::{Book, Edit, EditError, Limits};
 use std::alloc::{AllocError, Global};
 
-/// The book of a list of edits within these limits, made from the empty one, or want of memory.
+/// The book of a list of edits within these limits, made from the empty one.
 pub(crate) fn book_of(alloc: Global, limits: Limits, edits: &[Edit]) -> Result<Book, AllocError>
     ensures { IfOk result (λ book. book ≡ book_meant limits (map edit_of edits.now)) }
 {
@@ -17,7 +17,7 @@ pub(crate) fn book_of(alloc: Global, limits: Limits, edits: &[Edit]) -> Result<B
     Ok(book)
 }
 
-/// The book of the first so many of a list of edits, or of all where there are fewer, or want of memory.
+/// The book of the first `count` edits of a list, or of all if there are fewer.
 pub(crate) fn book_of_first(
     alloc: Global,
     limits: Limits,
@@ -29,7 +29,7 @@ pub(crate) fn book_of_first(
     book_of(alloc, limits, front(edits, count))
 }
 
-/// Changes a book by an edit, or leaves it as it was where it refuses the edit, or gives want of memory.
+/// Applies an edit to a book. A book that refuses the edit stays as it was.
 fn absorb(book: &mut Book, edit: Edit) -> Result<(), AllocError>
     ensures { OnOk result (book.new ≡ after book.old (edit_of edit)) }
 {
@@ -39,7 +39,7 @@ fn absorb(book: &mut Book, edit: Edit) -> Result<(), AllocError>
     }
 }
 
-/// The first so many edits, or all where there are fewer.
+/// The first `count` edits, or all if there are fewer.
 fn front(edits: &[Edit], count: u64) -> &[Edit]
     ensures { result.now ≡ take count edits.now }
 {

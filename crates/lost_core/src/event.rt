@@ -1,21 +1,21 @@
-//! Events of the world. Rules without a section are this profile's own.
+//! Events of the world.
 
 use lost_book::EditError;
 
-/// What a step of the world gives.
+/// The event of one step of the world.
 #[derive(Drop)]
 pub enum Event {
-    /// The edit is accepted: how many edits are accepted and not published.
+    /// The edit is accepted: the number of edits accepted and not published.
     Staged(u64),
-    /// The first refusal of the edit, which is never want of memory.
+    /// The first refusal of the edit. It is never a memory refusal.
     Refused(EditError),
-    /// How many edits are published.
+    /// The number of published edits.
     Published(u64),
-    /// How many edits the worker that entered has seen.
+    /// The number of edits that the worker that entered has seen.
     Entered(u64),
-    /// How many edits the worker that was told has seen.
+    /// The number of edits that the worker that was told has seen.
     Told(u64),
-    /// The line of the reply, its byte 10 too.
+    /// The line of the reply with its byte 10.
     Replied(Vec<u8>),
     /// The step is of a worker that does not exist, and counts for nothing.
     NoWorker,

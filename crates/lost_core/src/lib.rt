@@ -1,5 +1,5 @@
-//! The world of steps (own rules): a pure machine of one publisher and some workers, whose events are those that are
-//! counted from the list of steps, and the laws of every such world.
+//! The world of steps (own rules): a pure machine of one publisher and some workers, and the laws of every such world.
+//! Its events are those counted from the list of steps.
 #![tactic(auto)]
 
 mod books;

@@ -2,7 +2,7 @@
 
 ghost use Rattle.lost_core.specs.Rows.{WorldRow};
 
-/// A worker answers from what it has seen: what was published is found only once the worker was told of it.
+/// A worker answers from the edits that it has seen: a published edit is found only once the worker was told.
 pub fn world()
     ensures { WorldRow }
 {}

@@ -1,4 +1,4 @@
-//! The machine that runs the steps of a world. Rules without a section are this profile's own.
+//! The machine that runs the steps of a world.
 ghost use Rattle.std.specs.Prelude.{◌≡◌, ◌-◌, if◌then◌else◌, map, length, max, nat_lt, slice_index, Some, None, IfOk, OnOk};
 ghost use Rattle.lost_message.specs.Edit.{edit_of};
 ghost use Rattle.lost_core.specs.World.{Replying, Stage, Publish, Enter, Tell, Answer, events};
@@ -14,8 +14,8 @@ use lost_mapping::{Moment, Source};
 use std::alloc::{AllocError, Global};
 use std::marker::Model;
 
-/// What a run of steps keeps: the edits that were accepted, how many of them are published, and how many each worker
-/// has met. Contracts see it as the record `State`.
+/// The state of a run: the accepted edits, how many of them are published, and how many each worker has met. Contracts
+/// see it as the record `State`.
 #[derive(Drop)]
 pub struct World {
     limits: Limits,
@@ -35,13 +35,12 @@ impl Model for World {
 }
 
 impl World {
-    /// Runs steps in order, in a world of books within these limits and so many workers, whose lines are answered by the
-    /// server of this name, and gives one event for each step. Want of memory ends the run, and no event is
-    /// given then.
+    /// Runs steps in order and gives one event for each. The world has books within these limits and this many workers;
+    /// the server of this name answers their lines. If memory is refused, the run ends and gives no event.
     ///
-    /// An edit is staged unless the book of those accepted before refuses it. A publish publishes all that is accepted.
-    /// A worker that enters has seen all that is published; one that is told of so many edits has seen these at least,
-    /// where they are published. A line is answered over the book of the edits that its worker has seen.
+    /// An edit is staged unless the book of those accepted before refuses it. A publish publishes all accepted edits. A
+    /// worker that enters has seen all that is published. One that is told of a number of edits has seen at least
+    /// these, if they are published. A line is answered over the book of the edits that its worker has seen.
     pub fn run(
         alloc: Global,
         limits: Limits,
@@ -60,7 +59,7 @@ impl World {
         Ok(events)
     }
 
-    /// Nothing is accepted, and no worker has met anything.
+    /// A world without accepted edits, whose workers have met none.
     fn new(alloc: Global, limits: Limits, workers: u8) -> Result<World, AllocError>
         ensures { IfOk result (λ world. world ≡ start limits workers) }
     {
@@ -99,14 +98,14 @@ impl World {
         Ok(Event::Staged(self.pending()))
     }
 
-    /// How many edits are accepted and not published.
+    /// The number of edits accepted and not published.
     fn pending(&self) -> u64
         ensures { result ≡ length self.now.accepted - self.now.published }
     {
         (self.accepted.len() as u64).saturating_sub(self.published)
     }
 
-    /// Publishes all that is accepted.
+    /// Publishes all accepted edits.
     fn publish(&mut self) -> Event
         ensures event { (reply : Replying) → event_of result ≡ state_event reply self.old Publish }
         ensures after { self.new ≡ state_after self.old Publish }
@@ -115,7 +114,7 @@ impl World {
         Event::Published(self.published)
     }
 
-    /// The worker has seen all that is published.
+    /// The worker has seen all published edits.
     fn enter(&mut self, worker: u8) -> Event
         ensures event { (reply : Replying) → event_of result ≡ state_event reply self.old (Enter worker) }
         ensures after { self.new ≡ state_after self.old (Enter worker) }
@@ -126,7 +125,7 @@ impl World {
         }
     }
 
-    /// The worker has seen so many edits at least, where they are published.
+    /// The worker has seen at least this many edits, if they are published.
     fn tell(&mut self, worker: u8, told: u64) -> Event
         ensures event { (reply : Replying) → event_of result ≡ state_event reply self.old (Tell worker told) }
         ensures after { self.new ≡ state_after self.old (Tell worker told) }
@@ -138,7 +137,7 @@ impl World {
         }
     }
 
-    /// The worker has met so many edits at least: how many it has then met, or `None` where there is no such worker.
+    /// The worker has met at least this many edits. Gives how many it has then met, or `None` for no such worker.
     fn meet(&mut self, worker: u8, count: u64) -> Option<u64>
         ensures met { result ≡ (if nat_lt worker (length self.old.met) then Some (max (slice_index self.old.met worker) count) else None) }
         ensures after { self.new ≡ record self.old { met = meet self.old.met worker count } }
@@ -148,7 +147,7 @@ impl World {
         Some(most)
     }
 
-    /// How many edits the worker has met, or `None` where there is no such worker.
+    /// The number of edits that the worker has met, or `None` if there is no such worker.
     fn most_met(&self, worker: u8) -> Option<u64>
         ensures { result ≡ (if nat_lt worker (length self.now.met) then Some (slice_index self.now.met worker) else None) }
     {
@@ -177,7 +176,7 @@ impl World {
         Ok(Event::Replied(reply_line(self.alloc(), &book, name, moment, line)?))
     }
 
-    /// The allocator that the world keeps.
+    /// The allocator of the world.
     fn alloc(&self) -> Global {
         *self.accepted.allocator()
     }

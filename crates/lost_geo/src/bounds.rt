@@ -1,4 +1,4 @@
-//! The least and the greatest latitude and longitude of a ring. Rules without a section are this profile's own.
+//! The least and the greatest latitude and longitude of a ring.
 
 ghost use Rattle.std.specs.Prelude.{◌≡◌, [], ◌∷◌};
 ghost use Rattle.std.specs.Int.{int_min, int_max};
@@ -48,7 +48,7 @@ impl Bounds {
         }
     }
 
-    /// The bounds of what these bound and one position more.
+    /// These bounds, widened to hold one more position.
     fn widened(self, place: &GeoPoint) -> Bounds
         requires { AreInRange self }
         ensures lat_min { result.lat_min ≡ int_min self.lat_min place.now.lat }

@@ -1,5 +1,5 @@
-//! What is true of crossings and of the inside of a ring, over the definitions alone. Each function's contract is the
-//! law; it does nothing.
+//! Laws of crossings and of the inside of a ring, over the definitions alone. Each function's contract is the law, and
+//! its body is empty.
 
 ghost use Rattle.lost_geo.specs.Laws.{ReverseCrossesAlike, SpannedEvenly, InsideIsWithinBounds, CutsAreRings, CutsShareTheInside};
 

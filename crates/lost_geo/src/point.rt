@@ -1,4 +1,4 @@
-//! A point of the plane of latitudes and longitudes. Rules without a section are this profile's own.
+//! A point of the plane of latitudes and longitudes.
 
 ghost use Rattle.std.specs.Prelude.{◌≡◌, IfOk, if◌then◌else◌, pos, neg_ℤ, ◌-ℤ◌};
 ghost use Rattle.std.specs.Ordering.{int_eq};

@@ -88,8 +88,7 @@ impl Polygon {
         self.bounds.holds(&place) && edge::has_odd_crossings(&ring[0], &ring[1..], &place)
     }
 
-    /// The same polygon, its positions in a list that is shared: from then on a copy costs a pointer. Fails where there
-    /// is no memory for it.
+    /// The same polygon, its positions in a shared list: from then on a copy costs a pointer.
     pub fn share(self, alloc: Global) -> Result<Polygon, AllocError>
         ensures { IfOk result (λ polygon. polygon ≡ self) }
     {
@@ -99,7 +98,7 @@ impl Polygon {
         })
     }
 
-    /// The same polygon, or want of memory. It costs a pointer where the positions are shared, and else their copies.
+    /// A copy. It costs a pointer where the positions are shared, and else a copy of each.
     pub fn clone(&self) -> Result<Polygon, AllocError>
         ensures { IfOk result (λ copy. copy ≡ self.now) }
     {

@@ -1,5 +1,4 @@
-//! Which latitudes and longitudes make a ring, before memory is taken for their points. Rules without a section are this
-//! profile's own.
+//! Which latitudes and longitudes make a ring, before memory is taken for their points.
 
 ghost use Rattle.std.specs.Prelude.{◌≡◌, ◌<◌, length, map, is_none};
 ghost use Rattle.std.specs.List.{list_all};
@@ -9,11 +8,11 @@ ghost use Rattle.lost_spec.specs.Mapping.{is_ring, point_of};
 use crate::point::GeoPoint;
 use crate::polygon::{MAX_POSITIONS, MIN_POSITIONS};
 
-/// How the positions of a list are told from what stands for them, as a pair of numbers or a value of a tree.
+/// How to read positions from the items of a list, such as pairs of numbers or values of a tree.
 pub trait Positions {
     ghost use Rattle.std.specs.Prelude.{◌≡◌, ℤ};
 
-    /// What stands for a position.
+    /// An item that holds a position.
     type Item;
 
     // The latitude and the longitude of an item.
@@ -35,15 +34,15 @@ impl Positions for (i64, i64) {
     }
 }
 
-/// Whether each of these latitudes and longitudes is a point, and together they are a ring: whether `GeoPoint::new` takes
-/// each of them, and `Polygon::new` all the points (RFC 5222, section 12.2; own bounds). It takes no memory.
+/// Whether these latitudes and longitudes are points, and together a ring: whether `GeoPoint::new` takes each of them,
+/// and `Polygon::new` all the points (RFC 5222, section 12.2; own bounds). It takes no memory.
 pub fn is_ring(positions: &[(i64, i64)]) -> bool
     ensures { result ≡ is_ring positions.now }
 {
     is_ring_of::<(i64, i64)>(positions)
 }
 
-/// The same of items from which positions are told.
+/// The same for items that hold positions.
 pub fn is_ring_of<T: Positions>(items: &[T::Item]) -> bool
     ensures { result ≡ is_ring (map T.position_of items.now) }
 {

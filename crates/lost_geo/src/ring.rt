@@ -1,4 +1,4 @@
-//! The positions of a ring, and how they are kept.
+//! The positions of a ring, in a list of its own or in a shared one.
 
 ghost use Rattle.std.specs.Prelude.{◌≡◌, IfOk};
 ghost use Rattle.lost_geo.specs.Kept.{positions_of};
@@ -7,12 +7,12 @@ use crate::point::GeoPoint;
 use std::alloc::{AllocError, Global};
 use std::sync::Arc;
 
-/// The positions of a ring, in a list of its own or in one that is shared.
+/// The positions of a ring.
 #[derive(Debug, Drop)]
 pub(crate) enum Ring {
     /// A list of its own: a copy costs its length.
     Own(Vec<GeoPoint>),
-    /// A list that is shared and never changes: a copy costs a pointer.
+    /// A shared list, which never changes: a copy costs a pointer.
     Shared(Arc<Vec<GeoPoint>>),
 }
 
@@ -27,7 +27,7 @@ impl Ring {
         }
     }
 
-    /// The same positions in a list that is shared, or want of memory.
+    /// The same positions in a shared list.
     pub(crate) fn share(self, alloc: Global) -> Result<Ring, AllocError>
         ensures { IfOk result (λ ring. positions_of ring ≡ positions_of self) }
     {
@@ -40,7 +40,7 @@ impl Ring {
         }
     }
 
-    /// The same positions, kept in the same way, or want of memory.
+    /// A copy, in a list of its own or in the shared one, as this is.
     pub(crate) fn clone(&self) -> Result<Ring, AllocError>
         ensures { IfOk result (λ ring. positions_of ring ≡ positions_of self.now) }
     {

@@ -15,9 +15,9 @@ use std::hash::{Hash, Hasher};
 pub struct Cell {
     /// The level, from 0 to 6.
     pub level: u8,
-    /// The row: the latitude by the side, rounded down.
+    /// The row: the latitude divided by the side, rounded down.
     pub row: i16,
-    /// The column: the longitude by the side, rounded down.
+    /// The column: the longitude divided by the side, rounded down.
     pub column: i16,
 }
 

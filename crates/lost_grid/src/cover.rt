@@ -1,4 +1,4 @@
-//! The cells that bounds meet, at the least level at which they are few.
+//! The cells that bounds meet, at the least level at which they are at most 64.
 
 ghost use Rattle.std.specs.Prelude.{◌≡◌, ℕ, ◌+◌, ◌*◌, ◌≤◌, ◌++◌, length, IfOk, OnOk, map};
 ghost use Rattle.std.specs.List.{flat_map};

@@ -18,8 +18,8 @@ use lost_profile::Profile;
 use std::alloc::{AllocError, Global};
 
 /// Points among rings (RFC 5222, section 12.2). A ring is kept under the cells that its bounds meet, at the least level
-/// at which they are at most 64, and a point is looked up under the cells of its normal form at each level. An outline is
-/// the bounds of the ring.
+/// at which they are at most 64, and a point is looked up under the cells of its normal form at each level. An outline
+/// is the bounds of the ring.
 pub struct Geodetic2d;
 
 impl Profile for Geodetic2d {
@@ -58,7 +58,7 @@ impl Profile for Geodetic2d {
         region.inside(location)
     }
 
-    /// The cells that the ring's bounds meet, at the least level at which they are at most 64, by row and then by column.
+    /// The cells that the ring's bounds meet, at the least level at which they are at most 64, by row, then by column.
     fn cover(alloc: Global, region: &Polygon) -> Result<Vec<Cell>, AllocError> {
         cells_of(alloc, &region.bounds())
     }

@@ -1,6 +1,5 @@
-//! Cells of seven sizes over the plane of latitudes and longitudes. A ring is noted under the cells that its bounds meet,
-//! at the least level at which they are at most 64, and a point is looked for in the one cell of each level that it is in.
-//! Rules without a section are this profile's own.
+//! Cells of seven sizes over the plane of latitudes and longitudes. A ring is kept under the cells that its bounds
+//! meet, at the least level at which they are at most 64. A point is looked up in its one cell of each level.
 #![tactic(auto)]
 
 pub use cell::Cell;

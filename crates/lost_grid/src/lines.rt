@@ -1,4 +1,4 @@
-//! Rows and columns: which ones of a level a stretch of latitudes or longitudes meets.
+//! Rows and columns: which of a level meet a range of latitudes or longitudes.
 
 ghost use Rattle.std.specs.Prelude.{◌≡◌, ℕ, ◌≤◌, length, pos, ◌+ℤ◌, ◌≤ℤ◌};
 ghost use Rattle.lost_geo.specs.Bounds.{AreInRange};
@@ -9,7 +9,7 @@ use lost_geo::Bounds;
 /// The level of the largest cells.
 pub(crate) const MAX_LEVEL: u8 = 6;
 
-/// The row of a latitude, or the column of a longitude, at a level: by the side of its cells, rounded down.
+/// The row of a latitude, or the column of a longitude, at a level: divided by the side of its cells, rounded down.
 pub(crate) fn line_of(level: u8, degrees: i64) -> i16
     requires level { level ≤ 6 }
     requires on_earth { IsOnEarth degrees }
@@ -19,7 +19,7 @@ pub(crate) fn line_of(level: u8, degrees: i64) -> i16
     (degrees >> (18 + 2 * level)) as i16
 }
 
-/// Rows, or columns, that follow one another.
+/// Consecutive rows or columns.
 #[derive(Clone, Copy)]
 pub(crate) struct Lines {
     /// The first one.
@@ -51,7 +51,7 @@ impl Lines {
         Lines::between(level, bounds.lon_min, bounds.lon_max)
     }
 
-    /// The rows or columns of a level from that of one number to that of another.
+    /// The rows or columns of a level, from the one of `low` to the one of `high`.
     fn between(level: u8, low: i64, high: i64) -> Lines
         requires level { level ≤ 6 }
         requires low { IsOnEarth low }

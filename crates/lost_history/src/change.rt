@@ -2,7 +2,7 @@
 use lost_book::Edit;
 use std::marker::Model;
 
-/// An entry of the history: an edit, seen as the definition's. No value of it is made.
+/// An entry of the history: an edit, seen as the definition's. No such value is made.
 #[derive(Drop)]
 pub struct Change {
     edit: Edit,

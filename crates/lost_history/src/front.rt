@@ -9,7 +9,7 @@ use crate::rule::{Aim, Nothing, Reaches, Rises};
 use logbook::{Offer, Seen};
 use std::marker::Model;
 
-/// A beginning of a history. Contracts see it as its opening and its list of edits; what runs is the list's length.
+/// A beginning of a history. Contracts see its opening and its list of edits. At run time it is the list's length.
 #[derive(Drop)]
 pub struct Front {
     count: u64,
@@ -36,7 +36,7 @@ impl Front {
         Front { count: 0, seen }
     }
 
-    /// How many edits it has.
+    /// The number of its edits.
     pub fn len(&self) -> u64
         ensures { result ≡ length self.now.list }
     {
@@ -66,7 +66,7 @@ impl Front {
         }
     }
 
-    /// Whether another front of one history is no longer than this one, and so begins it. Else this one begins the other.
+    /// Whether another front of one history is no longer, and so begins this one. If not, this one begins the other.
     pub fn has(&self, other: &Front) -> bool
         requires { other.now.opening ≡ self.now.opening }
         ensures { MatchBool result
@@ -91,8 +91,8 @@ impl Front {
     ///
     /// # Errors
     ///
-    /// A front that is longer than this one, where the history was longer, as no owner of its only head sees it. This
-    /// front is then unchanged.
+    /// A front that is longer than this one, if the history was longer. The owner of the only head never sees this.
+    /// This front is then unchanged.
     pub fn reach<A: Aim>(&mut self, head: &Head, to: u64) -> Result<(), Front>
         requires opening { head.now ≡ self.old.opening }
         requires begins { BeginsWith A.list self.old.list }

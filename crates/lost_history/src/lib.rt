@@ -1,6 +1,6 @@
-//! The history of a book's edits, as a token that exists in proofs alone: what runs is a word with its length, and what
-//! is handed about is a length beside the token. The history only grows, so of two beginnings of one history each begins
-//! the longer. Rules without a section are this profile's own.
+//! The history of a book's edits, as a token that exists in proofs alone. At run time it is a word with its length, and
+//! callers pass a length beside the token. The history only grows, so of two beginnings of one history each begins the
+//! longer.
 #![tactic(auto)]
 
 mod change;

@@ -31,7 +31,7 @@ impl<P: Profile> Model for Cell<P> {
 }
 
 impl<P: Profile> Cell<P> {
-    /// A cell of one note, or want of memory.
+    /// A cell of one note.
     pub(crate) fn of(alloc: Global, note: Note<P::Outline>) -> Result<Cell<P>, AllocError>
         ensures { IfOk result (λ cell. cell ≡ note ∷ []) }
     {
@@ -47,15 +47,15 @@ impl<P: Profile> Cell<P> {
         &self.notes
     }
 
-    /// Whether nothing is noted.
+    /// Whether there is no note.
     pub(crate) fn is_empty(&self) -> bool
         ensures { IsTrue result ↔ (self.now ≡ []) }
     {
         self.notes.is_empty()
     }
 
-    /// Puts the note in, unless one of its number with an equal outline stands there, or want of memory, which changes
-    /// nothing.
+    /// Adds the note, unless the cell has one of its number with an equal outline. If memory is refused, nothing
+    /// changes.
     pub(crate) fn add(&mut self, note: Note<P::Outline>) -> Result<(), AllocError>
         ensures added { OnOk result (has_note P.Outline.eq note.number note.outline self.new ≡ true) }
         ensures keeps { (number : _) (outline : _) → has_note P.Outline.eq number outline self.old ≡ true
@@ -72,7 +72,7 @@ impl<P: Profile> Cell<P> {
         Ok(())
     }
 
-    /// Takes the notes of a number out, but for the outlines of those regions in whose cover the key is.
+    /// Removes the notes of a number, other than those with the outline of one of `remaining` whose cover has the key.
     pub(crate) fn remove(&mut self, number: u64, key: &P::Key, remaining: &[IndexedRegion<P>])
         ensures { self.new ≡ filter (stays P.Key.eq P.Outline.eq P.cover_of P.outline_of number remaining.now key.now) self.old }
     {
@@ -83,7 +83,7 @@ impl<P: Profile> Cell<P> {
         }
     }
 
-    /// Takes the note at a position out, if it is of the number and of none of those regions in whose cover the key is.
+    /// Removes the note at a position, if [`Cell::remove`] removes it.
     fn remove_at(
         &mut self,
         position: usize,
@@ -102,7 +102,7 @@ impl<P: Profile> Cell<P> {
         }
     }
 
-    /// Whether a note of the same number with an equal outline stands there.
+    /// Whether the cell has a note of the same number with an equal outline.
     fn has(&self, note: &Note<P::Outline>) -> bool
         ensures { result ≡ has_note P.Outline.eq note.now.number note.now.outline self.now }
     {
@@ -116,7 +116,7 @@ impl<P: Profile> Cell<P> {
         false
     }
 
-    /// Whether there is a note at a position, and it is of the same number, with an equal outline.
+    /// Whether the note at a position is of the same number, with an equal outline.
     fn has_at(&self, position: usize, note: &Note<P::Outline>) -> bool
         ensures { result ≡ option_map_or (is_note P.Outline.eq note.now.number note.now.outline) (slice_get self.now position) false }
     {

@@ -10,7 +10,7 @@ use lost_profile::Profile;
 use std::alloc::{AllocError, Global};
 use std::collections::HashMap;
 
-/// Puts a note under a key, or want of memory. What was noted stays.
+/// Adds a note under a key. Earlier notes stay.
 pub(crate) fn add_note<P: Profile>(
     cells: &mut HashMap<P::Key, Cell<P>>,
     alloc: Global,
@@ -28,8 +28,8 @@ pub(crate) fn add_note<P: Profile>(
     Ok(())
 }
 
-/// Takes the notes of a number under a key back, but for those of the regions `remaining`, and the cell with them where
-/// nothing else is noted there.
+/// Removes the notes of a number under a key, other than those of the regions `remaining`, and the cell if it is then
+/// empty.
 pub(crate) fn remove_note<P: Profile>(
     cells: &mut HashMap<P::Key, Cell<P>>,
     key: &P::Key,
@@ -46,8 +46,8 @@ pub(crate) fn remove_note<P: Profile>(
     }
 }
 
-/// Takes the notes of a number out of the cell of a key, but for those of the regions `remaining`, and says whether the cell
-/// is then empty.
+/// Removes the notes of a number from the cell of a key, other than those of the regions `remaining`, and says whether
+/// the cell is then empty.
 fn remove_from_cell<P: Profile>(
     cells: &mut HashMap<P::Key, Cell<P>>,
     key: &P::Key,

@@ -1,4 +1,4 @@
-//! The entries of the numbers that are held.
+//! The entries of the held numbers.
 ghost use Rattle.std.specs.Prelude.{◌≡◌, ◌≤◌, ◌++◌, ◌∷◌, [], Some, cond, length, IfOk, IfErr, OnOk, OnErr};
 ghost use Rattle.std.specs.BTreeMap.{get, is_at};
 ghost use Rattle.std.specs.List.{slice_range};
@@ -11,7 +11,7 @@ use lost_profile::Profile;
 use std::alloc::AllocError;
 use std::collections::BTreeMap;
 
-/// The regions of a number that is held.
+/// The regions of a held number.
 pub(crate) fn kept_of<P: Profile>(
     held: &BTreeMap<u64, Entry<P>>,
     number: u64,
@@ -25,7 +25,7 @@ pub(crate) fn kept_of<P: Profile>(
     }
 }
 
-/// Puts a number with its regions behind all, or gives the regions back for want of memory, which changes nothing.
+/// Adds a number with its regions at the end. If memory is refused, nothing changes and the regions are given back.
 pub(crate) fn put<P: Profile>(
     held: &mut BTreeMap<u64, Entry<P>>,
     number: u64,
@@ -43,7 +43,7 @@ pub(crate) fn put<P: Profile>(
     }
 }
 
-/// Puts more regions behind those of a number that is held, or want of memory, which changes nothing.
+/// Adds regions to a held number. If memory is refused, nothing changes.
 pub(crate) fn append<P: Profile>(
     held: &mut BTreeMap<u64, Entry<P>>,
     number: u64,
@@ -62,7 +62,7 @@ pub(crate) fn append<P: Profile>(
     }
 }
 
-/// Keeps the regions of a number at the positions from `from` up to before `to`. It takes no memory.
+/// Keeps only the regions of a number at the positions from `from` up to before `to`. It takes no memory.
 pub(crate) fn cut<P: Profile>(
     held: &mut BTreeMap<u64, Entry<P>>,
     number: u64,

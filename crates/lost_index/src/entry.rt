@@ -23,7 +23,7 @@ impl<P: Profile> Model for Entry<P> {
 }
 
 impl<P: Profile> Entry<P> {
-    /// The regions with what is worked out from them, or want of memory.
+    /// The regions, each with its outline and the keys of its cover.
     pub(crate) fn new(alloc: Global, regions: Vec<P::Region>) -> Result<Entry<P>, AllocError>
         ensures regions { IfOk result (λ entry. entry ≡ regions.items) }
         ensures are_regions { IfOk result (λ entry. All P.is_region entry) }
@@ -42,7 +42,7 @@ impl<P: Profile> Entry<P> {
         &self.kept
     }
 
-    /// Puts more regions behind, or want of memory, which changes nothing.
+    /// Adds regions at the end. If memory is refused, nothing changes.
     pub(crate) fn append(&mut self, more: &mut Entry<P>) -> Result<(), AllocError>
         ensures appended { OnOk result (self.new ≡ self.old ++ more.old) }
         ensures refused { OnErr result (self.new ≡ self.old) }
@@ -52,7 +52,7 @@ impl<P: Profile> Entry<P> {
         Ok(())
     }
 
-    /// Keeps the regions at the positions from `from` up to before `to`. It takes no memory.
+    /// Keeps only the regions at the positions from `from` up to before `to`. It takes no memory.
     pub(crate) fn cut(&mut self, from: usize, to: usize)
         requires in_order { from ≤ to }
         requires within { to ≤ length self.old }
@@ -77,7 +77,7 @@ impl<P: Profile> Entry<P> {
     }
 }
 
-/// Whether the key is in the cover of some region with an outline that is equal to this one.
+/// Whether the key is in the cover of some region whose outline is equal to this one.
 pub(crate) fn covers_with<P: Profile>(
     kept: &[IndexedRegion<P>],
     key: &P::Key,

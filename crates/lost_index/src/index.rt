@@ -13,9 +13,8 @@ use std::alloc::{AllocError, Global};
 use std::collections::{BTreeMap, HashMap};
 use std::marker::Model;
 
-/// Numbers with their regions, by which the numbers of a location are found. Contracts see it as the list of (number,
-/// regions); the numbers rise along it. Each region is noted in the cells of its cover's keys, and nothing else is: that is
-/// its invariant.
+/// Numbers with their regions, to find the numbers of a location. Contracts see it as the list of (number, regions), in
+/// rising order of the numbers. Invariant: each region is noted in the cells of its cover's keys, and nothing else is.
 #[derive(Drop)]
 pub struct Index<P: Profile> {
     alloc: Global,
@@ -46,8 +45,8 @@ impl<P: Profile> Index<P> {
         }
     }
 
-    /// Puts a number with its regions behind all that are held; the number is above them. Or want of memory, which
-    /// leaves the list unchanged; the regions are then dropped.
+    /// Adds a number, above all that are held, with its regions. If memory is refused, the list is unchanged and the
+    /// regions are dropped.
     pub fn put(&mut self, number: u64, regions: Vec<P::Region>) -> Result<(), AllocError>
         requires { IsAbove number self.old }
         ensures put { OnOk result (self.new ≡ self.old ++ (number, regions.items) ∷ []) }
@@ -68,8 +67,7 @@ impl<P: Profile> Index<P> {
         Ok(())
     }
 
-    /// Puts more regions behind those of a number that is held. Or want of memory, which leaves the list unchanged; the
-    /// regions are then dropped.
+    /// Adds regions to a held number. If memory is refused, the list is unchanged and the new regions are dropped.
     pub fn add(&mut self, number: u64, regions: Vec<P::Region>) -> Result<(), AllocError>
         requires { IsHeld number self.old }
         ensures added { OnOk result (self.new ≡ with_number number (λ held. held ++ regions.items) self.old) }
@@ -86,7 +84,7 @@ impl<P: Profile> Index<P> {
         Ok(())
     }
 
-    /// Keeps the regions at the positions from `from` up to before `to` of a number that is held; `to` is at most their
+    /// Keeps only the regions of a held number at the positions from `from` up to before `to`, which is at most their
     /// number. It takes no memory.
     pub fn cut(&mut self, number: u64, from: usize, to: usize)
         requires held { IsHeld number self.old }
@@ -99,7 +97,7 @@ impl<P: Profile> Index<P> {
         entries::cut(&mut self.held, number, from, to);
     }
 
-    /// Takes a number that is held out, with its regions. It takes no memory.
+    /// Removes a held number with its regions. It takes no memory.
     pub fn take(&mut self, number: u64)
         requires { IsHeld number self.old }
         ensures { self.new ≡ without number self.old }
@@ -110,7 +108,7 @@ impl<P: Profile> Index<P> {
         notes::remove_notes(&mut self.cells, number, entry.kept(), none(entry.kept()));
     }
 
-    /// The numbers with a region that contains the location, rising, each once. Or want of memory.
+    /// The numbers with a region that contains the location, rising, each once.
     pub fn holding(&self, location: &P::Location) -> Result<Vec<u64>, AllocError>
         ensures holding { IfOk result (λ found. found.items ≡ holders P.holds location.now self.now) }
         ensures rising { IfOk result (λ found. IsStrictlyIncreasing found.items) }
@@ -124,7 +122,7 @@ impl<P: Profile> Index<P> {
     }
 }
 
-/// None of what is kept.
+/// None of the regions.
 fn none<P: Profile>(kept: &[IndexedRegion<P>]) -> &[IndexedRegion<P>]
     ensures { result.now ≡ [] }
 {

@@ -25,7 +25,7 @@ impl<P: Profile> Model for IndexedRegion<P> {
 }
 
 impl<P: Profile> IndexedRegion<P> {
-    /// The region with what is worked out from it, or want of memory.
+    /// The region with its outline and the keys of its cover.
     pub(crate) fn new(alloc: Global, region: P::Region) -> Result<IndexedRegion<P>, AllocError>
         ensures region { IfOk result (λ kept. kept ≡ region) }
         ensures is_region { IfOk result (λ kept. P.is_region kept) }
@@ -46,7 +46,7 @@ impl<P: Profile> IndexedRegion<P> {
         &self.keys
     }
 
-    /// A second copy of the keys of its cover, or want of memory.
+    /// A second copy of the keys of its cover.
     pub(crate) fn cover(&self, alloc: Global) -> Result<Vec<P::Key>, AllocError>
         ensures { IfOk result (λ keys. keys.items ≡ P.cover_of self.now) }
     {
@@ -67,7 +67,7 @@ impl<P: Profile> IndexedRegion<P> {
         *outline == self.outline && self.keys.contains(key)
     }
 
-    /// Whether the region contains the location; most that don't are refused by their outline.
+    /// Whether the region contains the location. The outline rules out most regions that do not.
     pub(crate) fn contains(&self, location: &P::Location) -> bool
         requires { P.is_location location.now }
         ensures { result ≡ P.holds self.now location.now }

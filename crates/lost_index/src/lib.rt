@@ -1,5 +1,4 @@
-//! An index over any profile: which numbers have a region that contains a location (RFC 5222, section 12). Rules without
-//! a section are this profile's own.
+//! An index over any profile: which numbers have a region that contains a location (RFC 5222, section 12).
 #![tactic(auto)]
 
 mod cell;

@@ -1,4 +1,4 @@
-//! What is noted under a key.
+//! A note under a key.
 
 /// A number with the outline of one of its regions.
 #[derive(Clone, Copy)]

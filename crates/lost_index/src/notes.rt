@@ -1,4 +1,4 @@
-//! Noting a number under the keys of its regions, and taking those notes back.
+//! Adding notes of a number under the keys of its regions, and removing them.
 ghost use Rattle.std.specs.Prelude.{◌≤◌, ◌&&◌, true, length, All, OnOk, OnErr};
 ghost use Rattle.std.specs.List.{list_any, slice_range};
 ghost use Rattle.lost_index.specs.Notes.{HasNote, IsUnder, KeepsNotes, KeepsOthers, KeepsUnder, HaveNotes, AddsAtMost, TakesBack, IsNotedOnlyFor, covers, covers_with};
@@ -11,7 +11,7 @@ use lost_profile::Profile;
 use std::alloc::{AllocError, Global};
 use std::collections::HashMap;
 
-/// Notes a number under the keys of new regions, or want of memory, with no new note left. The notes of other numbers
+/// Notes a number under the keys of new regions. If memory is refused, no new note is left. The notes of other numbers
 /// stay, and so do those under the keys of `remaining`.
 pub(crate) fn add_notes<P: Profile>(
     cells: &mut HashMap<P::Key, Cell<P>>,
@@ -35,7 +35,7 @@ pub(crate) fn add_notes<P: Profile>(
     Ok(())
 }
 
-/// Notes a number under the keys of regions, or want of memory. What was noted stays.
+/// Notes a number under the keys of regions. Earlier notes stay. If memory is refused, some new ones may be left.
 fn add_all_notes<P: Profile>(
     cells: &mut HashMap<P::Key, Cell<P>>,
     alloc: Global,
@@ -57,7 +57,7 @@ fn add_all_notes<P: Profile>(
     Ok(())
 }
 
-/// Puts a note under keys, or want of memory. What was noted stays.
+/// Adds a note under keys. Earlier notes stay. If memory is refused, some new ones may be left.
 fn add_notes_under<P: Profile>(
     cells: &mut HashMap<P::Key, Cell<P>>,
     alloc: Global,
@@ -75,8 +75,8 @@ fn add_notes_under<P: Profile>(
     Ok(())
 }
 
-/// Takes the notes of a number under the keys of regions back, but for those with an outline of one of `remaining` that has
-/// the key in its cover too.
+/// Removes the notes of a number under the keys of regions, other than those with the outline of one of `remaining`
+/// that has the key in its cover too.
 pub(crate) fn remove_notes<P: Profile>(
     cells: &mut HashMap<P::Key, Cell<P>>,
     number: u64,
@@ -94,8 +94,8 @@ pub(crate) fn remove_notes<P: Profile>(
     }
 }
 
-/// Takes the notes of a number under the keys of regions back, but for the keys of those at the positions from `from`
-/// up to before `to`.
+/// Removes the notes of a number under the keys of regions, but keeps those of the regions from position `from` up to
+/// before `to`.
 pub(crate) fn remove_rest_notes<P: Profile>(
     cells: &mut HashMap<P::Key, Cell<P>>,
     number: u64,
@@ -116,7 +116,7 @@ pub(crate) fn remove_rest_notes<P: Profile>(
     remove_notes(cells, number, &kept[to..], remaining);
 }
 
-/// Takes the notes of a number under keys back, but for the keys of regions.
+/// Removes the notes of a number under keys, but keeps those of the regions `remaining`.
 fn remove_notes_under<P: Profile>(
     cells: &mut HashMap<P::Key, Cell<P>>,
     number: u64,

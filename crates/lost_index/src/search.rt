@@ -13,7 +13,7 @@ use std::collections::{BTreeMap, HashMap};
 use std::convert::AsSlice;
 
 /// The numbers that are noted under the probes and have a region that contains the location, in the order of the
-/// probes; one may come twice. Or want of memory.
+/// probes. A number may come twice.
 pub(crate) fn found<P: Profile>(
     held: &BTreeMap<u64, Entry<P>>,
     cells: &HashMap<P::Key, Cell<P>>,
@@ -35,8 +35,7 @@ pub(crate) fn found<P: Profile>(
     Ok(found)
 }
 
-/// Puts the numbers behind of those notes whose outline may contain the location, and whose number has a region that
-/// does. Or want of memory.
+/// Adds the number of each note whose outline may contain the location and whose number has a region that does.
 fn collect<P: Profile>(
     held: &BTreeMap<u64, Entry<P>>,
     notes: &[Note<P::Outline>],
@@ -56,8 +55,8 @@ fn collect<P: Profile>(
     Ok(())
 }
 
-/// Whether the outline of the note may contain the location, and its number is held, with a region that does. Most
-/// notes are refused by their outline, and are looked up nowhere.
+/// Whether the outline of the note may contain the location, and its number is held, with a region that does. The
+/// outline rules out most notes, whose numbers are then not looked up.
 fn is_holder<P: Profile>(
     held: &BTreeMap<u64, Entry<P>>,
     note: &Note<P::Outline>,

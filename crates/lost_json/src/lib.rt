@@ -1,6 +1,5 @@
-//! Lines of JSON (own format over RFC 5222): the line that answers a line, and what a stream of desk lines and request lines
-//! is answered with, whatever its start and its limits. What reads lines and what writes them is passed on from the two
-//! crates below.
+//! Answers lines of JSON (own format over RFC 5222): one line, and a stream of desk lines and request lines, whatever
+//! its start and its limits. It passes on the readers and writers of lines from the two crates below.
 #![tactic(auto)]
 
 mod line;

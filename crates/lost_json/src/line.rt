@@ -1,4 +1,4 @@
-//! The line that answers a line. Rules without a section are this profile's own.
+//! The line that answers a line.
 ghost use Rattle.std.specs.Prelude.{◌≡◌, Some, IfOk};
 ghost use Rattle.lost_spec.specs.Text.{Text};
 ghost use Rattle.lost_message.specs.Request.{request_of};
@@ -12,8 +12,7 @@ use lost_writing::write_reply;
 use std::alloc::{AllocError, Global};
 
 /// Reads a request line, answers it over these holdings by the server of this name at an instant, and writes the
-/// reply's line, its byte 10 too, or want of memory. A line that is no request gives `badRequest` (RFC 5222, section
-/// 13.1).
+/// reply's line with its byte 10. A line that is no request gives `badRequest` (RFC 5222, section 13.1).
 #[tactic(auto, unfolding(crate::specs::Line::line_reply))]
 pub fn reply_line<H: Holdings>(
     alloc: Global,
@@ -34,7 +33,7 @@ pub fn reply_line<H: Holdings>(
     }
 }
 
-/// Answers a request that was read from a line, as [`reply_line`] does, and writes the reply's line, or want of memory.
+/// Answers a request that was read from a line, as [`reply_line`] does, and writes the reply's line.
 #[tactic(auto, unfolding(crate::specs::Line::line_reply))]
 pub fn reply_request<H: Holdings>(
     alloc: Global,

@@ -7,7 +7,7 @@ ghost use Rattle.lost_json.specs.Stream as stream;
 use lost_lines::{Answer, Text};
 use lost_writing::{BAD_REQUEST, DeskReply, INTERNAL_ERROR, law_constant_lines, write_desk};
 
-/// The desk's reply. The caller has: a refusal is one of the table.
+/// The desk's reply. A refusal must be one of the table.
 pub fn desk_answer(reply: DeskReply) -> Answer
     requires { IsInTable reply }
     ensures { reply_of result ≡ record { text = desk_text reply; is_internal_error = false } }
@@ -18,7 +18,7 @@ pub fn desk_answer(reply: DeskReply) -> Answer
     }
 }
 
-/// The reply `internalError`, for want of memory (RFC 5222, section 13.1).
+/// The reply `internalError`, for a refusal of memory (RFC 5222, section 13.1).
 pub fn internal_error() -> Answer
     ensures { reply_of result ≡ record { text = stream.internal_error; is_internal_error = true } }
 {

@@ -1,4 +1,4 @@
-//! What answers a line, and its replies. Rules without a section are this profile's own.
+//! The trait that answers lines, and its replies.
 ghost use Rattle.std.specs.Prelude.{◌≡◌};
 ghost use Rattle.lost_lines.specs.Run.{Cut, Whole, TooLong, Unread, Reply};
 ghost use Rattle.lost_lines.specs.Answer.{bytes_of, reply_of};
@@ -6,12 +6,12 @@ ghost use Rattle.lost_lines.specs.Answer.{bytes_of, reply_of};
 use lost_text::DeskText;
 use std::alloc::Global;
 
-/// What answers lines, one after another, and may change with each.
+/// Answers lines, one after another, and may change with each.
 pub trait Answerer {
-    /// How it answers: from what it is, by a line as it was cut and a reply, to what it then is.
+    /// How it answers: its state before, the line as it was cut, the reply, and its state after.
     ghost step: { Self → Cut → Reply → Self → Type 0 };
 
-    /// Answers a line that was kept whole, without its byte 10.
+    /// Answers a whole line, given without its byte 10.
     fn answer(&mut self, alloc: Global, line: &[u8]) -> Answer
         ensures { step self.old (Whole line.now) (reply_of result) self.new };
 
@@ -19,17 +19,17 @@ pub trait Answerer {
     fn answer_long(&mut self) -> Answer
         ensures { step self.old TooLong (reply_of result) self.new };
 
-    /// Answers a line that could not be kept, since memory was refused while it was read.
+    /// Answers a line for which memory was refused while it was read.
     fn answer_unread(&mut self) -> Answer
         ensures { step self.old Unread (reply_of result) self.new };
 }
 
-/// The reply to a line: its text, the byte 10 at its end too, and whether it says that a growth was refused.
+/// The reply to a line: its text, with byte 10 at its end, and whether it says that memory was refused.
 #[derive(Drop)]
 pub struct Answer {
     /// The text that is written.
     pub text: Text,
-    /// Whether the line was answered `internalError` for want of memory.
+    /// Whether the line was answered `internalError`, since memory was refused.
     pub is_internal_error: bool,
 }
 
@@ -49,7 +49,7 @@ pub enum Text {
     Kept(Vec<u8>),
     /// A text of at most 64 bytes, which takes no memory.
     Short(DeskText),
-    /// A text of the program.
+    /// A constant text of the program.
     Constant(&'static [u8]),
 }
 

@@ -1,21 +1,21 @@
-//! How many lines were answered, and how. Rules without a section are this profile's own.
+//! How many lines were answered, and how.
 ghost use Rattle.std.specs.Prelude.{◌≡◌, ◌+◌, ◌-◌, ◌^◌, min};
 
-/// What was counted while lines were served.
+/// The counts of the lines served.
 #[derive(Clone, Copy, PartialEq, Eq, Debug, Default)]
 pub struct Counts {
     /// The lines that were answered.
     pub lines: u64,
-    /// Those of them over the limit of 1,048,576 bytes.
+    /// The answered lines over the limit of 1,048,576 bytes.
     pub long_lines: u64,
-    /// Those of them that were answered `internalError` for want of memory.
+    /// The lines answered `internalError`, since memory was refused.
     pub memory: u64,
     /// The connections that ended in a fault.
     pub faults: u64,
 }
 
 impl Counts {
-    /// What is counted of a connection that ended in a fault: the fault, and nothing else.
+    /// The counts for a connection that ended in a fault: one fault, and nothing else.
     pub fn of_fault() -> Counts
         ensures { result ≡ record { lines = 0; long_lines = 0; memory = 0; faults = 1 } }
     {
@@ -27,7 +27,7 @@ impl Counts {
         }
     }
 
-    /// The sum of both, number by number; a number stays at its greatest value.
+    /// The sum of both, number by number; each stops at its greatest value.
     pub fn plus(self, more: Counts) -> Counts
         ensures lines { result.lines ≡ min (self.lines + more.lines) (2 ^ 64 - 1) }
         ensures long_lines { result.long_lines ≡ min (self.long_lines + more.long_lines) (2 ^ 64 - 1) }

@@ -10,8 +10,8 @@ use std::alloc::Global;
 /// The most bytes of a line, its byte 10 not counted.
 pub const MAX_LINE: usize = 1_048_576;
 
-/// The line that is being read: its bytes while they are within the limit and memory was not refused, and their number,
-/// which stops at one more than the limit. What is kept is never over the limit.
+/// The line being read: its bytes while they are within the limit and memory was not refused, and their number, which
+/// stops at one more than the limit. Never more bytes than the limit are kept.
 #[derive(Drop)]
 pub(crate) struct Cutter {
     line: Vec<u8>,
@@ -66,7 +66,7 @@ impl Cutter {
         }
     }
 
-    /// Goes on to the next line: nothing of the one before is kept, nor that memory was refused for it.
+    /// Goes on to the next line: forgets the bytes of the one before, and whether memory was refused for it.
     pub(crate) fn clear(&mut self)
         ensures holding { IsHolding self.new [] }
         ensures unrefused { was_refused self.new ≡ false }
@@ -76,7 +76,7 @@ impl Cutter {
         self.is_refused = false;
     }
 
-    /// The answer to the line: `internalError` without a look at it only where memory was refused while it was read.
+    /// The answer to the line: `answer_unread` only where memory was refused while it was read.
     pub(crate) fn answer<A: Answerer>(&self, alloc: Global, answerer: &mut A) -> Answer
         ensures answers { (piece : List ℕ) → IsHolding self.now piece
             → Answers A.step answerer.old piece (reply_of result) answerer.new }

@@ -1,4 +1,4 @@
-//! Why a stream was not served to its end. Rules without a section are this profile's own.
+//! Why a stream was not served to its end.
 use lost_spec::Coded;
 use thiserror::Error;
 

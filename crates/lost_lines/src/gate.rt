@@ -1,17 +1,17 @@
-//! What lets lines through to be answered. Rules without a section are this profile's own.
+//! The trait that lets lines through to be answered.
 ghost use Rattle.std.specs.Prelude.{◌≡◌, ℕ, Bool};
 
-/// What is asked before a line is answered, and told once its reply is on its way. It may hold a line back for as long
-/// as it does not return. Lines count from 1, those over the limit too.
+/// Asked before a line is answered, and told once its reply is on its way. It holds a line back until it returns. Lines
+/// count from 1, those over the limit too.
 pub trait Gate {
-    /// What it may say of the line with a number: whether it is let through.
+    /// The answers that it may give for a line number: whether the line is let through.
     ghost says: { Self → ℕ → Bool → Type 0 };
 
-    /// Whether it holds no line back, so that replies may be gathered. Where it is false, each reply is sent before the
-    /// gate is told of it, and so before it is asked for the next line.
+    /// Whether it holds no line back, so that replies may be gathered. Where it is false, each reply is sent before
+    /// `after_reply`, and so before the gate is asked about the next line.
     const IS_OPEN: bool;
 
-    /// Whether the line with this number is answered. Where it is not, the stream ends.
+    /// Whether the line with this number is answered. If not, the stream ends.
     fn before_reply(&self, line: u64) -> bool
         ensures { says self.now line result };
 

@@ -1,5 +1,5 @@
-//! Lines of a stream (own rules): bytes are cut into lines, each line is answered, and the replies are written in
-//! order, up to the end of the input or to a fault. What answers a line is up to the caller.
+//! Lines of a stream: bytes are cut into lines, each line is answered, and the replies are written in order, up to the
+//! end of the input or to a fault. The caller says how a line is answered.
 #![tactic(auto)]
 
 mod answerer;

@@ -18,16 +18,16 @@ const MAX_READ: usize = 32_768;
 
 /// Reads lines from `input` to its end, has `answerer` answer each, and writes the replies to `output` in order. A line
 /// ends at byte 10 or at the end of the input; a last piece without byte 10 is a line where it has a byte. A line over
-/// 1,048,576 bytes is read to its end and not kept; nor is the rest of a line where memory is refused while it is read.
-/// Each line is answered only once `gate` let it through. Replies are gathered where the gate is open, and written and
-/// flushed before the next read and before the call ends; where it is not open, each reply is written and flushed before
-/// the gate is told of it (own rules).
+/// 1,048,576 bytes is read to its end and not kept; nor is the rest of a line once memory is refused for it. Each line
+/// is answered only once `gate` lets it through. Where the gate is open, replies are gathered, and written and flushed
+/// before the next read and before the call ends. Where it is not, each reply is written and flushed before the gate
+/// hears about it.
 ///
 /// Errors: `Read` where a read failed, an interrupted one too; `Write` where a write or a flush failed, or a write took
-/// no byte; `TurnsSpent` where `turns.lines` lines were answered and a byte stands past them, or where `turns.reads`
-/// reads were made and none met the end, or where the gate refused a line. After a fault the output holds a front of the
-/// replies' text, and after `Read` and `TurnsSpent` the whole of it for all lines whose byte 10 was read, up to
-/// `turns.lines` of them and before any that the gate refused. `Memory` never comes.
+/// no byte; `TurnsSpent` where `turns.lines` lines were answered and a byte follows, where `turns.reads` reads
+/// did not reach the end, or where the gate refused a line. After a fault the output holds a prefix of the replies'
+/// text. After `Read` and `TurnsSpent` that is the reply to each line whose byte 10 was read, up to `turns.lines` lines
+/// and before any that the gate refused. `Memory` never comes.
 pub fn run_lines<R: Read, W: Write, A: Answerer, G: Gate>(
     alloc: Global,
     input: &mut Watched<R>,
@@ -38,7 +38,7 @@ pub fn run_lines<R: Read, W: Write, A: Answerer, G: Gate>(
 ) -> Result<Counts, ServeError>
     requires fresh { AreFresh input.old output.old }
 
-    // A reply for each line, in order; after a fault a front of the replies.
+    // A reply for each line, in order; after a fault a prefix of the replies.
     ensures outcome { IsOutcome (G.says gate.now) A.step answerer.old answerer.new turns
         (passage_of R.remaining W.contents input.old input.new output.old output.new) result }
     ensures faults { StreamFaults R.remaining turns input.new output.old output.new result }

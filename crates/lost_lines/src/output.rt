@@ -12,7 +12,7 @@ use std::io::Write;
 /// The most bytes that are gathered before they are sent.
 const MAX_GATHERED: usize = 65_536;
 
-/// Gathers a text, and where replies are not to be gathered sends it at once.
+/// Gathers a text, or sends it at once where replies are not gathered.
 pub(crate) fn pass_on<W: Write>(
     gathered: &mut Vec<u8>,
     output: &mut Watched<W>,
@@ -33,7 +33,7 @@ pub(crate) fn pass_on<W: Write>(
     settle(gathered, output)
 }
 
-/// Adds a text to what is gathered; where there is no room for it, what is gathered and then the text are sent.
+/// Gathers a text; where there is no room, sends the gathered bytes and then the text.
 fn gather<W: Write>(
     gathered: &mut Vec<u8>,
     output: &mut Watched<W>,
@@ -52,7 +52,7 @@ fn gather<W: Write>(
     send(output, text)
 }
 
-/// Adds a text to what is gathered, where there is room for it; says whether it did.
+/// Adds a text to the gathered bytes where there is room, and says whether it did.
 fn add(gathered: &mut Vec<u8>, text: &[u8]) -> bool
     ensures { gathered.new.items
         ≡ (if result then gathered.old.items ++ text.now else gathered.old.items) }
@@ -61,7 +61,7 @@ fn add(gathered: &mut Vec<u8>, text: &[u8]) -> bool
         && gathered.extend_from_slice(text).is_ok()
 }
 
-/// Sends what is gathered, and flushes the output.
+/// Sends the gathered bytes, and flushes the output.
 pub(crate) fn settle<W: Write>(
     gathered: &mut Vec<u8>,
     output: &mut Watched<W>,
@@ -78,7 +78,7 @@ pub(crate) fn settle<W: Write>(
     output.flush().map_err(|_| ServeError::Write)
 }
 
-/// Sends what is gathered.
+/// Sends the gathered bytes.
 fn release<W: Write>(gathered: &mut Vec<u8>, output: &mut Watched<W>) -> Result<(), ServeError>
     ensures ok { OnOk result (Appends (W.contents (inner_of output.old)) (W.contents (inner_of output.new))
         gathered.old.items) }

@@ -20,8 +20,7 @@ use memchr::memchr;
 use std::alloc::Global;
 use std::io::Write;
 
-/// What is kept of a stream while its lines are served: the line that is being read, the replies that are gathered, and
-/// what was counted.
+/// The state of a stream while its lines are served: the line being read, the replies gathered, and the counts.
 #[derive(Drop)]
 pub(crate) struct LineServer {
     cutter: Cutter,
@@ -52,8 +51,8 @@ impl LineServer {
         self.tally.counts()
     }
 
-    /// Takes the bytes of a chunk, and sends the replies to the lines that they end. What is left where no further line
-    /// may be answered, or where the gate refuses the next, is given back.
+    /// Takes the bytes of a chunk, and sends the replies to the lines that they end. Gives back the rest where no
+    /// further line may be answered, or where the gate refuses the next.
     pub(crate) fn take_chunk<'c, W: Write, A: Answerer, G: Gate>(
         &mut self,
         alloc: Global,
@@ -80,7 +79,7 @@ impl LineServer {
         Ok(rest)
     }
 
-    /// Takes the bytes of a chunk, as `take_chunk` does, and gathers the replies.
+    /// Takes the bytes of a chunk as `take_chunk` does, but gathers the replies.
     fn take_lines<'c, W: Write, A: Answerer, G: Gate>(
         &mut self,
         alloc: Global,
@@ -117,8 +116,7 @@ impl LineServer {
         Ok(rest)
     }
 
-    /// Takes the bytes up to their first byte 10, which stands at `end`, and answers the line that it ends. Gives the
-    /// bytes after it.
+    /// Takes the bytes up to their first byte 10, at `end`, and answers that line. Gives the bytes after it.
     fn take_line<'c, W: Write, A: Answerer, G: Gate>(
         &mut self,
         alloc: Global,

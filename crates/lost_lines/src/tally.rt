@@ -3,7 +3,7 @@ ghost use Rattle.std.specs.Prelude.{◌≡◌, ◌<◌, ◌≤◌, ◌+◌, nat_
 
 use crate::counts::Counts;
 
-/// What was counted so far, and how many lines may be counted.
+/// The counts so far, and how many lines may be counted.
 #[derive(Drop)]
 pub(crate) struct Tally {
     counts: Counts,

@@ -1,8 +1,8 @@
-//! How long a stream is served at most. Rules without a section are this profile's own.
+//! How long a stream is served at most.
 ghost use Rattle.std.specs.Prelude.{◌≡◌};
 
-/// The most lines that are answered, and the most reads that are made: a stream that has more is ended, so
-/// that no input keeps a call for ever.
+/// The most lines that are answered, and the most reads that are made. A stream with more is ended, so no input keeps a
+/// call for ever.
 #[derive(Clone, Copy, PartialEq, Eq, Debug)]
 pub struct Turns {
     /// The most lines.
@@ -12,7 +12,7 @@ pub struct Turns {
 }
 
 impl Turns {
-    /// What the programs use: 1,000,000 lines and 100,000,000 reads.
+    /// The turns of the programs: 1,000,000 lines and 100,000,000 reads.
     pub const USUAL: Turns = Turns {
         lines: 1_000_000,
         reads: 100_000_000,

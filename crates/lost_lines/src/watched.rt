@@ -1,4 +1,4 @@
-//! A reader or a writer that remembers how its calls went. Rules without a section are this profile's own.
+//! A reader or a writer that remembers how its calls went.
 ghost use Rattle.std.specs.Prelude.{◌≡◌, ◌+◌, ◌-◌, ◌^◌, ◌||◌, ◌&&◌, true, false, min, length, is_err};
 ghost use Rattle.std.specs.Io.{ReadsAtMost, WritesAtMost};
 ghost use Rattle.std.specs.Io.KnownBytes.{Keeps, ReadConsumes, WriteAppends};
@@ -7,10 +7,10 @@ ghost use Rattle.lost_lines.specs.Watched.{inner_of, has_failed, has_ended, is_u
 use std::io;
 use std::io::{Read, Write};
 
-/// A reader or a writer, with two flags that stay once they are set, one that a flush takes back, and a count of its
-/// reads. Each call is passed on. `failed` is set where a read, a write or a flush failed, an interrupted one
-/// too, or where a write that was given a byte took none; `ended` is set where a read with room for a byte gave none;
-/// `unflushed` is set from a write to the next flush that does not fail.
+/// A reader or a writer, with two flags that stay set, one that a flush clears, and a count of reads. Each call is
+/// passed on. `failed` is set where a read, a write or a flush failed, an interrupted one too, or where a write that
+/// was given a byte took none; `ended` is set where a read with room for a byte gave none; `unflushed` is set from a
+/// write to the next flush that does not fail.
 #[derive(Drop)]
 pub struct Watched<T> {
     inner: T,
@@ -66,14 +66,14 @@ impl<T> Watched<T> {
         self.reads
     }
 
-    /// What is watched.
+    /// The reader or writer.
     pub fn inner(&self) -> &T
         ensures { result.now ≡ inner_of self.now }
     {
         &self.inner
     }
 
-    /// Gives back what was watched.
+    /// Gives back the reader or writer.
     pub fn into_inner(self) -> T
         ensures { result ≡ inner_of self }
     {
@@ -141,7 +141,7 @@ impl<T: Write> Write for Watched<T> {
     }
 }
 
-/// Whether a read or a write of up to `room` bytes went well and moved none, though there was room for one.
+/// Whether a read or a write of up to `room` bytes succeeded and moved none, though `room` was not 0.
 fn is_none(moved: &io::Result<usize>, room: usize) -> bool
     ensures { result ≡ gives_none moved.now room }
 {

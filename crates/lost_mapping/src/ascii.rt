@@ -5,7 +5,7 @@ ghost use Rattle.lost_spec.specs.Text.{lowered};
 
 use std::alloc::{AllocError, Global};
 
-/// The text of ASCII bytes, or want of memory.
+/// The text of ASCII bytes.
 pub(crate) fn to_text(alloc: Global, bytes: &[u8]) -> Result<String, AllocError>
     requires { IsAscii bytes.now }
     ensures { IfOk result (λ s. string_bytes s ≡ bytes.now) }
@@ -13,7 +13,7 @@ pub(crate) fn to_text(alloc: Global, bytes: &[u8]) -> Result<String, AllocError>
     String::from_str(alloc, str::from_utf8(bytes).unwrap())
 }
 
-/// The text of ASCII bytes in lower case, or want of memory.
+/// The text of ASCII bytes, in lower case.
 pub(crate) fn to_lowercase(alloc: Global, bytes: &[u8]) -> Result<String, AllocError>
     requires { IsAscii bytes.now }
     ensures { IfOk result (λ s. string_bytes s ≡ lowered bytes.now) }

@@ -1,5 +1,4 @@
-//! The first refusal of what does not stand at the head of parts, found before any memory is taken for it. Rules without a
-//! section are this profile's own.
+//! The first refusal of parts other than the head, found before any memory is taken.
 ghost use Rattle.std.specs.Prelude.{◌≡◌};
 ghost use Rattle.std.specs.Result.{result_err};
 ghost use Rattle.lost_mapping.specs.Faults.{contact_fault, areas_fault};
@@ -28,7 +27,7 @@ pub(crate) fn check_contact<T: PartItems>(
     Ok(())
 }
 
-/// Refuses bad regions, and then what does not go together or is too much.
+/// Refuses bad regions, then a bad combination, sizes over a limit, and a bad key.
 pub(crate) fn check_areas<T: PartItems>(
     parts: &BorrowedParts<'_, T::Uri, T::Region, T::DisplayName>,
 ) -> Result<(), MappingError>

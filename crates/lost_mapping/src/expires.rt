@@ -1,4 +1,4 @@
-//! When a mapping ceases to be live. Rules without a section are this profile's own.
+//! When a mapping expires.
 ghost use Rattle.std.specs.Prelude.{◌≡◌, ◌↔◌, false, IsTrue, IfOk, IsOkUnless};
 ghost use Rattle.lost_spec.specs.Mapping.{is_expires, expires_of, is_unexpired};
 
@@ -7,10 +7,10 @@ use crate::stamp::Stamp;
 use lost_spec::faults::{MappingError, StampError};
 use std::alloc::{AllocError, Global};
 
-/// When a mapping ceases to be live (RFC 5222, section 5.2).
+/// When a mapping expires (RFC 5222, section 5.2).
 #[derive(Drop, Debug)]
 pub enum Expires {
-    /// Never, and no answer with it is to be kept.
+    /// Never, and an answer with the mapping is not to be cached.
     NoCache,
     /// Never.
     NoExpiration,
@@ -21,8 +21,7 @@ pub enum Expires {
 impl Expires {
     ghost use Rattle.lost_mapping.specs.Expires.{expires_seen};
 
-    /// Reads `NO-CACHE`, `NO-EXPIRATION` or a stamp. Any other text is refused as `BadExpires`, and `Memory` is want
-    /// of memory.
+    /// Reads `NO-CACHE`, `NO-EXPIRATION` or a stamp. Any other text is refused as `BadExpires`.
     pub(crate) fn parse(alloc: Global, text: &str) -> Result<Expires, MappingError>
         ensures bad { (result ≡ Err MappingError.BadExpires) ↔ (is_expires text.now ≡ false) }
         ensures accepted { IsTrue (is_expires text.now) → IsOkUnless result MappingError.Memory }
@@ -48,8 +47,8 @@ impl Expires {
         text == "NO-CACHE" || text == "NO-EXPIRATION" || Stamp::is_stamp(text.as_bytes())
     }
 
-    /// Whether a mapping that expires then is live at an instant: always with one of the two words, and else before
-    /// the stamp's instant.
+    /// Whether a mapping with this expiry is live at an instant: always with one of the two words, and else before the
+    /// stamp's instant.
     pub fn is_live_at(&self, now: &Moment) -> bool
         ensures { result ≡ is_unexpired (expires_seen self.now) now.now }
     {
@@ -59,7 +58,7 @@ impl Expires {
         }
     }
 
-    /// A copy, or want of memory.
+    /// A copy.
     pub fn clone(&self) -> Result<Expires, AllocError>
         ensures { IfOk result (λ e. expires_seen e ≡ expires_seen self.now) }
     {

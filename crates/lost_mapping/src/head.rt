@@ -1,4 +1,4 @@
-//! What stands at the head of a mapping: what names it, when it was changed, until when it holds, and its service.
+//! The head of a mapping: its identity, when it was changed, when it expires, and its service.
 ghost use Rattle.std.specs.Prelude.{◌≡◌, not, is_err, IfOk};
 ghost use Rattle.std.specs.Result.{result_err};
 ghost use Rattle.lost_spec.specs.Text.{lowered};
@@ -17,7 +17,7 @@ use lost_spec::faults::{MappingError, StampError, UrnError};
 use lost_urn::ServiceUrn;
 use std::alloc::Global;
 
-/// The identity, the stamp, the end and the service of a mapping (RFC 5222, sections 5.1, 5.2 and 5.4).
+/// The identity, the stamp, the expiry and the service of a mapping (RFC 5222, sections 5.1, 5.2 and 5.4).
 #[derive(Drop)]
 pub(crate) struct Head {
     pub identity: Identity,
@@ -27,7 +27,7 @@ pub(crate) struct Head {
 }
 
 impl Head {
-    /// Reads the source, the sourceId, the stamp, the end and the service, and refuses the first that is bad.
+    /// Reads the source, the sourceId, the stamp, the expiry and the service, and refuses the first that is bad.
     pub(crate) fn read(alloc: Global, parts: &Parts) -> Result<Head, MappingError>
         ensures source { IfOk result (λ head. head.identity.source ≡ lowered (parts_of parts.now).source) }
         ensures source_id { IfOk result (λ head. head.identity.source_id ≡ (parts_of parts.now).source_id) }
@@ -48,7 +48,7 @@ impl Head {
         })
     }
 
-    /// Refuses the source, the sourceId, the stamp, the end or the service, the first that is bad. It takes no memory.
+    /// Refuses the first bad one of the source, sourceId, stamp, expiry and service. It takes no memory.
     pub(crate) fn check(
         source: &str,
         source_id: &str,
@@ -63,7 +63,7 @@ impl Head {
     }
 }
 
-/// Refuses the stamp, the end or the service, the first that is bad.
+/// Refuses the first bad one of the stamp, expiry and service.
 fn check_terms(last_updated: &str, expires: &str, service: &str) -> Result<(), MappingError>
     ensures { result_err result ≡ terms_fault last_updated.now expires.now service.now }
 {

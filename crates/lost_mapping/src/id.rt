@@ -1,4 +1,4 @@
-//! Which texts are sourceIds and keys. Rules without a section are this profile's own.
+//! Which texts are sourceIds and keys.
 ghost use Rattle.std.specs.Prelude.{◌≡◌, ◌&&◌, ◌==◌, not, nat_le};
 ghost use Rattle.std.specs.List.{list_all};
 ghost use Rattle.lost_spec.specs.Mapping.{is_id};

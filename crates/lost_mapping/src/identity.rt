@@ -1,4 +1,4 @@
-//! What names a mapping over the whole server. Rules without a section are this profile's own.
+//! The name of a mapping over the whole server.
 ghost use Rattle.std.specs.Prelude.{◌≡◌, ◌&&◌, ◌++◌, bytes_eq, IsTrue, IsNone, IfSome, IfOk, IsOkUnless};
 ghost use Rattle.std.specs.Hash as fed;
 ghost use Rattle.std.specs.Result.{result_err};
@@ -37,8 +37,7 @@ impl Model for Identity {
 }
 
 impl Identity {
-    /// Reads the source, in any case, and the sourceId. `BadSource` comes first, then `BadSourceId`, and
-    /// `Memory` is want of memory.
+    /// Reads the source, in any case, and the sourceId. `BadSource` comes first, then `BadSourceId`.
     pub fn parse(alloc: Global, source: &str, source_id: &str) -> Result<Identity, MappingError>
         ensures refused { IfSome (identity_fault source.now source_id.now) (λ e. result ≡ Err e) }
         ensures accepted { IsNone (identity_fault source.now source_id.now)
@@ -91,7 +90,7 @@ impl Identity {
         self.source_id.as_str()
     }
 
-    /// A copy, or want of memory.
+    /// A copy.
     pub fn clone(&self) -> Result<Identity, AllocError>
         ensures { IfOk result (λ i. i ≡ self.now) }
     {

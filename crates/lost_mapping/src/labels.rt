@@ -1,4 +1,4 @@
-//! Which texts are sources: their length, and each of their labels. Rules without a section are this profile's own.
+//! Which texts are sources: their length, and each of their labels.
 ghost use Rattle.std.specs.Prelude.{◌≡◌, is_none};
 ghost use Rattle.std.specs.List.{list_all};
 ghost use Rattle.lost_spec.specs.Text.{lowered};

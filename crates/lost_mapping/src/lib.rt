@@ -1,4 +1,4 @@
-//! Mappings (RFC 5222, section 5): what a map desk hands in, which of it makes a mapping, and when a mapping is live.
+//! Mappings (RFC 5222, section 5): the parts that a map desk hands in, which parts make a mapping, and when it is live.
 #![tactic(auto)]
 
 mod ascii;

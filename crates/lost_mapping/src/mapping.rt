@@ -1,4 +1,4 @@
-//! A mapping, built from its parts. Rules without a section are this profile's own.
+//! A mapping, built from its parts.
 ghost use Rattle.std.specs.Prelude.{◌≡◌, ◌≢◌, None, Err, IfOk, IfErr, IfSome, OnOk};
 ghost use Rattle.std.specs.Option.{option_copied};
 ghost use Rattle.std.specs.Result.{result_err};
@@ -75,7 +75,7 @@ impl Mapping {
     /// pattern, [`MappingError::RegionMissing`] for a default with a region or another mapping without one,
     /// [`MappingError::TooLarge`] for more than 64 polygons, 256 patterns or 16 display names, or a language or text
     /// of more than 1,024 bytes in one, [`MappingError::BadKey`] where a default has a key, or another mapping has
-    /// none or a bad one. [`MappingError::Memory`] comes for want of memory, and in place of no other refusal.
+    /// none or a bad one. [`MappingError::Memory`] comes only after the checks.
     pub fn build(alloc: Global, parts: Parts) -> Result<Mapping, MappingError>
         ensures accepted { OnOk result (parts_fault (parts_of parts) ≡ None) }
         ensures mapping { IfOk result (λ mapping. mapping ≡ mapping_of (parts_of parts)) }
@@ -105,8 +105,8 @@ impl Mapping {
         )
     }
 
-    /// Ok where `build` takes parts like these, and else their refusal, the first in the order of the codes. It takes no
-    /// memory, and the parts may lie anywhere: `T` says how the items of their lists are told.
+    /// Ok where `build` takes these parts, else the first refusal in the order of the codes. It takes no memory. The
+    /// parts may lie anywhere: `T` says how to read the items of their lists.
     ///
     /// # Errors
     ///
@@ -139,7 +139,7 @@ impl Mapping {
         }
     }
 
-    /// What names the mapping over the whole server (RFC 5222, section 5.1; own scope).
+    /// The name of the mapping over the whole server (RFC 5222, section 5.1; own scope).
     pub fn identity(&self) -> &Identity
         ensures { result.now ≡ identity_of self.now }
     {
@@ -227,7 +227,7 @@ impl Mapping {
         self.inner.expires.is_live_at(moment)
     }
 
-    /// The same mapping, or want of memory. It costs a pointer.
+    /// A copy. It costs a pointer.
     pub fn clone(&self) -> Result<Mapping, AllocError>
         ensures { IfOk result (λ copy. copy ≡ self.now) }
     {

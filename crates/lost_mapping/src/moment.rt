@@ -1,4 +1,4 @@
-//! Instants, as a day and a nanosecond of the day. Rules without a section are this profile's own.
+//! Instants, as a day and a nanosecond of the day.
 ghost use Rattle.std.specs.Prelude.{◌≡◌, ◌<◌, ◌≤◌, ◌↔◌, IsNone, IfSome};
 ghost use Rattle.lost_spec.specs.Moment.{Instant, is_earlier, nanoseconds_of_a_day};
 
@@ -55,7 +55,7 @@ impl Moment {
         self.nanosecond
     }
 
-    /// Whether this instant is before another. It is so exactly where `<` holds.
+    /// Whether this instant is before another, as `<` says.
     pub fn is_earlier(&self, other: &Moment) -> bool
         ensures { result ≡ is_earlier self.now other.now }
     {

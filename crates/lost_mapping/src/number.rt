@@ -1,4 +1,4 @@
-//! Which texts are service numbers. Rules without a section are this profile's own.
+//! Which texts are service numbers.
 ghost use Rattle.std.specs.Prelude.{◌≡◌};
 ghost use Rattle.std.specs.List.{list_all};
 ghost use Rattle.std.specs.Option.{option_copied};

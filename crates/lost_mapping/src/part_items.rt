@@ -1,5 +1,4 @@
-//! How the parts of a mapping are told from what holds them, so that one body checks them wherever they lie. Rules without a
-//! section are this profile's own.
+//! How to read the parts of a mapping from the items of lists, so that one check serves parts wherever they lie.
 ghost use Rattle.std.specs.Prelude.{string_bytes};
 ghost use Rattle.lost_mapping.specs.Parts.{region_of, display_name_of};
 
@@ -7,36 +6,36 @@ use crate::parts::{DisplayName, Parts, Region, RegionKind};
 use lost_civic::CivicPattern;
 use lost_geo::is_ring;
 
-/// How the URIs, the regions and the display names of a mapping are told from the items of lists.
+/// How to read the URIs, the regions and the display names of a mapping from the items of lists.
 pub trait PartItems {
     ghost use Rattle.std.specs.Prelude.{◌≡◌};
     ghost use Rattle.lost_spec.specs.Mapping as spec;
     ghost use Rattle.lost_spec.specs.Text.{Text};
     ghost use Rattle.lost_mapping.specs.Regions.{region_kind as kind_of_region};
 
-    /// What stands for a URI.
+    /// An item that holds a URI.
     type Uri;
 
-    /// What stands for a region.
+    /// An item that holds a region.
     type Region;
 
-    /// What stands for a display name.
+    /// An item that holds a display name.
     type DisplayName;
 
     // The text of a URI.
     ghost uri_of: { Self.Uri → Text };
 
-    // The region that an item tells.
+    // The region of an item.
     ghost region_of: { Self.Region → spec.Region };
 
-    // The display name that an item tells.
+    // The display name of an item.
     ghost display_name_of: { Self.DisplayName → spec.DisplayName };
 
     /// The text of a URI.
     fn uri(uri: &Self::Uri) -> &str
         ensures { result.now ≡ uri_of uri.now };
 
-    /// What a region is, or nothing where it cannot be read: a ring of points, or a pattern that is not refused (RFC 5222,
+    /// The kind of a region: a ring of points, or a pattern that is not refused. `None` where it is neither (RFC 5222,
     /// section 5.5).
     fn region_kind(region: &Self::Region) -> Option<RegionKind>
         ensures { result ≡ kind_of_region (region_of region.now) };

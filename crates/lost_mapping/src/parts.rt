@@ -1,5 +1,4 @@
-//! What a map desk hands in for a mapping, as plain texts and lists: nothing of it is checked yet.
-//! Rules without a section are this profile's own.
+//! What a map desk hands in for a mapping, as plain texts and lists that nothing has checked yet.
 
 /// The parts of a mapping (RFC 5222, section 5).
 #[derive(Debug, Drop)]
@@ -52,8 +51,8 @@ impl Parts {
     }
 }
 
-/// The parts of a mapping where they lie, as they are looked at before memory is taken for them: what [`Parts`] has, in
-/// lists of any items from which the URIs, the regions and the display names are told.
+/// The parts of a mapping where they lie, to be checked before memory is taken: the fields of [`Parts`], in lists of
+/// any items that hold the URIs, the regions and the display names.
 #[derive(Drop)]
 pub struct BorrowedParts<'a, U, R, N> {
     /// The name of the server that the mapping comes from (RFC 5222, section 5.1).
@@ -91,7 +90,7 @@ pub enum Region {
     Unreadable,
 }
 
-/// What a region is that can be read (RFC 5222, section 5.5).
+/// The kind of a region that can be read (RFC 5222, section 5.5).
 #[derive(Clone, Copy, PartialEq, Eq, Debug)]
 pub enum RegionKind {
     /// A ring of positions.

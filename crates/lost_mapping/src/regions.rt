@@ -83,8 +83,7 @@ pub(crate) struct Counts {
     pub patterns: usize,
 }
 
-/// How many regions are polygons and how many are patterns, or nothing where one of them cannot be read. It takes no
-/// memory.
+/// How many regions are polygons and how many are patterns; `None` where one cannot be read. It takes no memory.
 pub(crate) fn count_regions<T: PartItems>(regions: &[T::Region]) -> Option<Counts>
     ensures { result ≡ region_counts (map T.region_of regions.now) }
 {
@@ -114,7 +113,7 @@ fn read_polygon(alloc: Global, positions: &[(i64, i64)]) -> Result<Polygon, Mapp
     }
 }
 
-/// The same polygon, shared: a copy of it costs a pointer.
+/// The same polygon, shared: a copy costs a pointer.
 fn shared(alloc: Global, polygon: Polygon) -> Result<Polygon, MappingError>
     ensures polygon { IfOk result (λ shared. shared ≡ polygon) }
     ensures refuses { Refuses result None }

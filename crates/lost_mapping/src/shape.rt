@@ -1,4 +1,4 @@
-//! What of a mapping does not go together, and what is too much (RFC 5222, section 5; own rules).
+//! Which fields of a mapping go together, and its greatest sizes (RFC 5222, section 5; own rules).
 ghost use Rattle.std.specs.Prelude.{◌≡◌, ◌||◌, map, nat_lt, length};
 ghost use Rattle.std.specs.List.{list_any};
 ghost use Rattle.std.specs.Option.{option_copied};

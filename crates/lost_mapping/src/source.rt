@@ -1,4 +1,4 @@
-//! Sources, and names of servers: labels joined by dots. Rules without a section are this profile's own.
+//! Sources, and names of servers: labels joined by dots.
 ghost use Rattle.std.specs.Prelude.{◌≡◌, ◌↔◌, false, IsTrue, IfOk, OnOk, bytes_eq};
 ghost use Rattle.std.specs.Hash as fed;
 ghost use Rattle.std.proofs.Common.{rules};
@@ -36,7 +36,7 @@ impl Model for Source {
 }
 
 impl Source {
-    /// Reads a source in any case. A text that is none is refused as `Bad`, and `Memory` is want of memory.
+    /// Reads a source in any case. A text that is none is refused as `Bad`.
     pub fn parse(alloc: Global, text: &[u8]) -> Result<Source, SourceError>
         ensures accepted { OnOk result (IsTrue (is_source text.now)) }
         ensures value { IfOk result (λ s. s ≡ lowered text.now) }
@@ -67,7 +67,7 @@ impl Source {
         self.text.as_str()
     }
 
-    /// A copy, or want of memory.
+    /// A copy.
     pub fn clone(&self) -> Result<Source, AllocError>
         ensures { IfOk result (λ s. s ≡ self.now) }
     {

@@ -1,4 +1,4 @@
-//! Stamps: a time in UTC as text, with the instant that it names. Rules without a section are this profile's own.
+//! Stamps: a time in UTC as text, with the instant that it names.
 ghost use Rattle.std.specs.Prelude.{◌≡◌, ◌↔◌, false, Some, IfOk};
 ghost use Rattle.lost_spec.specs.Moment.{is_stamp, read_stamp};
 
@@ -33,7 +33,7 @@ impl Model for Stamp {
 impl Stamp {
     ghost use Rattle.lost_mapping.specs.Stamp.{IsStampAt};
 
-    /// Reads a stamp. A text that is none is refused as `Bad`, and `Memory` is want of memory.
+    /// Reads a stamp. A text that is none is refused as `Bad`.
     pub fn parse(alloc: Global, text: &[u8]) -> Result<Stamp, StampError>
         ensures value { IfOk result (λ s. read_stamp text.now ≡ Some s) }
         ensures bad { (result ≡ Err StampError.Bad) ↔ (is_stamp text.now ≡ false) }
@@ -76,7 +76,7 @@ impl Stamp {
         self.moment
     }
 
-    /// A copy, or want of memory.
+    /// A copy.
     pub fn clone(&self) -> Result<Stamp, AllocError>
         ensures { IfOk result (λ s. s ≡ self.now) }
     {

@@ -1,4 +1,4 @@
-//! Which texts are stamps, such as `2026-01-01T00:00:00Z`, and the instant that one names (RFC 3339 in UTC; own bounds).
+//! Which texts are stamps, such as `2026-01-01T00:00:00Z`, and the instant of each (RFC 3339 in UTC; own bounds).
 ghost use Rattle.std.specs.Prelude.{◌≡◌, ◌+◌, ◌*◌, ◌<◌, ◌≤◌, ◌&&◌, IsTrue, IfSome, is_some, length};
 ghost use Rattle.std.specs.List.{list_all};
 ghost use lib.Pointwise.{pointwise};

@@ -1,4 +1,4 @@
-//! Which texts are URIs, and which lists of them a mapping may have. Rules without a section are this profile's own.
+//! Which texts are URIs, and which lists of URIs a mapping may have.
 ghost use Rattle.std.specs.Prelude.{◌≡◌, ◌==◌, map, position};
 ghost use Rattle.std.specs.List.{list_all};
 ghost use Rattle.lost_spec.specs.Text.{lowered, is_between, is_among, has_repeat};
@@ -44,7 +44,7 @@ pub(crate) fn is_uri(uri: &[u8]) -> bool
     is_scheme(scheme) && is_visible(uri)
 }
 
-/// What stands before the first colon, or all of a text that has none.
+/// The text before the first colon, or the whole text where it has none.
 fn scheme_of(uri: &[u8]) -> &[u8]
     ensures { result.now ≡ scheme_of_text uri.now }
 {
@@ -87,7 +87,7 @@ fn is_scheme_byte(byte: u8) -> bool
     byte.is_ascii_alphanumeric() || matches!(byte, b'+' | b'-' | b'.')
 }
 
-/// Whether a scheme stands twice, in any case. It takes the square of the number of URIs.
+/// Whether a scheme stands twice, in any case. The time is quadratic in the number of URIs.
 fn repeats_scheme<T: PartItems>(uris: &[T::Uri]) -> bool
     ensures { result ≡ has_repeat (schemes_of (map T.uri_of uris.now)) }
 {

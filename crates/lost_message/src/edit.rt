@@ -1,4 +1,4 @@
-//! The edits of a map desk. Rules without a section are this profile's own.
+//! The edits of a map desk.
 ghost use Rattle.std.specs.Prelude.{◌≡◌, IfOk};
 
 use lost_mapping::{Identity, Mapping, Stamp};
@@ -7,18 +7,18 @@ use std::alloc::AllocError;
 /// An edit by the map desk.
 #[derive(Drop)]
 pub enum Edit {
-    /// Holds a mapping of a new identity, behind the ones that are held.
+    /// Holds a mapping of a new identity, after those held.
     Publish(Mapping),
-    /// Holds the mapping in the place of the one with its identity.
+    /// Replaces the mapping held with the same identity, in its place.
     Replace(Mapping),
-    /// Holds the mapping with this identity no longer; the stamp says when that was decided.
+    /// Removes the mapping with this identity; the stamp says when that was decided.
     Withdraw(Identity, Stamp),
 }
 
 impl Edit {
     ghost use Rattle.lost_message.specs.Edit.{edit_of};
 
-    /// The same edit, or want of memory. A mapping costs a pointer.
+    /// A copy. A mapping costs a pointer.
     pub fn clone(&self) -> Result<Edit, AllocError>
         ensures { IfOk result (λ copy. edit_of copy ≡ edit_of self.now) }
     {

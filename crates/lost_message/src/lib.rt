@@ -1,5 +1,5 @@
-//! What lines say, as values: requests, replies and edits (RFC 5222, sections 5 to 13). What reads lines and what writes
-//! them stands on these types, and not on what answers or holds anything.
+//! What lines say, as values: requests, replies and edits (RFC 5222, sections 5 to 13). `lost_reading`, `lost_tape` and
+//! `lost_writing` use these types, and no crate that answers or holds anything.
 #![tactic(auto)]
 
 mod edit;

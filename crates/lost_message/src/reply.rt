@@ -4,11 +4,11 @@ use lost_mapping::Mapping;
 use lost_spec::answers::{AnswerError, Warning};
 use lost_urn::ServiceUrn;
 
-/// A reply (RFC 5222, sections 8.4, 9 to 11 and 13.1). `edition` is the number of edits that the mappings it is for
-/// come from, `path` the request's with the server's name after it.
+/// A reply (RFC 5222, sections 8.4, 9 to 11 and 13.1). `edition` is the number of edits of the book that it answers
+/// from, `path` the request's with the server's name after it.
 #[derive(Drop)]
 pub enum Reply<'a> {
-    /// The mappings that were found (RFC 5222, section 8.4).
+    /// The mappings found (RFC 5222, section 8.4).
     FindServiceResponse {
         edition: u64,
         location_used: &'a str,
@@ -47,15 +47,15 @@ pub enum Reply<'a> {
     InternalError,
 }
 
-/// The mappings that were found, at least one, in their order, and how the boundary of each is shown (RFC 5222, section
-/// 8.4.1): a default's is not. One mapping takes no memory for a list.
+/// The mappings found, at least one, in their order, and how the boundary of each is shown (RFC 5222, section 8.4.1):
+/// a default's is not. One mapping takes no memory for a list.
 #[derive(Drop)]
 pub struct FoundMappings {
     /// The first.
     pub first: Mapping,
     /// The others.
     pub rest: Vec<Mapping>,
-    /// How the boundary of each is shown that is no default.
+    /// How the boundary of each that is no default is shown.
     pub boundary: Boundary,
 }
 
@@ -70,13 +70,13 @@ pub enum Boundary {
     ByPatterns,
 }
 
-/// The names of an address's elements by how they were judged (RFC 5222, section 8.4.2).
+/// The names of an address by the result of validation (RFC 5222, section 8.4.2).
 #[derive(Drop)]
 pub struct Validation {
     /// The elements that some reference pattern names, and none with the address's value.
     pub invalid: Vec<String>,
     /// All other names of the address.
     pub unchecked: Vec<String>,
-    /// The elements that a matching pattern of a mapping that was found names.
+    /// The elements that a matching pattern of a mapping found names.
     pub valid: Vec<String>,
 }

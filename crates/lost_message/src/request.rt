@@ -1,9 +1,9 @@
-//! Requests, as they are read: nothing of a location's content is checked yet.
+//! Requests, as they are read: the content of a location is not checked yet.
 use lost_urn::ServiceUrn;
 use std::borrow::CowStr;
 
-/// A request (RFC 5222, sections 8 to 11). Its texts are borrowed from what it was read from, or owned. `path` has the
-/// names of the servers that it came by, in order (RFC 5222, section 6).
+/// A request (RFC 5222, sections 8 to 11). Its texts are borrowed from the line, or owned. `path` has the names of the
+/// servers that it came by, in order (RFC 5222, section 6).
 #[derive(Drop)]
 pub enum Request<'a> {
     /// The mappings for a service at a location (RFC 5222, section 8). `validate` asks for validation of a civic
@@ -33,8 +33,7 @@ pub enum Request<'a> {
     },
 }
 
-/// The locations of a request, at least one (RFC 5222, section 8.3.1): the first stands by itself, so that a request with
-/// one takes no memory for a list.
+/// The locations of a request, at least one (RFC 5222, section 8.3.1): a request with one takes no memory for a list.
 #[derive(Drop)]
 pub struct Locations<'a> {
     /// The first location.
@@ -46,7 +45,7 @@ pub struct Locations<'a> {
 /// A location of a request (RFC 5222, section 8.3.1).
 #[derive(Drop)]
 pub struct Location<'a> {
-    /// What a reply names the location by.
+    /// The id by which a reply names the location.
     pub id: CowStr<'a>,
     /// The name of its profile (RFC 5222, section 12.1).
     pub profile: CowStr<'a>,

@@ -1,5 +1,5 @@
 //! What makes a kind of location searchable (RFC 5222, section 12): when a region contains a location, and the keys
-//! under which regions are kept and locations are looked up. Rules without a section are this profile's own.
+//! under which regions are kept and locations are looked up.
 #![tactic(auto)]
 
 mod profile;

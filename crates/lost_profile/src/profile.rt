@@ -8,22 +8,22 @@ use std::convert::AsSlice;
 use std::hash::Hash;
 
 /// A kind of location, and of the regions that contain such locations (RFC 5222, section 12). A region is kept under
-/// the keys of its cover, and a location is looked up under its probes; an outline refuses most regions at a glance.
-/// It is chosen by its type alone, so no call takes a `self`.
+/// the keys of its cover, and a location is looked up under its probes. An outline rules out regions cheaply.
+/// A profile is chosen by its type alone, so no call takes a `self`.
 pub trait Profile {
     /// A location of a request.
     type Location;
 
-    /// An area that a mapping serves, or a part of it.
+    /// An area that a mapping serves, or a part of one.
     type Region: Drop;
 
-    /// What regions are kept under.
+    /// A key under which regions are kept.
     type Key: Ord + Hash + Drop;
 
     /// The keys under which a location is looked up, as a list: an array where their number is fixed.
     type Probes: AsSlice<Self::Key> + Drop;
 
-    /// What is cheap to copy and to compare, and tells that a region does not contain a location.
+    /// A value, cheap to copy and compare, that can tell that a region does not contain a location.
     type Outline: Copy + Eq;
 
     /// The number `COVER_MAX` in contracts.
@@ -35,10 +35,10 @@ pub trait Profile {
     /// The greatest number of keys of a cover.
     const COVER_MAX: usize;
 
-    /// What every region is.
+    /// The property of every region.
     ghost is_region: { Self.Region → Type 0 };
 
-    /// What every location is.
+    /// The property of every location.
     ghost is_location: { Self.Location → Type 0 };
 
     /// Whether the region contains the location.
@@ -60,12 +60,12 @@ pub trait Profile {
     fn contains(region: &Self::Region, location: &Self::Location) -> bool
         ensures { result ≡ holds region.now location.now };
 
-    /// The keys under which the region is kept: each once, and at most `COVER_MAX`; or want of memory.
+    /// The keys under which the region is kept: each once, and at most `COVER_MAX`.
     fn cover(alloc: Global, region: &Self::Region) -> Result<Vec<Self::Key>, AllocError>
         ensures keys { IfOk result (λ keys. keys.items ≡ cover_of region.now) }
         ensures is_region { is_region region.now };
 
-    /// The keys under which the location is looked up; or want of memory.
+    /// The keys under which the location is looked up.
     fn probes(alloc: Global, location: &Self::Location) -> Result<Self::Probes, AllocError>
         ensures keys { IfOk result (λ keys. Self.Probes.items keys ≡ probes_of location.now) }
         ensures is_location { is_location location.now };
@@ -78,7 +78,7 @@ pub trait Profile {
     fn is_near(outline: &Self::Outline, location: &Self::Location) -> bool
         ensures { result ≡ may_hold outline.now location.now };
 
-    /// COVER: where a region contains a location, one key is both in the cover and in the probes.
+    /// COVER: where a region contains a location, some key is both in the cover and in the probes.
     ghost cover_meets_probes: { (region : Self.Region) (location : Self.Location) → is_region region → is_location location
         → IsTrue (holds region location) → SharesKey (cover_of region) (probes_of location) };
 
@@ -92,7 +92,7 @@ pub trait Profile {
     ghost holder_is_near: { (region : Self.Region) (location : Self.Location) → is_region region → is_location location
         → IsTrue (holds region location) → IsTrue (may_hold (outline_of region) location) };
 
-    /// ALIKE: outlines that are equal say the same of each location.
+    /// ALIKE: equal outlines say the same of each location.
     ghost equal_outlines_agree: { (outline other : Self.Outline) (location : Self.Location)
         → IsTrue (Self.Outline.eq outline other) → may_hold outline location ≡ may_hold other location };
 }

@@ -17,10 +17,10 @@ use lost_spec::answers::AnswerError;
 use std::alloc::{AllocError, Global};
 
 /// The answer of the server of this name to a request at an instant, over these holdings (RFC 5222, sections 6 to 13;
-/// order own), or want of memory. The first case that applies: `loop` where the path has the name in any case;
-/// `locationProfileUnrecognized` where no location has a profile that is known (the first that has one is the location
-/// used); `SRSInvalid` and `locationInvalid` for the location used; and then the reply of the request's kind. A reply
-/// that is no error has the path with the name after it.
+/// order own). The first case that applies: `loop` if the path has the name in any case; `locationProfileUnrecognized`
+/// if no location has a known profile (the first that has one is the location used); `SRSInvalid` and `locationInvalid`
+/// for the location used; then the reply of the request's kind. A reply that is no error has the path with the name
+/// added.
 #[tactic(auto, unfolding(lost_spec::specs::Answer::answer))]
 pub fn answer<'a, H: Holdings>(
     alloc: Global,
@@ -42,8 +42,7 @@ pub fn answer<'a, H: Holdings>(
     answer_by_kind(alloc, holdings, moment, &path, request)
 }
 
-/// The answer to a request whose path does not have the server's name (RFC 5222, sections 8 to 13; order own), or want
-/// of memory.
+/// The answer to a request whose path does not have the server's name (RFC 5222, sections 8 to 13; order own).
 fn answer_by_kind<'a, H: Holdings>(
     alloc: Global,
     holdings: &H,

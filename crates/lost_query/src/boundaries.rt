@@ -13,7 +13,7 @@ use lost_spec::answers::AnswerError;
 use std::alloc::AllocError;
 
 /// The reply to getServiceBoundary: the regions of the live mapping that has the key, or `notFound` (RFC 5222, section
-/// 9; keys own), or want of memory.
+/// 9; keys own).
 pub(crate) fn get_boundary<'a, H: Holdings>(
     holdings: &H,
     moment: &Moment,

@@ -5,18 +5,18 @@ ghost use Rattle.lost_query.specs.Finding.{chain_service};
 use lost_urn::ServiceUrn;
 use std::alloc::AllocError;
 
-/// A service of the chain of one that is asked for (RFC 5222, section 8; policy own).
+/// A service of the chain of the service asked for (RFC 5222, section 8; policy own).
 #[derive(Drop)]
 pub(crate) enum ChainService<'a> {
     /// The service itself.
     Asked(&'a ServiceUrn),
-    /// One above it.
+    /// A service above it.
     Above(ServiceUrn),
 }
 
 impl<'a> ChainService<'a> {
-    /// The service of the first `depth` labels of the one that is asked for, where `depth` is from 1 to the number of
-    /// its labels, or want of memory. The service itself takes none.
+    /// The service of the first `depth` labels of the service asked for. `depth` is from 1 to the number of its labels.
+    /// The service itself takes no memory.
     pub(crate) fn of_depth(
         asked: &'a ServiceUrn,
         depth: usize,

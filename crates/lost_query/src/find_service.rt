@@ -22,7 +22,7 @@ use lost_spec::answers::AnswerError;
 use lost_urn::ServiceUrn;
 use std::alloc::{AllocError, Global};
 
-/// What a findService asks, at the place of the location that is used (RFC 5222, section 8.3).
+/// A findService request at the place of the location used (RFC 5222, section 8.3).
 #[derive(Drop)]
 pub(crate) struct Ask<'a> {
     pub service: &'a ServiceUrn,
@@ -32,8 +32,7 @@ pub(crate) struct Ask<'a> {
     pub by_value: bool,
 }
 
-/// The reply to findService at a place (RFC 5222, section 8), or want of memory: what is found, or the error where
-/// nothing is.
+/// The reply to findService at a place (RFC 5222, section 8): what is found, or an error if nothing is.
 pub(crate) fn find_service<'a, H: Holdings>(
     alloc: Global,
     holdings: &H,
@@ -58,7 +57,7 @@ pub(crate) fn find_service<'a, H: Holdings>(
     }
 }
 
-/// The reply with the mappings of a service that hold the place, or want of memory.
+/// The reply with the mappings of a service that hold the place.
 fn reply_with_holders<'a, H: Holdings>(
     alloc: Global,
     holdings: &H,
@@ -81,7 +80,7 @@ fn reply_with_holders<'a, H: Holdings>(
     })
 }
 
-/// The reply with the defaults of a service, or want of memory.
+/// The reply with the defaults of a service.
 fn reply_with_defaults<'a, H: Holdings>(
     alloc: Global,
     holdings: &H,
@@ -103,8 +102,8 @@ fn reply_with_defaults<'a, H: Holdings>(
     })
 }
 
-/// The error where nothing is found: `notFound` where the service is implemented, and else `serviceNotImplemented`
-/// (RFC 5222, section 13.1; own reading).
+/// The error if nothing is found: `notFound` if the service is implemented, otherwise `serviceNotImplemented` (RFC
+/// 5222, section 13.1; own reading).
 fn error_of_nothing<H: Holdings>(holdings: &H, moment: &Moment, service: &ServiceUrn) -> AnswerError
     ensures { result ≡ error_of (is_implemented (H.book holdings.now) moment.now service.now) }
 {
@@ -115,8 +114,8 @@ fn error_of_nothing<H: Holdings>(holdings: &H, moment: &Moment, service: &Servic
     }
 }
 
-/// How the elements of the place's address are judged, where that is asked for and the place is an address (RFC 5222,
-/// section 8.4.2), or want of memory.
+/// How the elements of the place's address are judged, if that is asked for and the place is an address (RFC 5222,
+/// section 8.4.2).
 fn validation_for<H: Holdings>(
     alloc: Global,
     holdings: &H,

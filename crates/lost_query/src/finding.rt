@@ -1,5 +1,4 @@
 //! What is found for a service at a place (RFC 5222, section 8; policy own).
-//! Rules without a section are this profile's own.
 ghost use Rattle.std.specs.Prelude.{◌≡◌, IfOk};
 ghost use Rattle.lost_spec.specs.Service.{chain};
 ghost use Rattle.lost_spec.specs.Find.{at, defaults, first_with, found};
@@ -15,19 +14,19 @@ use lost_mapping::Moment;
 use lost_urn::ServiceUrn;
 use std::alloc::{AllocError, Global};
 
-/// What is found for a service at a place: the first service of its chain that has any, with its mappings.
+/// What is found for a service at a place: the first service of its chain that has any mappings, with them.
 #[derive(Drop)]
 pub(crate) enum Finding<'a> {
     /// Mappings that hold the place.
     Holders(ChainService<'a>, Found),
-    /// Defaults, where no service of the chain has a mapping that holds the place.
+    /// Defaults, if no service of the chain has a mapping that holds the place.
     Defaults(ChainService<'a>, Found),
-    /// Neither.
+    /// Neither holders nor defaults.
     Nothing,
 }
 
-/// The mappings of the first service of the chain that has any which are live and hold the place; else those of the
-/// first that has live defaults (RFC 5222, section 8; policy own), or want of memory.
+/// The live mappings that hold the place, of the first service of the chain that has any. If none has, those of the
+/// first that has live defaults (RFC 5222, section 8; policy own).
 #[tactic(auto, unfolding(lost_spec::specs::Find::found))]
 pub(crate) fn find<'a, H: Holdings>(
     alloc: Global,
@@ -48,8 +47,8 @@ pub(crate) fn find<'a, H: Holdings>(
     Ok(Finding::Nothing)
 }
 
-/// The first service of the chain with mappings that are live and hold the place, with them, or want of memory. The
-/// holdings are asked once.
+/// The first service of the chain with live mappings that hold the place, with these mappings. The holdings are asked
+/// once.
 fn first_holders<'a, H: Holdings>(
     alloc: Global,
     holdings: &H,
@@ -72,7 +71,7 @@ fn first_holders<'a, H: Holdings>(
     Ok(None)
 }
 
-/// The first service of the chain with live defaults, with them, or want of memory.
+/// The first service of the chain with live defaults, with these defaults.
 fn first_defaults<'a, H: Holdings>(
     alloc: Global,
     holdings: &H,
@@ -93,7 +92,7 @@ fn first_defaults<'a, H: Holdings>(
     Ok(None)
 }
 
-/// The live defaults of a service, or want of memory.
+/// The live defaults of a service.
 fn defaults<H: Holdings>(
     alloc: Global,
     holdings: &H,

@@ -1,18 +1,18 @@
-//! Mappings that were found, one after another.
+//! Mappings found, one after another.
 ghost use Rattle.std.specs.Prelude.{◌≡◌, [], ◌∷◌, ◌++◌, OnOk};
 ghost use Rattle.lost_query.specs.Finding.{all_found};
 
 use lost_mapping::Mapping;
 use std::alloc::{AllocError, Global};
 
-/// Mappings of a service that were found, at least one, in their order. One takes no memory for a list.
+/// The mappings found of a service, at least one, in their order. A single one takes no memory for a list.
 #[derive(Drop)]
 pub(crate) struct Found {
     pub first: Mapping,
     pub rest: Vec<Mapping>,
 }
 
-/// Puts a mapping behind those that were found, or gives want of memory.
+/// Adds a mapping at the end.
 pub(crate) fn add_found(
     alloc: Global,
     found: &mut Option<Found>,

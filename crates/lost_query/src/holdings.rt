@@ -1,4 +1,4 @@
-//! What holds mappings, and what it is asked. Rules without a section are this profile's own.
+//! What holds mappings, and the questions that it answers.
 ghost use Rattle.std.specs.Prelude.{◌≡◌, ◌<◌, Some, IfOk, length, position, slice_get};
 ghost use Rattle.std.specs.Option.{option_copied};
 ghost use Rattle.lost_spec.specs.Book as spec;
@@ -18,17 +18,17 @@ use std::alloc::AllocError;
 /// Positions of mappings in a book's list, rising. Up to eight take no memory (own rule).
 pub type Positions = SmallVec<usize, 8>;
 
-/// What holds mappings, however it keeps them: it is seen as a book. A position is that of a mapping in the
+/// A store of mappings. Contracts see it as a book, however it keeps them. A position is that of a mapping in the
 /// book's list, from 0; lists of positions are rising.
 pub trait Holdings {
-    /// The book that it is seen as.
+    /// The book that contracts see.
     ghost book: { Self → spec.Book };
 
-    /// How many edits were accepted.
+    /// The number of accepted edits.
     fn edition(&self) -> u64
         ensures { result ≡ (book self.now).edits };
 
-    /// How many mappings are held.
+    /// The number of mappings held.
     fn len(&self) -> usize
         ensures { result ≡ length (book self.now).mappings };
 
@@ -37,7 +37,7 @@ pub trait Holdings {
         requires { position < length (book self.now).mappings }
         ensures { slice_get (book self.now).mappings position ≡ Some result.now };
 
-    /// Where the live mapping with this key stands (RFC 5222, section 9; keys own).
+    /// The position of the live mapping with this key (RFC 5222, section 9; keys own).
     fn by_key(&self, moment: &Moment, key: &str) -> Option<usize>
         ensures { result ≡ position (has_live_key moment.now key.now) (book self.now).mappings };
 
@@ -45,13 +45,12 @@ pub trait Holdings {
     fn implemented(&self, moment: &Moment, service: &ServiceUrn) -> bool
         ensures { result ≡ is_implemented (book self.now) moment.now service.now };
 
-    /// The mappings that are live, are no defaults and hold the place (RFC 5222, section 11), or want of memory.
+    /// The mappings that are live, are no defaults and hold the place (RFC 5222, section 11).
     fn holding(&self, moment: &Moment, place: &Place) -> Result<Positions, AllocError>
         ensures { IfOk result (λ found.
             found.items ≡ positions (is_holding moment.now (place_of place.now)) (book self.now).mappings) };
 
-    /// The mappings that are live, are no defaults, have this service and hold the place (RFC 5222, section 8), or want
-    /// of memory.
+    /// The mappings that are live, are no defaults, have this service and hold the place (RFC 5222, section 8).
     fn at(
         &self,
         moment: &Moment,
@@ -61,18 +60,18 @@ pub trait Holdings {
         ensures { IfOk result (λ found.
             found.items ≡ positions (is_holder moment.now (place_of place.now) service.now) (book self.now).mappings) };
 
-    /// The live defaults of this service, or want of memory.
+    /// The live defaults of this service.
     fn defaults(&self, moment: &Moment, service: &ServiceUrn) -> Result<Positions, AllocError>
         ensures { IfOk result (λ found.
             found.items ≡ positions (is_standby moment.now service.now) (book self.now).mappings) };
 
-    /// The live mappings of this service, defaults too (RFC 5222, section 8.4.2; own policy), or want of memory.
+    /// The live mappings of this service, defaults too (RFC 5222, section 8.4.2; own policy).
     fn of_service(&self, moment: &Moment, service: &ServiceUrn) -> Result<Positions, AllocError>
         ensures { IfOk result (λ found.
             found.items ≡ positions (λ m. serves m moment.now service.now) (book self.now).mappings) };
 
     /// The live mappings of this service, defaults too, with some pattern that names each of these elements with the
-    /// address's comparison text (RFC 5222, section 8.4.2; own policy), or want of memory.
+    /// address's comparison text (RFC 5222, section 8.4.2; own policy).
     fn referring(
         &self,
         moment: &Moment,
@@ -84,7 +83,7 @@ pub trait Holdings {
             found.items ≡ positions (is_referring moment.now service.now address.now elements.now) (book self.now).mappings) };
 
     /// The services just below one, or the topmost, of all live mappings, defaults too, in the order of their texts,
-    /// each once (RFC 5222, section 10; own order), or want of memory.
+    /// each once (RFC 5222, section 10; own order).
     fn services_below(
         &self,
         moment: &Moment,

@@ -1,5 +1,5 @@
-//! Requests, replies and answers (RFC 5222, sections 8 to 13): what a request asks of the mappings that are held, and
-//! the answer to it. What holds the mappings is behind a trait, so the answer does not depend on how they are kept.
+//! Answers requests (RFC 5222, sections 8 to 13): what a request asks of the mappings held, and the answer to it. The
+//! store of the mappings is behind a trait, so the answer does not depend on how they are kept.
 #![tactic(auto)]
 
 mod answering;

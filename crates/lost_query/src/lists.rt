@@ -15,7 +15,7 @@ use lost_message::{Path, Reply};
 use lost_urn::ServiceUrn;
 use std::alloc::{AllocError, Global};
 
-/// The reply to listServicesByLocation at the place of the location used (RFC 5222, section 11), or want of memory.
+/// The reply to listServicesByLocation at the place of the location used (RFC 5222, section 11).
 pub(crate) fn list_at<'a, H: Holdings>(
     alloc: Global,
     holdings: &H,
@@ -37,7 +37,7 @@ pub(crate) fn list_at<'a, H: Holdings>(
     })
 }
 
-/// The reply to listServices (RFC 5222, section 10), or want of memory.
+/// The reply to listServices (RFC 5222, section 10).
 pub(crate) fn list_anywhere<'a, H: Holdings>(
     holdings: &H,
     moment: &Moment,

@@ -1,4 +1,4 @@
-//! The mappings that stand at positions.
+//! Mappings by their positions.
 ghost use Rattle.std.specs.Prelude.{◌≡◌, ◌<◌, IfOk, length, filter};
 ghost use Rattle.std.specs.List.{All};
 ghost use Rattle.lost_spec.specs.Service.{same_service};
@@ -9,7 +9,7 @@ use crate::holdings::Holdings;
 use lost_urn::ServiceUrn;
 use std::alloc::{AllocError, Global};
 
-/// The mappings at these positions, in their order, or want of memory.
+/// The mappings at these positions, in their order.
 pub(crate) fn standing_at<H: Holdings>(
     alloc: Global,
     holdings: &H,
@@ -26,7 +26,7 @@ pub(crate) fn standing_at<H: Holdings>(
     Ok(found)
 }
 
-/// Those of the mappings at these positions that have this service, in their order, or want of memory.
+/// The mappings at these positions that have this service, in their order.
 pub(crate) fn of_service_at<H: Holdings>(
     alloc: Global,
     holdings: &H,

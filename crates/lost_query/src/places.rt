@@ -1,4 +1,4 @@
-//! The place of the location used, or the error where there is none. Rules without a section are this profile's own.
+//! The place of the location used, or the error if there is none.
 ghost use Rattle.std.specs.Prelude.{◌≡◌, ℕ, [], None, Some, Ok, IfOk, IfSome, option_map, unwrap_or};
 ghost use Rattle.std.specs.Option.{option_copied};
 ghost use Rattle.lost_spec.specs.Civic.{address_fault};
@@ -21,7 +21,7 @@ use lost_message::{Body, Location, Locations, Path, Request, path_of};
 use lost_spec::answers::AnswerError;
 use std::alloc::{AllocError, Global};
 
-/// Where a request asks, or why it asks nowhere.
+/// The place that a request asks about, or why there is none.
 #[derive(Drop)]
 pub(crate) enum Used<'a> {
     /// The id of the location used, and its place.
@@ -30,8 +30,8 @@ pub(crate) enum Used<'a> {
     Refused(AnswerError),
 }
 
-/// The place at which the server of this name answers a request (RFC 5222, sections 8.3.1 and 12.1), or want of memory:
-/// that of the location used. None where the request has no locations, and where [`crate::answer`] answers `loop`,
+/// The place at which the server of this name answers a request, that of the location used (RFC 5222, sections 8.3.1
+/// and 12.1). None if the request has no locations, or if [`crate::answer`] answers `loop`,
 /// `locationProfileUnrecognized`, `SRSInvalid` or `locationInvalid`.
 pub fn place_used(
     alloc: Global,
@@ -56,7 +56,7 @@ pub fn place_used(
     }
 }
 
-/// The locations of a request; two kinds have none (RFC 5222, sections 8 to 11).
+/// The locations of a request. Two kinds have none (RFC 5222, sections 8 to 11).
 fn locations_in<'r, 'a>(request: &'r Request<'a>) -> Option<&'r Locations<'a>>
     ensures { unwrap_or (option_map locations_of (option_copied result)) [] ≡ locations_in (request_of request.now) }
 {
@@ -67,9 +67,8 @@ fn locations_in<'r, 'a>(request: &'r Request<'a>) -> Option<&'r Locations<'a>>
     }
 }
 
-/// The id and the place of the location used, or the first error that applies (RFC 5222, section 13.1; order own), or
-/// want of memory: `locationProfileUnrecognized` where no location has a profile that is known; then those of the
-/// location used.
+/// The id and the place of the location used, or the first error that applies (RFC 5222, section 13.1; order own):
+/// `locationProfileUnrecognized` if no location has a known profile; then those of the location used.
 pub(crate) fn locate<'r>(
     alloc: Global,
     locations: &'r Locations<'_>,
@@ -84,9 +83,9 @@ pub(crate) fn locate<'r>(
     }
 }
 
-/// The id and the place of a location, or the first error that applies (RFC 5222, section 13.1; order own), or want of
-/// memory: `SRSInvalid` for a point whose reference system is not known; `locationInvalid` where the content is no
-/// place of the profile.
+/// The id and the place of a location, or the first error that applies (RFC 5222, section 13.1; order own):
+/// `SRSInvalid` for a point whose reference system is not known; `locationInvalid` if the content is no place of the
+/// profile.
 fn place_at<'r>(alloc: Global, location: &'r Location<'_>) -> Result<Used<'r>, AllocError>
     ensures reply { IfOk result (λ used. (edition : ℕ) (answer : Text → spec.Place → Reply)
         → reply_used edition used answer ≡ at_location edition (Some (location_of location.now)) answer) }
@@ -102,8 +101,8 @@ fn place_at<'r>(alloc: Global, location: &'r Location<'_>) -> Result<Used<'r>, A
     }
 }
 
-/// The place of a body, which is a point for `geodetic-2d` and an address for `civic` (RFC 5222, section 12), or none
-/// where the body is not, or want of memory.
+/// The place of a body: a point for `geodetic-2d`, an address for `civic` (RFC 5222, section 12). None for
+/// any other body.
 fn place_of(alloc: Global, geodetic: bool, body: &Body) -> Result<Option<Place>, AllocError>
     ensures { IfOk result (λ place. option_map seen_place place ≡ place_of geodetic (body_of body.now)) }
 {
@@ -126,7 +125,7 @@ fn place_of(alloc: Global, geodetic: bool, body: &Body) -> Result<Option<Place>,
     }
 }
 
-/// The point of a latitude and a longitude, or none where one is out of range (RFC 5222, section 12.2).
+/// The point of a latitude and a longitude, or none if one is out of range (RFC 5222, section 12.2).
 fn point_place(lat: i64, lon: i64) -> Option<Place>
     ensures { option_map seen_place result ≡ point_place lat lon }
 {
@@ -136,8 +135,8 @@ fn point_place(lat: i64, lon: i64) -> Option<Place>
     }
 }
 
-/// The address of these pairs, or none where they are refused (RFC 5222, section 12.3), or want of memory. Want of memory
-/// hides no refusal: the pairs are checked before they are copied.
+/// The address of these pairs, or none if they are refused (RFC 5222, section 12.3). A refusal comes even if memory is
+/// short: the pairs are checked before they are copied.
 fn address_place(alloc: Global, pairs: &Vec<(String, String)>) -> Result<Option<Place>, AllocError>
     ensures place { IfOk result (λ place. option_map seen_place place ≡ address_place (seen_pairs pairs.now.items)) }
     ensures checked_first { IfSome (address_fault (seen_pairs pairs.now.items)) (λ _. result ≡ Ok None) }
@@ -157,7 +156,7 @@ fn address_place(alloc: Global, pairs: &Vec<(String, String)>) -> Result<Option<
     }
 }
 
-/// The same names and values once more, or want of memory.
+/// A copy of names and values.
 fn copied_pairs(pairs: &Vec<(String, String)>) -> Result<Vec<(String, String)>, AllocError>
     ensures { IfOk result (λ copy. seen_pairs copy.items ≡ seen_pairs pairs.now.items) }
 {

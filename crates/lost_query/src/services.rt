@@ -15,7 +15,7 @@ use std::alloc::{AllocError, Global};
 pub(crate) mod children;
 
 /// The services just below one, or the topmost, of the live mappings that hold the place and are no defaults, in the
-/// order of their texts, each once (RFC 5222, section 11; order own), or want of memory.
+/// order of their texts, each once (RFC 5222, section 11; order own).
 pub(crate) fn services_at<H: Holdings>(
     alloc: Global,
     holdings: &H,
@@ -28,7 +28,7 @@ pub(crate) fn services_at<H: Holdings>(
 {
     let positions = holdings.holding(moment, place)?;
 
-    // The children are put in order, so the order of the search is free: the definition begins with the last one.
+    // The children are sorted, so the search may take any order. The definition begins with the last one.
     let mut children = Children::new(alloc, above);
     for position in positions.iter().rev() {
         children.add(holdings.mapping(*position).service())?;
@@ -37,7 +37,7 @@ pub(crate) fn services_at<H: Holdings>(
 }
 
 /// The services just below one, or the topmost, of all live mappings of a book, defaults too, in the order of their
-/// texts, each once (RFC 5222, section 10; order own), or want of memory.
+/// texts, each once (RFC 5222, section 10; order own).
 pub(crate) fn services_below(
     book: &Book,
     moment: &Moment,

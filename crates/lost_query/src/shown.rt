@@ -20,8 +20,8 @@ pub(crate) fn show(found: Found, place: &Place, by_value: bool) -> FoundMappings
     }
 }
 
-/// Which boundary a mapping that is no default is shown with: its regions of the place's profile by value; else its key
-/// and source (RFC 5222, section 8.3.4).
+/// The boundary that a mapping that is no default is shown with: by value, its regions of the place's profile;
+/// otherwise its key and source (RFC 5222, section 8.3.4).
 fn boundary_shown(place: &Place, by_value: bool) -> Boundary
     ensures { shown_with result ≡ shown (place_of place.now) by_value }
 {

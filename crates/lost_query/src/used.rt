@@ -1,4 +1,4 @@
-//! Which location of a request is used.
+//! The location of a request that is used.
 ghost use Rattle.std.specs.Prelude.{◌≡◌, ◌||◌, map, option_map};
 ghost use Rattle.std.specs.Option.{option_copied};
 ghost use Rattle.lost_spec.specs.Answer.{is_geodetic, is_civic, location_used};
@@ -26,7 +26,7 @@ fn is_known(profile: &str) -> bool
     is_geodetic(profile) || profile == CIVIC
 }
 
-/// The first location of a profile that is known (RFC 5222, section 12.1).
+/// The first location of a known profile (RFC 5222, section 12.1).
 pub(crate) fn location_used<'r, 'a>(locations: &'r Locations<'a>) -> Option<&'r Location<'a>>
     ensures { option_map location_of (option_copied result) ≡ location_used (locations_of locations.now) }
 {
@@ -36,7 +36,7 @@ pub(crate) fn location_used<'r, 'a>(locations: &'r Locations<'a>) -> Option<&'r 
     first_used(&locations.rest)
 }
 
-/// The first of some locations that has a profile that is known.
+/// The first of these locations that has a known profile.
 fn first_used<'r, 'a>(locations: &'r [Location<'a>]) -> Option<&'r Location<'a>>
     ensures { option_map location_of (option_copied result) ≡ location_used (map location_of locations.now) }
 {

@@ -22,8 +22,8 @@ use std::alloc::{AllocError, Global};
 mod elements;
 pub(crate) mod patterns;
 
-/// How the elements of an address are judged, where these mappings of a service were found at it (RFC 5222, section
-/// 8.4.2; policy own), or want of memory.
+/// How the elements of an address are judged, given the mappings of a service found at it (RFC 5222, section 8.4.2;
+/// policy own).
 pub(crate) fn validate<H: Holdings>(
     alloc: Global,
     holdings: &H,
@@ -42,7 +42,7 @@ pub(crate) fn validate<H: Holdings>(
 }
 
 /// The elements that are valid, and the other elements of the address, in the order of the table (RFC 5222, section
-/// 8.4.2; policy own), or want of memory.
+/// 8.4.2; policy own).
 fn part_valid(
     alloc: Global,
     found: &Found,
@@ -53,7 +53,7 @@ fn part_valid(
     ensures others { IfOk result (λ parts.
         parts.1.items ≡ filter (λ e. not (is_valid_element (mappings_of found.now) address.now e)) (filter (stands_in address.now) all_elements)) }
 
-    // A name that is of no element is not valid.
+    // A name of no element is not valid.
     ensures unknown { OnOk result (ValidatesNoOther (mappings_of found.now) address.now) }
 {
     let elements = elements_of(alloc, address)?;
@@ -61,8 +61,8 @@ fn part_valid(
     part(alloc, &elements, |element| is_named(&matching, *element))
 }
 
-/// The elements that are invalid, of those that are not valid, and the rest of them, in their order (RFC 5222, section
-/// 8.4.2; policy own), or want of memory.
+/// Splits the elements that are not valid into the invalid ones and the rest, in their order (RFC 5222, section 8.4.2;
+/// policy own).
 fn part_invalid(
     alloc: Global,
     references: &[&CivicPattern],
@@ -81,8 +81,7 @@ fn part_invalid(
     )
 }
 
-/// The names of elements by how they were judged, and of an address's other names, which are unchecked (own policy), or
-/// want of memory.
+/// The names of the elements by how they were judged. The address's other names are unchecked (own policy).
 fn make_validation(
     alloc: Global,
     address: &CivicAddress,

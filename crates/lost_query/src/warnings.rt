@@ -8,8 +8,8 @@ use lost_spec::answers::Warning;
 use lost_urn::ServiceUrn;
 use std::alloc::{AllocError, Global};
 
-/// The warnings of holders of a service that were found for another one (RFC 5222, section 13.2), or want of memory:
-/// `serviceSubstitution` where the two differ.
+/// The warnings for holders of a service that were found for another one (RFC 5222, section 13.2):
+/// `serviceSubstitution` if the two differ.
 pub(crate) fn substitution_warnings(
     alloc: Global,
     asked: &ServiceUrn,
@@ -24,9 +24,9 @@ pub(crate) fn substitution_warnings(
     Ok(warnings)
 }
 
-/// The warnings of defaults of a service that were found for another one (RFC 5222, section 13.2; order own), or want
-/// of memory: `serviceSubstitution` where the two differ; `defaultMappingReturned`; then
-/// `locationValidationUnavailable`, where validation of an address was asked for.
+/// The warnings for defaults of a service that were found for another one (RFC 5222, section 13.2; order own):
+/// `serviceSubstitution` if the two differ; `defaultMappingReturned`; then `locationValidationUnavailable`, if
+/// validation of an address was asked for.
 pub(crate) fn default_warnings(
     alloc: Global,
     asked: &ServiceUrn,

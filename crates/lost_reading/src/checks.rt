@@ -1,5 +1,4 @@
-//! The first refusal of a mapping that a map desk hands in, found in the tree before any memory is taken. Rules without a
-//! section are this profile's own.
+//! The first refusal of a mapping that a map desk hands in, found in the tree before any memory is taken.
 ghost use Rattle.std.specs.Prelude.{◌≡◌, false, [], map, option_map};
 ghost use Rattle.std.specs.Option.{option_copied};
 ghost use Rattle.std.specs.Result.{result_err};
@@ -18,8 +17,8 @@ use crate::tree::Tree;
 use lost_mapping::{BorrowedParts, DisplayName, Mapping, Region};
 use serde_json::{Map, Value};
 
-/// Ok where the members of an object are the parts of a mapping, each of its kind, and none is refused, and else the first
-/// refusal.
+/// Ok if the members of an object are the parts of a mapping, each of its kind, and none is refused. Otherwise the
+/// first refusal.
 pub(crate) fn check_members(members: &Map<String, Value>) -> Result<(), DeskFault>
     ensures { (edit : spec.Mapping → book.Edit)
         → result_err result ≡ result_err (mapping_order edit (parts_of_members (members_view members.now.entries))) }
@@ -33,7 +32,7 @@ pub(crate) fn check_members(members: &Map<String, Value>) -> Result<(), DeskFaul
     }
 }
 
-/// The parts of a mapping as they lie in the tree, or nothing where a required member is missing or a member is of another
+/// The parts of a mapping as they lie in the tree. `None` if a required member is missing or a member is of another
 /// kind.
 fn tell_parts(members: &Map<String, Value>) -> Option<BorrowedParts<'_, Value, Value, Value>>
     ensures { option_map tree_parts result ≡ parts_of_members (members_view members.now.entries) }
@@ -53,7 +52,7 @@ fn tell_parts(members: &Map<String, Value>) -> Option<BorrowedParts<'_, Value, V
     })
 }
 
-/// The items of a required list, each of a kind.
+/// The items of a required list, all of a kind.
 fn list_member<'v, T: Fits>(members: &'v Map<String, Value>, name: &str) -> Option<&'v [Value]>
     ensures { option_map (λ items. map (λ item. T.told (view item)) items.now) result
         ≡ required (list_in T.meant) name.now (members_view members.now.entries) }
@@ -64,7 +63,7 @@ fn list_member<'v, T: Fits>(members: &'v Map<String, Value>, name: &str) -> Opti
     }
 }
 
-/// The items of an optional list, each of a kind: none where it is absent.
+/// The items of an optional list, all of a kind: none if the list is absent.
 fn list_if_any<'v, T: Fits>(members: &'v Map<String, Value>, name: &str) -> Option<&'v [Value]>
     ensures { option_map (λ items. map (λ item. T.told (view item)) items.now) result
         ≡ defaulting (list_in T.meant) [] name.now (members_view members.now.entries) }
@@ -85,7 +84,7 @@ fn text_if_any<'v>(members: &'v Map<String, Value>, name: &str) -> Option<Option
     }
 }
 
-/// An optional truth value: false where it is absent.
+/// An optional truth value: false if it is absent.
 fn truth_if_any(members: &Map<String, Value>, name: &str) -> Option<bool>
     ensures { result ≡ defaulting as_bool false name.now (members_view members.now.entries) }
 {

@@ -1,4 +1,4 @@
-//! Desk lines. Rules without a section are this profile's own.
+//! Desk lines.
 ghost use Rattle.std.specs.Prelude.{◌≡◌, ◌≢◌, true, false, None, Some, Ok, Err, option_map, unwrap_or, IfOk, IfErr, IfSome, OnOk};
 ghost use Rattle.std.specs.Result.{result_err};
 ghost use Rattle.serde_json.specs.Find.{as_object};
@@ -42,7 +42,7 @@ pub enum DeskFault {
     Mapping(MappingError),
 }
 
-/// The number of the refusal on the desk's lines: 1 to 12, and 20 for want of memory.
+/// The number of the refusal on the desk's lines: 1 to 12, and 20 if memory ran out.
 impl Coded for DeskFault {
     ghost use Rattle.lost_reading.specs.Desk.{desk_fault_code};
 
@@ -57,12 +57,12 @@ impl Coded for DeskFault {
 }
 
 /// Reads a desk line (own format): an object with exactly one member, named `publish`, `replace`, `withdraw` or
-/// `commit`. `None` where the line is no desk line.
+/// `commit`. `None` if the line is no desk line.
 ///
 /// # Errors
 ///
-/// [`DeskFault::BadLine`] where a member is missing or of another kind, and then the first refusal of the mapping, in
-/// the order of the codes, or of the withdrawal. Want of memory may come in place of any other answer.
+/// [`DeskFault::BadLine`] if a member is missing or of another kind. Then the first refusal of the mapping, in the
+/// order of the codes, or of the withdrawal. A memory refusal may replace any other answer.
 pub fn read_desk(alloc: Global, line: &[u8]) -> Result<Option<DeskLine>, DeskFault>
     ensures other { result ≡ Ok None → desk_line line.now ≡ None }
     ensures order { IfOk result (λ found. IfSome found (λ order. desk_line line.now ≡ Some (Ok (order_of order)))) }
@@ -113,7 +113,7 @@ pub(crate) fn is_desk_name(name: &str) -> bool
     "publish" == name || "replace" == name || "withdraw" == name || "commit" == name
 }
 
-/// The order of this name: a value that is no object is a bad line. What is refused is refused though memory is short.
+/// The order of this name. A value that is no object is a bad line. A refusal comes even if memory is short.
 pub(crate) fn read_order(alloc: Global, name: &str, value: &Value) -> Result<DeskLine, DeskFault>
     ensures given { GivesOrder result (unwrap_or (option_map (order_named name.now) (as_object (view value.now))) (Err DeskFault.BadLine)) }
     ensures checked_first { IfErr (unwrap_or (option_map (order_named name.now) (as_object (view value.now))) (Err DeskFault.BadLine)) (λ fault. result ≡ Err fault) }
@@ -124,7 +124,7 @@ pub(crate) fn read_order(alloc: Global, name: &str, value: &Value) -> Result<Des
     }
 }
 
-/// The order of this name, by the members of its value. What is refused is refused though memory is short.
+/// The order of this name, by the members of its value. A refusal comes even if memory is short.
 fn read_named_order(
     alloc: Global,
     name: &str,
@@ -144,8 +144,8 @@ fn read_named_order(
     }
 }
 
-/// The mapping of an object, or the first refusal of its parts. What is refused is refused though memory is short: all is
-/// looked at in the tree before anything is copied out of it.
+/// The mapping of an object, or the first refusal of its parts. A refusal comes even if memory is short: all checks
+/// read the tree before anything is copied.
 fn read_mapping(alloc: Global, members: &Map<String, Value>) -> Result<Mapping, DeskFault>
     ensures mapping { IfOk result (λ mapping. (edit : spec.Mapping → book.Edit)
         → mapping_order edit (parts_of_members (members_view members.now.entries)) ≡ Ok (Stage (edit mapping))) }
@@ -162,7 +162,7 @@ fn read_mapping(alloc: Global, members: &Map<String, Value>) -> Result<Mapping, 
     }
 }
 
-/// The withdrawal of an object. What is refused is refused though memory is short.
+/// The withdrawal of an object. A refusal comes even if memory is short.
 fn read_withdrawal(alloc: Global, members: &Map<String, Value>) -> Result<DeskLine, DeskFault>
     ensures given { GivesOrder result (withdrawal_order (members_view members.now.entries)) }
     ensures checked_first { IfErr (withdrawal_order (members_view members.now.entries)) (λ fault. result ≡ Err fault) }
@@ -194,7 +194,7 @@ fn withdraw(
     }
 }
 
-/// What a withdrawal names and when, or the first refusal of its texts.
+/// The identity and the time of a withdrawal, or the first refusal of its texts.
 fn withdrawal(
     alloc: Global,
     source: &str,
@@ -207,7 +207,7 @@ fn withdrawal(
     ensures refused { IfErr result
         (λ fault. fault ≢ MappingError.Memory → withdrawal_fault source.now source_id.now last_updated.now ≡ Some fault) }
 
-    // Memory comes only after the checks.
+    // Memory is taken only after the checks.
     ensures checked_first { IfSome (withdrawal_fault source.now source_id.now last_updated.now) (λ fault. result ≡ Err fault) }
 {
     check_withdrawal(source, source_id, last_updated)?;
@@ -216,7 +216,7 @@ fn withdrawal(
     Ok((identity, stamp))
 }
 
-/// Ok where these texts make a withdrawal, and else their first refusal. It takes no memory.
+/// Ok if these texts make a withdrawal, otherwise their first refusal. It takes no memory.
 fn check_withdrawal(source: &str, source_id: &str, last_updated: &str) -> Result<(), MappingError>
     ensures { result_err result ≡ withdrawal_fault source.now source_id.now last_updated.now }
 {

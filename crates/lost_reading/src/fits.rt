@@ -1,5 +1,4 @@
-//! Items of lists as they lie in the tree: whether they are of a kind, and what they then tell. It takes no memory. Rules
-//! without a section are this profile's own.
+//! Items of lists as they lie in the tree: whether they are of a kind, and what they then tell. It takes no memory.
 ghost use Rattle.std.specs.Prelude.{◌≡◌, is_some, map, option_map};
 ghost use Rattle.serde_json.specs.View.{view, items_view, members_view};
 ghost use Rattle.lost_reading.specs.Members.{each_of, list_in};
@@ -11,7 +10,7 @@ use crate::reading::text_member;
 use lost_mapping::{DisplayName, Region};
 use serde_json::{Map, Value};
 
-/// A kind of items that can be told in the tree.
+/// A kind of items that is recognized in the tree.
 pub(crate) trait Fits {
     ghost use Rattle.std.specs.Prelude.{◌≡◌, Option, Some, is_some};
     ghost use Rattle.serde_json.specs.Data.{Data};
@@ -68,7 +67,7 @@ impl Fits for (i64, i64) {
     }
 }
 
-/// What is no region is an unreadable one.
+/// A value that is no region is an unreadable one.
 impl Fits for Region {
     ghost use Rattle.std.specs.Prelude.{Some};
     ghost use Rattle.lost_spec.specs.Mapping as spec;
@@ -113,7 +112,7 @@ fn is_display_name(members: &Map<String, Value>) -> bool
     text_member(members, "lang").is_some() && text_member(members, "text").is_some()
 }
 
-/// The items of a list, each of a kind, as they lie in the tree.
+/// The items of a list, all of a kind, as they lie in the tree.
 pub(crate) fn list<T: Fits>(value: &Value) -> Option<&[Value]>
     ensures { option_map (λ items. map (λ item. T.told (view item)) items.now) result ≡ list_in T.meant (view value.now) }
 {
@@ -123,7 +122,7 @@ pub(crate) fn list<T: Fits>(value: &Value) -> Option<&[Value]>
     }
 }
 
-/// These items, where each is of a kind.
+/// These items, if all are of a kind.
 fn if_fitting<T: Fits>(items: &[Value]) -> Option<&[Value]>
     ensures { option_map (λ items. map (λ item. T.told (view item)) items.now) result ≡ each_of T.meant (items_view items.now) }
 {

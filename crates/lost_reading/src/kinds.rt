@@ -1,4 +1,4 @@
-//! The kinds of values that members have: texts, truth values, services, positions, lists, and pairs of names and texts.
+//! The kinds of values that members have: texts, truth values, services, positions, lists, pairs of names and texts.
 ghost use Rattle.std.specs.Prelude.{◌≡◌, None, Some, Ok, Err, is_some, map, option_and_then, option_map, string_bytes};
 ghost use Rattle.serde_json.specs.Find.{as_bool, as_str};
 ghost use Rattle.serde_json.specs.View.{view, items_view, members_view};
@@ -87,7 +87,7 @@ impl Kind for ServiceUrn {
     }
 }
 
-/// The service of a text. What is none is refused though memory is short.
+/// The service of a text. A text that is no service is refused even if memory is short.
 fn read_service(alloc: Global, text: &str) -> Result<ServiceUrn, ReadError>
     ensures given { Gives (λ service. service) result (result_ok (read_service text.now)) }
     ensures refused { result_ok (read_service text.now) ≡ None → result ≡ Err ReadError.BadRequest }
@@ -166,7 +166,7 @@ impl<T: Kind> Kind for Vec<T> {
     }
 }
 
-/// Each item, in order, by one kind.
+/// Reads each item as one kind, in order.
 fn read_each<T: Kind>(alloc: Global, items: &[Value]) -> Result<Vec<T>, ReadError>
     ensures { Gives (λ list. map T.seen list.items) result (each_of T.meant (items_view items.now)) }
 {
@@ -202,8 +202,7 @@ impl Kind for NamedTexts {
     }
 }
 
-/// The names and texts of a member, or nothing where it is missing or another thing. Nothing is found though memory is
-/// short.
+/// The names and texts of a member. `None` if it is missing or something else, even if memory is short.
 pub(crate) fn named_texts(
     alloc: Global,
     members: &Map<String, Value>,
@@ -223,7 +222,7 @@ pub(crate) fn named_texts(
     }
 }
 
-/// The names and texts of an object whose values are texts. Another object is refused though memory is short.
+/// The names and texts of an object whose values are texts. Another object is refused even if memory is short.
 fn read_pairs(
     alloc: Global,
     members: &Map<String, Value>,

@@ -1,5 +1,4 @@
-//! Lines of JSON as they are read (own format over RFC 5222): which lines are requests and which order the map desk's
-//! edits.
+//! Reads lines of JSON (own format over RFC 5222): which lines are requests, and which order the map desk's edits.
 #![tactic(auto)]
 
 mod checks;

@@ -1,4 +1,4 @@
-//! Whole lines, each read once: a desk line, a request, or neither. Rules without a section are this profile's own.
+//! Whole lines, each read once: a desk line, a request, or neither.
 ghost use Rattle.serde_json.specs.View.{view};
 ghost use Rattle.lost_reading.specs.Desk.{order_of_member, order_in, desk_line};
 ghost use Rattle.lost_reading.specs.Requests.{request_of_member, request_in, line_request};
@@ -12,23 +12,23 @@ use lost_spec::faults::MappingError;
 use serde_json::Value;
 use std::alloc::Global;
 
-/// What a line is. A request borrows its texts from what it was read from, or owns them.
+/// What a line is. A request borrows its texts from the line, or owns them.
 #[derive(Drop)]
 pub enum Line<'a> {
     /// A desk line, and what it orders.
     Desk(DeskLine),
     /// A request line.
     Request(Request<'a>),
-    /// Neither of both.
+    /// Neither a desk line nor a request.
     Neither,
 }
 
-/// Reads a line (own format) from one tree: what [`crate::read_desk`] gives of a desk line, and what
-/// [`crate::read_request`] gives of any other.
+/// Reads a line (own format) from one tree: a desk line as [`crate::read_desk`] does, any other as
+/// [`crate::read_request`] does.
 ///
 /// # Errors
 ///
-/// Those of [`crate::read_desk`]. Want of memory may come in place of any other answer.
+/// Those of [`crate::read_desk`]. A memory refusal may replace any other answer.
 #[tactic(auto, unfolding(crate::specs::Requests::line_request, crate::specs::Desk::desk_line))]
 pub fn read_line_by_tree<'a>(alloc: Global, line: &[u8]) -> Result<Line<'a>, DeskFault>
     ensures { GivesWhole result (desk_line line.now) (line_request line.now) }

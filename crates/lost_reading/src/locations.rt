@@ -1,4 +1,4 @@
-//! Locations of a request (RFC 5222, section 12). Rules without a section are this profile's own.
+//! Locations of a request (RFC 5222, section 12).
 ghost use Rattle.std.specs.Prelude.{◌≡◌, ◌<◌, None, Some, Ok, length, map, codes};
 ghost use Rattle.serde_json.specs.View.{view, members_view};
 ghost use Rattle.lost_spec.specs.Text.{is_among, has_repeat};
@@ -16,7 +16,7 @@ use serde_json::{Map, Value};
 use std::alloc::Global;
 use std::borrow::CowStr;
 
-/// The reference system that is known (RFC 5222, section 12.2).
+/// The known reference system (RFC 5222, section 12.2).
 pub const KNOWN_SYSTEM: &str = "urn:ogc:def:crs:EPSG::4326";
 
 /// The profile of points (RFC 5222, section 12.2).
@@ -60,7 +60,7 @@ fn from_list<'a>(list: Vec<Location<'a>>) -> Result<Locations<'a>, ReadError>
     }
 }
 
-/// The locations of a list, the first by itself.
+/// The locations of a list, its first one apart from the rest.
 fn split_list<'a>(list: Vec<Location<'a>>) -> Locations<'a>
     requires { 0 < length list.items }
     ensures { locations_of result ≡ map location_of list.entry.items }
@@ -138,14 +138,14 @@ fn read_location<'a>(alloc: Global, members: &Map<String, Value>) -> Result<Loca
     })
 }
 
-/// Whether the reference system is known: it is looked at for `geodetic-2d` alone.
+/// Whether the reference system is known. Only `geodetic-2d` looks at it.
 fn is_srs_known(profile: &str, members: &Map<String, Value>) -> bool
     ensures { result ≡ srs_known_in profile.now (members_view members.now.entries) }
 {
     profile != GEODETIC || has_known_system(members)
 }
 
-/// Whether the reference system is absent or the one that is known.
+/// Whether the reference system is absent or the known one.
 fn has_known_system(members: &Map<String, Value>) -> bool
     ensures { result ≡ is_known_system (the_member (codes "srsName") (members_view members.now.entries)) }
 {
@@ -164,7 +164,7 @@ fn names_known_system(value: &Value) -> bool
     }
 }
 
-/// The content of a location. That of another profile is not looked at.
+/// The content of a location. Another profile's content is not looked at.
 fn read_body(alloc: Global, profile: &str, members: &Map<String, Value>) -> Result<Body, ReadError>
     ensures { Gives body_of result (Some (body_in profile.now (members_view members.now.entries))) }
 {
@@ -187,7 +187,7 @@ fn read_point(alloc: Global, members: &Map<String, Value>) -> Result<Body, ReadE
     }
 }
 
-/// The content of a location of `civic`. What is no object of texts is unreadable though memory is short.
+/// The content of a location of `civic`. A value that is no object of texts is unreadable even if memory is short.
 fn read_address(alloc: Global, members: &Map<String, Value>) -> Result<Body, ReadError>
     ensures given { Gives body_of result (Some (address_body (the_member (codes "address") (members_view members.now.entries)))) }
     ensures unreadable { kinds.required kinds.pairs_in (codes "address") (members_view members.now.entries) ≡ None

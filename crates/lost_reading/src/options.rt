@@ -1,4 +1,4 @@
-//! The path of a request, and how it wants boundaries. Rules without a section are this profile's own.
+//! The path of a request, and how it wants boundaries.
 ghost use Rattle.std.specs.Prelude.{◌≡◌, option_map};
 ghost use Rattle.serde_json.specs.View.{members_view};
 ghost use Rattle.lost_message.specs.Request.{path_names};
@@ -14,7 +14,7 @@ use std::borrow::CowStr;
 /// The most names of a path (own rule).
 pub const MAX_NAMES: usize = 32;
 
-/// At most 32 texts: the names of the servers that a request came by (RFC 5222, section 6; bound own).
+/// At most 32 texts: the names of the servers that a request came through (RFC 5222, section 6; bound own).
 #[derive(Drop)]
 pub(crate) struct Path<'a>(pub Vec<CowStr<'a>>);
 
@@ -38,7 +38,7 @@ impl<'a> Kind for Path<'a> {
     }
 }
 
-/// The path of a request, empty where it has none.
+/// The path of a request, empty if it has none.
 pub(crate) fn read_path<'a>(
     alloc: Global,
     members: &Map<String, Value>,

@@ -11,7 +11,7 @@ use lost_mapping::{DisplayName, Parts, Region};
 use serde_json::{Map, Value};
 use std::alloc::Global;
 
-/// The parts of a mapping, or `BadRequest` where a required member is missing or a member is of another kind.
+/// The parts of a mapping, or `BadRequest` if a required member is missing or a member is of another kind.
 pub(crate) fn read_parts(alloc: Global, members: &Map<String, Value>) -> Result<Parts, ReadError>
     ensures { Gives parts_of result (parts_of_members (members_view members.now.entries)) }
 {

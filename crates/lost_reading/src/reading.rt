@@ -10,7 +10,7 @@ use crate::request::ReadError;
 use serde_json::{Error, Map, Value};
 use std::alloc::{AllocError, AllocFailed, Global};
 
-/// What a value of a tree is read as.
+/// A type that a value of a tree is read as.
 pub(crate) trait Kind: Drop {
     ghost use Rattle.std.specs.Prelude.{Option};
     ghost use Rattle.serde_json.specs.Data.{Data};
@@ -23,7 +23,7 @@ pub(crate) trait Kind: Drop {
     // What a value means, where it is of this kind.
     ghost meant: { Data → Option Self.Seen };
 
-    /// What the value is read as, or `BadRequest` where it is of another kind.
+    /// Reads the value. `BadRequest` if it is of another kind.
     fn read(alloc: Global, value: &Value) -> Result<Self, ReadError>
         ensures { Gives seen result (meant (view value.now)) };
 }
@@ -48,7 +48,7 @@ impl<T: Drop> From<AllocFailed<T>> for ReadError {
     }
 }
 
-/// The tree of a line, where its bytes are UTF-8 and JSON.
+/// The tree of a line, if its bytes are UTF-8 and JSON.
 pub(crate) fn read_tree(alloc: Global, line: &[u8]) -> Result<Value, ReadError>
     ensures { Gives view result (tree_of line.now) }
 {
@@ -69,7 +69,7 @@ fn tree_fault(error: &Error) -> ReadError
     }
 }
 
-/// The one member of an object that has exactly one, and nothing of any other value.
+/// The one member of an object that has exactly one. `None` for any other value.
 pub(crate) fn only_member(value: &Value) -> Option<(&str, &Value)>
     ensures { option_map (λ found. (found.0.now, view found.1.now)) result ≡ only_member (view value.now) }
 {
@@ -98,7 +98,7 @@ fn given<'v>(members: &'v Map<String, Value>, name: &str) -> Option<&'v Value>
     members.get(name)
 }
 
-/// The value of a member that is there: one that is `null` counts as absent.
+/// The value of a member. A member that is `null` counts as absent.
 pub(crate) fn member<'v>(members: &'v Map<String, Value>, name: &str) -> Option<&'v Value>
     ensures { option_map (λ value. view value.now) result ≡ the_member name.now (members_view members.now.entries) }
 {
@@ -106,7 +106,7 @@ pub(crate) fn member<'v>(members: &'v Map<String, Value>, name: &str) -> Option<
     if value.is_null() { None } else { Some(value) }
 }
 
-/// The text of a member that is there and is one.
+/// The text of a member that is a text.
 pub(crate) fn text_member<'v>(members: &'v Map<String, Value>, name: &str) -> Option<&'v str>
     ensures { option_map (λ text. text.now) result ≡ required as_str name.now (members_view members.now.entries) }
 {
@@ -130,7 +130,7 @@ pub(crate) fn required<T: Kind>(
     }
 }
 
-/// A member of a kind, or nothing where it is missing or of another kind: only memory fails.
+/// A member of a kind. `None` if it is missing or of another kind: only memory fails.
 pub(crate) fn readable<T: Kind>(
     alloc: Global,
     members: &Map<String, Value>,
@@ -159,7 +159,7 @@ pub(crate) fn optional<T: Kind>(
     }
 }
 
-/// An optional member of a kind, with what stands for it where it is absent.
+/// An optional member of a kind, or the default if it is absent.
 pub(crate) fn defaulting<T: Kind>(
     alloc: Global,
     members: &Map<String, Value>,

@@ -22,7 +22,7 @@ impl Kind for Region {
 
     ghost seen = { region_of };
 
-    // What is no region is an unreadable one.
+    // A value that is no region is an unreadable one.
     ghost meant = { λ value. Some (region_in value) };
 
     fn read(alloc: Global, value: &Value) -> Result<Region, ReadError> {
@@ -69,7 +69,7 @@ fn read_ring(alloc: Global, members: &Map<String, Value>) -> Result<Region, Read
     }
 }
 
-/// The pattern of a region. What is no object of texts is unreadable though memory is short.
+/// The pattern of a region. A value that is no object of texts is unreadable even if memory is short.
 fn read_pattern(alloc: Global, members: &Map<String, Value>) -> Result<Region, ReadError>
     ensures given { Gives region_of result (Some (pattern_region (the_member (codes "pattern") (members_view members.now.entries)))) }
     ensures unreadable { kinds.required kinds.pairs_in (codes "pattern") (members_view members.now.entries) ≡ None

@@ -1,4 +1,4 @@
-//! Request lines. Rules without a section are this profile's own.
+//! Request lines.
 ghost use Rattle.std.specs.Prelude.{◌≡◌, None, Err, option_and_then, codes};
 ghost use Rattle.serde_json.specs.Find.{as_object};
 ghost use Rattle.serde_json.specs.View.{view, members_view};
@@ -23,7 +23,7 @@ pub enum ReadError {
     /// The line is no request.
     #[error("the line is no request")]
     BadRequest,
-    /// Memory ran out while it was read.
+    /// Memory ran out.
     #[error("memory ran out")]
     Memory,
 }
@@ -47,7 +47,7 @@ impl Coded for ReadError {
 ///
 /// # Errors
 ///
-/// [`ReadError::BadRequest`] where the line is no request, and [`ReadError::Memory`] for want of memory.
+/// [`ReadError::BadRequest`] if the line is no request.
 #[tactic(auto, unfolding(crate::specs::Requests::line_request))]
 pub fn read_request<'a>(alloc: Global, line: &[u8]) -> Result<Request<'a>, ReadError>
     ensures { Gives request_of result (line_request line.now) }

@@ -1,5 +1,5 @@
-//! The service that a request asks for. It is read before anything else of the request, so that a service that is refused
-//! is a bad request though memory is short.
+//! The service that a request asks for. It is read before any other member, so a refused service is a bad request even
+//! if memory is short.
 ghost use Rattle.std.specs.Prelude.{◌≡◌, None, Err, option_map, codes};
 ghost use Rattle.serde_json.specs.View.{members_view};
 ghost use Rattle.lost_reading.specs.Gives.{Gives};

@@ -1,5 +1,4 @@
-//! What the items of a mapping's lists tell as they lie in the tree (RFC 5222, section 5). It takes no memory. Rules without
-//! a section are this profile's own.
+//! What the items of a mapping's lists tell as they lie in the tree (RFC 5222, section 5). It takes no memory.
 ghost use Rattle.std.specs.Prelude.{◌≡◌, Some, codes};
 ghost use Rattle.std.specs.List.{list_all};
 ghost use Rattle.serde_json.specs.View.{view, members_view};
@@ -19,7 +18,7 @@ use lost_geo::{Positions, is_ring_of};
 use lost_mapping::{PartItems, RegionKind};
 use serde_json::{Map, Value};
 
-/// A tree, from whose values positions and the parts of a mapping are told.
+/// A tree. Positions and the parts of a mapping are read from its values.
 pub(crate) struct Tree;
 
 impl Positions for Tree {
@@ -65,7 +64,7 @@ impl PartItems for Tree {
     }
 }
 
-/// The text of a member of an object, or the empty one where there is none.
+/// The text of a member of an object, or an empty one if there is none.
 fn text_of_member<'v>(value: &'v Value, name: &str) -> &'v str
     ensures { result.now ≡ member_text_or_empty name.now (view value.now) }
 {
@@ -75,7 +74,7 @@ fn text_of_member<'v>(value: &'v Value, name: &str) -> &'v str
     }
 }
 
-/// What the region of an object is, or nothing where it cannot be read.
+/// The kind of an object's region. `None` if it cannot be read.
 fn kind_of_members(members: &Map<String, Value>) -> Option<RegionKind>
     ensures { result ≡ kind_of_region (region_of_members (members_view members.now.entries)) }
 {
@@ -85,7 +84,7 @@ fn kind_of_members(members: &Map<String, Value>) -> Option<RegionKind>
     }
 }
 
-/// What the region of an object is, by its profile.
+/// The kind of an object's region, by its profile. `None` if it cannot be read.
 fn kind_with(members: &Map<String, Value>, profile: &str) -> Option<RegionKind>
     ensures { result ≡ kind_of_region (region_with (members_view members.now.entries) profile.now) }
 {
@@ -117,7 +116,7 @@ fn is_ring(value: &Value) -> bool
     }
 }
 
-/// Whether the member `pattern` is an object of names and texts that is not refused as a pattern.
+/// Whether the member `pattern` is an object of names and texts that is accepted as a pattern.
 fn has_pattern(members: &Map<String, Value>) -> bool
     ensures { result ≡ is_region (pattern_region (the_member (codes "pattern") (members_view members.now.entries))) }
 {
@@ -150,7 +149,7 @@ fn is_pattern_count(count: usize) -> bool
     count >= 1 && count <= CivicPattern::MAX_PAIRS
 }
 
-/// Whether a pattern takes each name with its value.
+/// Whether a pattern accepts each name with its value.
 fn each_is_taken(pairs: &Map<String, Value>) -> bool
     ensures { result ≡ list_all is_pattern_entry pairs.now.entries }
 {

@@ -1,4 +1,4 @@
-//! The regions of a mapping, in lists of their own. A copy of a region costs a pointer.
+//! Copies of a mapping's regions, in their own lists. A copy of a region costs a pointer.
 ghost use Rattle.std.specs.Prelude.{◌≡◌, IfOk};
 
 use lost_civic::CivicPattern;
@@ -6,7 +6,7 @@ use lost_geo::Polygon;
 use lost_mapping::Mapping;
 use std::alloc::{AllocError, Global};
 
-/// The polygons of a mapping, or want of memory.
+/// The polygons of a mapping.
 pub(crate) fn polygons_of(alloc: Global, mapping: &Mapping) -> Result<Vec<Polygon>, AllocError>
     ensures { IfOk result (λ polygons. polygons.items ≡ mapping.now.polygons) }
 {
@@ -17,7 +17,7 @@ pub(crate) fn polygons_of(alloc: Global, mapping: &Mapping) -> Result<Vec<Polygo
     Ok(polygons)
 }
 
-/// The patterns of a mapping, or want of memory.
+/// The patterns of a mapping.
 pub(crate) fn patterns_of(alloc: Global, mapping: &Mapping) -> Result<Vec<CivicPattern>, AllocError>
     ensures { IfOk result (λ patterns. patterns.items ≡ mapping.now.patterns) }
 {

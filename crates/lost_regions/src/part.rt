@@ -1,4 +1,4 @@
-//! What is done to one of the indexes.
+//! Changes to one of the indexes.
 ghost use Rattle.std.specs.Prelude.{◌≡◌, ◌+◌, ◌<◌, ◌^◌, ◌++◌, length};
 ghost use Rattle.lost_index.specs.Entries.{with_number};
 ghost use Rattle.lost_regions.specs.UnderNumber.{IsHeldWith};
@@ -6,7 +6,7 @@ ghost use Rattle.lost_regions.specs.UnderNumber.{IsHeldWith};
 use lost_index::Index;
 use lost_profile::Profile;
 
-/// Keeps the first regions of a number, of which there are `count`. It takes no memory.
+/// Keeps the first regions of a number, those of `first`. It takes no memory.
 pub(crate) fn keep_first<P: Profile>(
     index: &mut Index<P>,
     number: u64,

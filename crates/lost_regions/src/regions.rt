@@ -48,8 +48,8 @@ impl Regions {
         }
     }
 
-    /// Puts a number with the regions of a mapping behind all that are held; the number is above them. Or want of
-    /// memory, which changes nothing.
+    /// Adds a number with the regions of a mapping. The number is above all held. If memory is refused, nothing
+    /// changes.
     pub fn put(&mut self, number: u64, mapping: &Mapping) -> Result<(), AllocError>
         requires { IsAboveAll number self.old }
         ensures put { OnOk result (self.new ≡ with_mapping number mapping.now self.old) }
@@ -63,7 +63,7 @@ impl Regions {
         Ok(())
     }
 
-    /// The same for the patterns alone.
+    /// Does the same for the patterns alone.
     fn put_patterns(&mut self, number: u64, mapping: &Mapping) -> Result<(), AllocError>
         requires addresses { IsAbove number self.old.addresses }
         requires references { IsAbove number self.old.references }
@@ -84,8 +84,7 @@ impl Regions {
         Ok(())
     }
 
-    /// Puts the regions of another mapping in the place of those of a number that is held. Or want of memory, which
-    /// changes nothing.
+    /// Replaces the regions of a held number by those of another mapping. If memory is refused, nothing changes.
     pub fn change(&mut self, number: u64, old: &Mapping, new: &Mapping) -> Result<(), AllocError>
         requires { HasAll number old.now.polygons old.now.patterns self.old }
         ensures changed { OnOk result (self.new ≡ with_other number new.now self.old) }
@@ -96,7 +95,7 @@ impl Regions {
         Ok(())
     }
 
-    /// Puts the regions of another mapping behind those of a number. Or want of memory, which changes nothing.
+    /// Adds the regions of another mapping behind those of a number. If memory is refused, nothing changes.
     fn grow(&mut self, number: u64, old: &Mapping, new: &Mapping) -> Result<(), AllocError>
         requires { HasAll number old.now.polygons old.now.patterns self.old }
         ensures grown { OnOk result (self.new ≡ with_more number new.now self.old) }
@@ -110,7 +109,7 @@ impl Regions {
         Ok(())
     }
 
-    /// The same for the patterns alone.
+    /// Does the same for the patterns alone.
     fn grow_patterns(&mut self, number: u64, old: &Mapping, new: &Mapping) -> Result<(), AllocError>
         requires addresses { IsHeldWith number old.now.patterns self.old.addresses }
         requires references { IsHeldWith number old.now.patterns self.old.references }
@@ -130,8 +129,7 @@ impl Regions {
         Ok(())
     }
 
-    /// Keeps of a number's regions those of the new mapping, which stand behind those of the old one. It takes no
-    /// memory.
+    /// Keeps only the new mapping's regions of a number, which stand behind the old mapping's. It takes no memory.
     fn shed(&mut self, number: u64, old: &Mapping, new: &Mapping)
         requires { HasAll number (old.now.polygons ++ new.now.polygons) (old.now.patterns ++ new.now.patterns) self.old }
         ensures { self.new ≡ with_other number new.now self.old }
@@ -141,7 +139,7 @@ impl Regions {
         keep_rest(&mut self.references, number, old.patterns(), new.patterns());
     }
 
-    /// Takes a number that is held out, with its regions. It takes no memory.
+    /// Removes a held number with its regions. It takes no memory.
     pub fn take(&mut self, number: u64)
         requires { AreHeld number self.old }
         ensures { self.new ≡ without_number number self.old }
@@ -151,24 +149,23 @@ impl Regions {
         self.references.take(number);
     }
 
-    /// The numbers with a polygon that has the point inside (RFC 5222, section 12.2), rising, or want of memory.
+    /// The numbers with a polygon that has the point inside (RFC 5222, section 12.2), rising.
     pub fn at_point(&self, point: &GeoPoint) -> Result<Vec<u64>, AllocError>
         ensures { IfOk result (λ numbers. numbers.items ≡ holders inside point.now self.now.points) }
     {
-        // A copy of its own is not read anew for each region.
+        // A local copy is not read anew for each region.
         let place = *point;
         self.points.holding(&place)
     }
 
-    /// The numbers with a pattern that matches the address (RFC 5222, section 12.3), rising, or want of memory.
+    /// The numbers with a pattern that matches the address (RFC 5222, section 12.3), rising.
     pub fn at_address(&self, address: &CivicAddress) -> Result<Vec<u64>, AllocError>
         ensures { IfOk result (λ numbers. numbers.items ≡ holders matches address.now self.now.addresses) }
     {
         self.addresses.holding(address)
     }
 
-    /// The numbers with a pattern that names all required elements (RFC 5222, section 8.4.2; own policy), rising, or
-    /// want of memory.
+    /// The numbers with a pattern that names all required elements (RFC 5222, section 8.4.2; own policy), rising.
     pub fn naming(&self, required: &RequiredElements) -> Result<Vec<u64>, AllocError>
         ensures { IfOk result (λ numbers. numbers.items ≡ holders names_all required.now self.now.references) }
     {

@@ -1,4 +1,4 @@
-//! The book that is published, and the book of what is staged too. Rules without a section are this profile's own.
+//! The published book, and the book with the staged edits too.
 ghost use Rattle.std.specs.Prelude.{◌≡◌, ◌≢◌, ◌-◌, true, false, None, Some, Ok, Err, IfOk, IsErr, Option, Result};
 ghost use Rattle.std.specs.Result.{result_err};
 ghost use Rattle.lost_spec.specs.Text.{Text};
@@ -32,7 +32,7 @@ use lost_spec::Coded;
 use std::alloc::{AllocError, Global};
 use std::marker::Model;
 
-/// An answer, and what it is.
+/// An answer, and its outcome.
 #[derive(Drop)]
 pub(crate) struct Judged {
     pub(crate) answer: Answer,
@@ -51,7 +51,7 @@ impl Judged {
         }
     }
 
-    /// The answer `internalError`, for want of memory.
+    /// The answer `internalError`, for a refusal of memory.
     pub(crate) fn unjudged() -> Judged
         ensures answer { reply_of result.answer ≡ record { text = stream.internal_error; is_internal_error = true } }
         ensures outcome { result.outcome ≡ Outcome.Unjudged }
@@ -62,7 +62,7 @@ impl Judged {
         }
     }
 
-    /// The refusal of a desk line. The caller has: a code of the table.
+    /// The refusal of a desk line. The code must be one of the table.
     pub(crate) fn refused(code: u8) -> Judged
         requires { IsCode code }
         ensures answer { reply_of result.answer ≡ record { text = refused_text code; is_internal_error = false } }
@@ -74,7 +74,7 @@ impl Judged {
         }
     }
 
-    /// The answer to a desk line with a fault: its code. It is `internalError` for want of memory, and then alone.
+    /// The answer to a desk line with a fault: its code. It is `internalError` only if memory was refused.
     pub(crate) fn of_fault(fault: DeskFault) -> Judged
         ensures refused { fault ≢ DeskFault.Mapping MappingError.Memory
             → reply_of result.answer ≡ record { text = refused_text (desk_fault_code fault); is_internal_error = false } }
@@ -107,7 +107,7 @@ impl Model for Books {
 }
 
 impl Books {
-    /// Two empty books, within the widest limits, or want of memory.
+    /// Two empty books within the widest limits.
     pub(crate) fn new(alloc: Global) -> Result<Books, AllocError>
         ensures { IfOk result (λ books.
             books ≡ record { published = empty_book widest; staged = empty_book widest }) }
@@ -117,21 +117,21 @@ impl Books {
         })
     }
 
-    /// The book that is published.
+    /// The published book.
     pub(crate) fn published(&self) -> &Routing
         ensures { result.now ≡ self.now.published }
     {
         self.pair.published()
     }
 
-    /// The book of what is staged too.
+    /// The book with the staged edits too.
     pub(crate) fn staged(&self) -> &Routing
         ensures { result.now ≡ self.now.staged }
     {
         self.pair.staged()
     }
 
-    /// Stages an edit: its refusal, or how many edits are staged and not published. Want of memory is code 20.
+    /// Stages an edit: its refusal, or the number of edits staged and not published. A memory refusal is code 20.
     pub(crate) fn stage(&mut self, edit: Edit) -> Judged
         ensures answered { (name : Text) (t : Instant) (line : Text) → desk_line line ≡ Some (Ok (Stage (edit_of edit)))
             → BooksStep (replay_terms name t) self.old (Whole line) (reply_of result.answer) self.new }
@@ -143,8 +143,8 @@ impl Books {
         self.edit_answer(staged)
     }
 
-    /// Answers for an edit that was staged or refused: its refusal, or how many edits are staged and not published. Want
-    /// of memory is code 20.
+    /// Answers for an edit that was staged or refused: its refusal, or the number of edits staged and not published. A
+    /// memory refusal is code 20.
     pub(crate) fn edit_answer(&self, staged: Result<(), EditError>) -> Judged
         ensures told { reply_of result.answer ≡ record {
           text = edit_text (result_err staged) (self.now.staged.edits - self.now.published.edits);
@@ -166,7 +166,7 @@ impl Books {
         }
     }
 
-    /// Publishes all that is staged. It takes no memory.
+    /// Publishes all staged edits. It takes no memory.
     pub(crate) fn commit(&mut self) -> Judged
         ensures published { self.new ≡ with_committed self.old }
         ensures told { reply_of result.answer ≡ record { text = desk_text (DeskReply.Committed self.new.published.edits); is_internal_error = false } }

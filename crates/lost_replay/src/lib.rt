@@ -1,5 +1,5 @@
-//! The replay of a stream (own rules): desk lines and request lines are answered in order, by one thread, over two books of
-//! which one is published.
+//! The replay of a stream (own rules): one thread answers desk lines and request lines in order, over two books. One of
+//! them is published.
 #![tactic(auto)]
 
 mod books;

@@ -1,4 +1,4 @@
-//! Two books, of which one is published and one takes edits. Rules without a section are this profile's own.
+//! Two books, of which one is published and one takes edits.
 ghost use Rattle.std.specs.Prelude.{◌≡◌, ◌≢◌, ◌+◌, ◌-◌, ◌<◌, ◌++◌, ◌∷◌, [], None, Some, Err, IfOk, IfErr, OnOk, OnErr, map, length};
 ghost use Rattle.std.specs.Result.{result_err};
 ghost use Rattle.lost_spec.specs.Book.{empty_book, refusal, after, after_all};
@@ -13,15 +13,15 @@ use std::marker::Model;
 use std::mem::swap;
 
 /// The book that requests are answered from, and a book in which edits are staged. A commit swaps the two, so it takes
-/// neither memory nor time that grows with them; the edits that the other book then lacks are applied to it before the
-/// next one is staged. Contracts see the published book, and the book of what is staged too.
+/// neither memory nor time that grows with them. The edits that the other book then lacks are applied to it before the
+/// next one is staged. Contracts see the published book, and the book with the staged edits too.
 #[derive(Drop)]
 pub(crate) struct Pair {
     published: Routing,
     other: Routing,
     /// The edits by which the two books differ, in order.
     edits: VecDeque<Edit>,
-    /// Whether the other book lacks them; else the published one does.
+    /// Whether the other book lacks them. If not, the published one does.
     is_behind: bool,
 }
 
@@ -39,7 +39,7 @@ impl Model for Pair {
 }
 
 impl Pair {
-    /// Two empty books within these limits, or want of memory.
+    /// Two empty books within these limits.
     pub(crate) fn new(alloc: Global, limits: Limits) -> Result<Pair, AllocError>
         ensures { IfOk result (λ pair. pair ≡ record { published = empty_book limits; staged = empty_book limits }) }
     {
@@ -51,14 +51,14 @@ impl Pair {
         })
     }
 
-    /// The book that is published.
+    /// The published book.
     pub(crate) fn published(&self) -> &Routing
         ensures { result.now ≡ self.now.published }
     {
         &self.published
     }
 
-    /// The book of what is staged too.
+    /// The book with the staged edits too.
     pub(crate) fn staged(&self) -> &Routing
         ensures { result.now ≡ self.now.staged }
     {
@@ -69,7 +69,7 @@ impl Pair {
         }
     }
 
-    /// How many edits are staged and not published.
+    /// The number of edits staged and not published.
     pub(crate) fn pending(&self) -> u64
         ensures { result ≡ self.now.staged.edits - self.now.published.edits }
     {
@@ -78,7 +78,7 @@ impl Pair {
             .saturating_sub(self.published.edition())
     }
 
-    /// Says whether the book of what is staged refuses an edit.
+    /// Checks whether the book with the staged edits refuses an edit.
     fn check(&self, edit: &Edit) -> Result<(), EditError>
         ensures { result_err result ≡ refusal self.now.staged (edit_of edit.now) }
     {
@@ -89,8 +89,7 @@ impl Pair {
     ///
     /// # Errors
     ///
-    /// The refusal of the book of what is staged, and after it [`EditError::Memory`] for want of memory. Nothing is then
-    /// changed.
+    /// The refusal of the book with the staged edits, and after it [`EditError::Memory`]. Nothing is then changed.
     pub(crate) fn stage(&mut self, edit: Edit) -> Result<(), EditError>
         ensures accepted { OnOk result (refusal self.old.staged (edit_of edit) ≡ None) }
         ensures staged { OnOk result (self.new ≡ with_staged self.old (edit_of edit)) }
@@ -111,7 +110,7 @@ impl Pair {
         }
     }
 
-    /// Publishes all that is staged. It takes no memory.
+    /// Publishes all staged edits. It takes no memory.
     pub(crate) fn commit(&mut self)
         ensures { self.new ≡ with_committed self.old }
     {
@@ -122,7 +121,7 @@ impl Pair {
     }
 }
 
-/// Applies an edit that is not refused to a book, and queues it for another book; or changes nothing for want of memory.
+/// Applies an edit that is not refused to a book, and queues it for another. If memory is refused, nothing changes.
 fn take_in(book: &mut Routing, edits: &mut VecDeque<Edit>, edit: Edit) -> Result<(), AllocError>
     requires { refusal book.old (edit_of edit) ≡ None }
     ensures applied { OnOk result (book.new ≡ after book.old (edit_of edit)) }
@@ -139,7 +138,7 @@ fn take_in(book: &mut Routing, edits: &mut VecDeque<Edit>, edit: Edit) -> Result
     Ok(())
 }
 
-/// Applies the edits of a queue to a book, or as many as there is memory for; the others stay queued.
+/// Applies the edits of a queue to a book. If memory is refused, the rest stay queued.
 fn apply_all(book: &mut Routing, edits: &mut VecDeque<Edit>) -> Result<(), AllocError>
     ensures same { after_all book.new (map edit_of edits.new.items) ≡ after_all book.old (map edit_of edits.old.items) }
     ensures all { OnOk result (edits.new.items ≡ []) }
@@ -150,7 +149,7 @@ fn apply_all(book: &mut Routing, edits: &mut VecDeque<Edit>) -> Result<(), Alloc
     Ok(())
 }
 
-/// Applies the first edit of a queue to a book, or changes nothing for want of memory.
+/// Applies the first edit of a queue to a book. If memory is refused, nothing changes.
 fn apply_first(book: &mut Routing, edits: &mut VecDeque<Edit>) -> Result<(), AllocError>
     ensures same { after_all book.new (map edit_of edits.new.items) ≡ after_all book.old (map edit_of edits.old.items) }
     ensures one { OnOk result (0 < length edits.old.items → length edits.old.items ≡ length edits.new.items + 1) }

@@ -1,4 +1,4 @@
-//! What answers the lines of a replay. Rules without a section are this profile's own.
+//! Answers the lines of a replay.
 ghost use Rattle.std.specs.Prelude.{◌≡◌, IfOk};
 ghost use Rattle.lost_lines.specs.Answer.{reply_of};
 ghost use Rattle.lost_lines.specs.Run.{Whole};
@@ -17,23 +17,22 @@ use lost_routing::Routing;
 use lost_tape::{Scratch, read_line};
 use std::alloc::{AllocError, Global};
 
-/// What answers the lines of a replay: the name of the server and the moment stay, the books go with each line. The
-/// scratch is what the reader of lines works in, and holds nothing of them.
+/// Answers the lines of a replay. The name of the server and the moment stay, the books change with each line. The
+/// scratch is the reader's working memory, and holds nothing of the lines.
 #[derive(Drop)]
 pub struct Replayer<'a> {
     name: &'a Source,
     moment: Moment,
     books: Books,
     scratch: Scratch,
-    /// What the last answer is.
+    /// The outcome of the last line.
     outcome: Outcome,
-    /// How many lines were refused; it stays at its greatest value.
+    /// The number of refused lines. It stays at its greatest value.
     refused: u64,
 }
 
 impl<'a> Replayer<'a> {
-    /// What answers the lines of a replay by the server of this name at one moment, before the first line: it holds no
-    /// mappings. Or want of memory.
+    /// A replay before its first line, by the server of this name at one moment. It holds no mappings.
     pub fn new(alloc: Global, name: &'a Source, moment: &Moment) -> Result<Replayer<'a>, AllocError>
         ensures { IfOk result (λ replayer. Begins name.now moment.now replayer) }
     {
@@ -47,26 +46,26 @@ impl<'a> Replayer<'a> {
         })
     }
 
-    /// What the answer to the last line is. It means nothing before the first.
+    /// The outcome of the last line. It means nothing before the first.
     pub fn outcome(&self) -> Outcome
         ensures { result ≡ outcome_of self.now }
     {
         self.outcome
     }
 
-    /// How many lines were refused so far; it stays at its greatest value.
+    /// The number of lines refused so far. It stays at its greatest value.
     pub fn refused(&self) -> u64 {
         self.refused
     }
 
-    /// How many edits are published.
+    /// The number of published edits.
     pub fn edition(&self) -> u64
         ensures { result ≡ (books_of self.now).published.edits }
     {
         self.books.published().edition()
     }
 
-    /// The book of what is staged too: the one that says which edits are refused.
+    /// The book with the staged edits too: it decides which edits are refused.
     pub fn staged(&self) -> &Routing
         ensures { result.now ≡ (books_of self.now).staged }
     {
@@ -75,7 +74,7 @@ impl<'a> Replayer<'a> {
 }
 
 impl Replayer<'_> {
-    /// Answers a line that was kept whole, and says what the answer is.
+    /// Answers a line that was kept whole, and gives the outcome.
     fn judge(&mut self, alloc: Global, line: &[u8]) -> Judged
         ensures name { self.new.name.now ≡ self.old.name.now }
         ensures moment { self.new.moment ≡ self.old.moment }
@@ -94,7 +93,7 @@ impl Replayer<'_> {
         }
     }
 
-    /// Keeps what the answer to a line is.
+    /// Keeps the outcome of a line.
     fn keep(&mut self, outcome: Outcome)
         ensures outcome { outcome_of self.new ≡ outcome }
         ensures name { self.new.name.now ≡ self.old.name.now }

@@ -12,16 +12,16 @@ use std::io::{Read, Write};
 
 /// Answers the desk lines and the request lines of `input`, in order, by one thread, as the server of this name at one
 /// moment, and writes a reply for each line (RFC 5222; own format). It begins with no mappings. An edit is staged, a
-/// commit publishes all that is staged, and a request is answered over what is published, from scratch. A line over
-/// 1,048,576 bytes is `badRequest`. Where a growth is refused, the line is answered code 20 if its edit or its commit
-/// was refused for it, and else `internalError`.
+/// commit publishes all staged edits, and a request is answered over the published book, from scratch. A line over
+/// 1,048,576 bytes is `badRequest`. If memory is refused, the reply is code 20 where that refused the edit or the
+/// commit of the line, otherwise `internalError`.
 ///
 /// # Errors
 ///
-/// [`ServeError::Memory`] where the two books could not be made: nothing was read or written. [`ServeError::Read`],
-/// [`ServeError::Write`] and [`ServeError::TurnsSpent`] as [`run_lines`] says. After a fault the output holds a front
-/// of the text of the replies, and after `Read` and `TurnsSpent` the whole text of all lines whose byte 10 was read, up
-/// to `turns.lines` of them.
+/// [`ServeError::Memory`] if the two books could not be made: nothing was read or written. [`ServeError::Read`],
+/// [`ServeError::Write`] and [`ServeError::TurnsSpent`] as in [`run_lines`]. After a fault the output holds a front of
+/// the text of the replies. After `Read` and `TurnsSpent` it holds the whole text of all lines whose byte 10 was read,
+/// up to `turns.lines` of them.
 pub fn replay<R: Read, W: Write>(
     alloc: Global,
     input: &mut Watched<R>,
@@ -43,16 +43,16 @@ pub fn replay<R: Read, W: Write>(
     replay_summed(alloc, input, output, name, moment, turns, &mut summary)
 }
 
-/// What a replay has done by its end.
+/// The result of a replay at its end.
 #[derive(Clone, Copy, PartialEq, Eq, Debug, Default)]
 pub struct Summary {
-    /// How many lines were refused.
+    /// The number of refused lines.
     pub refused: u64,
-    /// How many edits are published.
+    /// The number of published edits.
     pub edition: u64,
 }
 
-/// Does what [`replay`] does, with its errors, and puts what was done into `summary`, also where a fault came.
+/// Does the same as [`replay`], with its errors, and puts its result into `summary`, even after a fault.
 pub fn replay_summed<R: Read, W: Write>(
     alloc: Global,
     input: &mut Watched<R>,

@@ -1,4 +1,4 @@
-//! How edits change the routing. Rules without a section are this profile's own.
+//! Applies edits to the routing.
 ghost use Rattle.std.specs.Prelude.{◌≡◌, ◌≢◌, None, Some, Err, IfErr, OnOk, OnErr};
 ghost use Rattle.lost_spec.specs.Book.{Publish, Replace, Withdraw, refusal, after};
 ghost use Rattle.lost_message.specs.Edit.{edit_of};
@@ -11,13 +11,12 @@ use std::alloc::AllocError;
 
 impl Routing {
     /// Applies an edit: a publish appends and forgets the withdrawal of its identity, a replacement keeps the place, a
-    /// withdrawal closes up and is remembered, and the edition rises by one. Of a withdrawal only what remembers it takes
-    /// memory.
+    /// withdrawal closes up and is remembered, and the edition rises by one. A withdrawal takes memory only to be
+    /// remembered.
     ///
     /// # Errors
     ///
-    /// The refusal of [`Routing::check`], and after it [`EditError::Memory`] for want of memory. The book is then
-    /// unchanged.
+    /// The refusal of [`Routing::check`], and after it [`EditError::Memory`]. The book is then unchanged.
     pub fn apply(&mut self, edit: Edit) -> Result<(), EditError>
         ensures accepted { OnOk result (refusal self.old (edit_of edit) ≡ None) }
         ensures changed { OnOk result (self.new ≡ after self.old (edit_of edit)) }
@@ -36,7 +35,7 @@ impl Routing {
     ///
     /// # Errors
     ///
-    /// Want of memory. The book is then unchanged.
+    /// If memory is refused, the book is unchanged.
     pub fn absorb(&mut self, edit: &Edit) -> Result<(), AllocError>
         ensures changed { OnOk result (self.new ≡ after self.old (edit_of edit.now)) }
         ensures unchanged { OnErr result (self.new ≡ self.old) }

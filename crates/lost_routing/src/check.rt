@@ -9,7 +9,7 @@ use lost_book::{Edit, EditError, Limits, Register, check_edit};
 use lost_mapping::{Identity, Mapping, Stamp};
 
 impl Routing {
-    /// Says whether the routing refuses an edit, without changing anything. It takes no memory.
+    /// Checks whether the routing refuses an edit, without changing anything. It takes no memory.
     ///
     /// # Errors
     ///

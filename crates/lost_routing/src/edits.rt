@@ -1,4 +1,4 @@
-//! What a replacement and a withdrawal do to the mappings. Nothing here checks the edit.
+//! Replaces and withdraws mappings. Nothing here checks the edit.
 ghost use Rattle.std.specs.Prelude.{◌≡◌, OnOk, OnErr};
 ghost use Rattle.lost_spec.specs.Book.{replaced, without};
 ghost use Rattle.lost_routing.specs.Invariants.{StaysBelow};
@@ -8,7 +8,7 @@ use lost_mapping::{Identity, Mapping};
 use std::alloc::AllocError;
 
 impl Store {
-    /// Puts a mapping in the place of the one with its identity, or want of memory, which changes nothing.
+    /// Replaces the mapping that has the same identity. If memory is refused, nothing changes.
     pub(crate) fn replace(&mut self, mapping: Mapping) -> Result<(), AllocError>
         ensures replaced { OnOk result (self.new.mappings ≡ replaced mapping self.old.mappings) }
         ensures numbers { OnOk result (self.new.numbers ≡ self.old.numbers) }
@@ -20,7 +20,7 @@ impl Store {
         }
     }
 
-    /// Takes out the mapping with this identity, and closes up. It takes no memory.
+    /// Removes the mapping with this identity, and closes up. It takes no memory.
     pub(crate) fn withdraw(&mut self, identity: &Identity)
         ensures taken { self.new.mappings ≡ without identity.now self.old.mappings }
         ensures below { StaysBelow self.old.numbers self.new.numbers }

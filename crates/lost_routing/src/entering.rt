@@ -1,4 +1,4 @@
-//! What an edit does to the tables and to the indexes.
+//! Changes to the tables and the indexes by an edit.
 ghost use Rattle.std.specs.Prelude.{◌≡◌, OnOk, OnErr};
 ghost use Rattle.lost_tables.specs.Lookup.{IsFullyListed, IsNowhereListed, IsListedAtMostAs, KeepsOthers};
 ghost use Rattle.lost_regions.specs.Regions.{IsAboveAll, AreHeld, HasAll, with_mapping, with_other, without_number};
@@ -8,8 +8,8 @@ use lost_regions::Regions;
 use lost_tables::Tables;
 use std::alloc::AllocError;
 
-/// Notes a mapping under a new number, and puts its regions there. Or want of memory, which changes no region and takes
-/// the notes back.
+/// Notes a mapping under a new number, and puts its regions there. If memory is refused, no region changes and the
+/// notes are taken back.
 pub(crate) fn enter(
     tables: &mut Tables,
     regions: &mut Regions,
@@ -31,8 +31,8 @@ pub(crate) fn enter(
     Ok(())
 }
 
-/// Notes a mapping in the place of another, under its number, and puts its regions there. Or want of memory, which
-/// changes no region and takes the new notes back.
+/// Notes a mapping in the place of another, under its number, and puts its regions there. If memory is refused, no
+/// region changes and the new notes are taken back.
 pub(crate) fn exchange(
     tables: &mut Tables,
     regions: &mut Regions,
@@ -58,7 +58,7 @@ pub(crate) fn exchange(
     Ok(())
 }
 
-/// Takes the notes of a mapping back, and its regions out. It takes no memory.
+/// Takes back the notes of a mapping, and removes its regions. It takes no memory.
 pub(crate) fn leave(tables: &mut Tables, regions: &mut Regions, mapping: &Mapping, number: u64)
     requires { AreHeld number regions.old }
     ensures unlisted { IsNowhereListed tables.new mapping.now number }

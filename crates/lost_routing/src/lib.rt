@@ -1,5 +1,5 @@
-//! The indexed book (own rule): it is seen as a book and answers as one, and what a question or an edit costs does not
-//! grow with the number of mappings that have nothing to do with it.
+//! The indexed book (own rule): contracts see it as a book, and it answers as one. The cost of a question or an edit
+//! does not grow with the number of unrelated mappings.
 #![tactic(auto)]
 
 mod apply;

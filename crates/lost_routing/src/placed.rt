@@ -1,5 +1,5 @@
-//! What the mappings are asked about a place. Lists are of positions, rising. Each question is one walk over the mappings
-//! that the index gives for the place.
+//! Questions about a place. Lists are of positions, rising. Each question is one walk over the mappings that the index
+//! gives for the place.
 ghost use Rattle.std.specs.Prelude.{◌≡◌, Bool, true, IfOk};
 ghost use Rattle.std.specs.Fn.{FnReturnsAt};
 ghost use Rattle.lost_spec.specs.Mapping as spec;
@@ -19,7 +19,7 @@ use lost_urn::ServiceUrn;
 use std::alloc::AllocError;
 
 impl Store {
-    /// The mappings that pass a test which only mappings pass that hold the point, or want of memory.
+    /// The mappings that pass a test. Only mappings that hold the point pass it.
     fn selected_at_point<F: Fn(&Mapping) -> bool>(
         &self,
         point: &GeoPoint,
@@ -43,7 +43,7 @@ impl Store {
         )
     }
 
-    /// The mappings that hold the point, live or not, or want of memory.
+    /// The mappings that hold the point, live or not.
     pub(crate) fn holders_of_point(&self, point: &GeoPoint) -> Result<Positions, AllocError>
         ensures { IfOk result (λ found.
             found.items ≡ positions (λ m. holds m (AtPoint point.now)) self.now.mappings) }
@@ -51,7 +51,7 @@ impl Store {
         self.selected_at_point(point, |mapping| holds_point(mapping, point))
     }
 
-    /// The mappings that pass a test which only mappings pass that hold the address, or want of memory.
+    /// The mappings that pass a test. Only mappings that hold the address pass it.
     fn selected_at_address<F: Fn(&Mapping) -> bool>(
         &self,
         address: &CivicAddress,
@@ -75,7 +75,7 @@ impl Store {
         )
     }
 
-    /// The mappings that hold the address, live or not, or want of memory.
+    /// The mappings that hold the address, live or not.
     pub(crate) fn holders_of_address(&self, address: &CivicAddress) -> Result<Positions, AllocError>
         ensures { IfOk result (λ found.
             found.items ≡ positions (λ m. holds m (AtAddress address.now)) self.now.mappings) }
@@ -83,7 +83,7 @@ impl Store {
         self.selected_at_address(address, |mapping| holds_address(mapping, address))
     }
 
-    /// The mappings that are live, are no defaults and hold the point, or want of memory.
+    /// The mappings that are live, are no defaults and hold the point.
     pub(crate) fn holding_point(
         &self,
         moment: &Moment,
@@ -97,7 +97,7 @@ impl Store {
         })
     }
 
-    /// The mappings that are live, are no defaults and hold the address, or want of memory.
+    /// The mappings that are live, are no defaults and hold the address.
     pub(crate) fn holding_address(
         &self,
         moment: &Moment,
@@ -111,7 +111,7 @@ impl Store {
         })
     }
 
-    /// The mappings that are live, are no defaults, have this service and hold the point, or want of memory.
+    /// The mappings that are live, are no defaults, have this service and hold the point.
     pub(crate) fn at_point(
         &self,
         moment: &Moment,
@@ -126,7 +126,7 @@ impl Store {
         })
     }
 
-    /// The mappings that are live, are no defaults, have this service and hold the address, or want of memory.
+    /// The mappings that are live, are no defaults, have this service and hold the address.
     pub(crate) fn at_address(
         &self,
         moment: &Moment,

@@ -1,4 +1,4 @@
-//! What the mappings are asked. Lists are of positions, rising.
+//! Questions about the mappings. Lists are of positions, rising.
 ghost use Rattle.std.specs.Prelude.{◌≡◌, ◌&&◌, not, IfOk, find, position};
 ghost use Rattle.std.specs.List.{list_any};
 ghost use Rattle.std.specs.Option.{option_copied};
@@ -16,7 +16,7 @@ use lost_urn::ServiceUrn;
 use std::alloc::AllocError;
 
 impl Store {
-    /// Where the mapping with this identity stands.
+    /// The position of the mapping with this identity.
     #[tactic(auto, using(crate::proofs::CoverLemmas::covers_identity))]
     pub(crate) fn of_identity(&self, identity: &Identity) -> Option<usize>
         ensures { result ≡ position (λ m. has_identity m identity.now) self.now.mappings }
@@ -59,7 +59,7 @@ impl Store {
         })
     }
 
-    /// Where the first mapping stands that is live at an instant and has this key.
+    /// The position of the first mapping that is live at an instant and has this key.
     #[tactic(auto, using(crate::proofs::CoverLemmas::covers_live_key))]
     pub(crate) fn of_live_key(&self, moment: &Moment, key: &str) -> Option<usize>
         ensures { result ≡ position (has_live_key moment.now key.now) self.now.mappings }
@@ -70,7 +70,7 @@ impl Store {
         })
     }
 
-    /// The defaults that are live and have this service, or want of memory.
+    /// The defaults that are live and have this service.
     #[tactic(auto, using(crate::proofs::CoverLemmas::covers_default))]
     pub(crate) fn defaults(
         &self,
@@ -90,7 +90,7 @@ impl Store {
         )
     }
 
-    /// The mappings that are live and have this service, or want of memory.
+    /// The mappings that are live and have this service.
     #[tactic(auto, using(crate::proofs::CoverLemmas::covers_service))]
     pub(crate) fn of_service(
         &self,

@@ -11,8 +11,8 @@ use lost_query::Place;
 use std::alloc::{AllocError, Global};
 use std::marker::Model;
 
-/// A book with tables and indexes, by which it finds the mappings that a question is about, and the withdrawal of an
-/// identity. Contracts see it as the record `Book`. A mapping is held under a number, which is the edition before its publish; a replacement keeps it.
+/// A book with tables and indexes to find the mappings that a question is about, and the withdrawal of an identity.
+/// Contracts see it as the record `Book`. A mapping's number is the edition before its publish; a replacement keeps it.
 #[derive(Drop)]
 pub struct Routing {
     pub(crate) limits: Limits,
@@ -47,14 +47,14 @@ impl Routing {
         })
     }
 
-    /// How many edits were accepted.
+    /// The number of accepted edits.
     pub fn edition(&self) -> u64
         ensures { result ≡ self.now.edits }
     {
         self.edits
     }
 
-    /// How many mappings are held.
+    /// The number of mappings held.
     pub fn len(&self) -> usize
         ensures { result ≡ length self.now.mappings }
     {
@@ -69,7 +69,7 @@ impl Routing {
         self.store.mapping(position)
     }
 
-    /// The set of a place: the mappings that hold it, live or not, in rising positions (own rule), or want of memory.
+    /// The set of a place: the mappings that hold it, live or not, in rising positions (own rule).
     pub fn holders(&self, place: &Place) -> Result<Vec<usize>, AllocError>
         ensures { IfOk result (λ places. places.items ≡ holders_of self.now (place_of place.now)) }
     {
@@ -80,8 +80,7 @@ impl Routing {
         Ok(places.into_vec()?)
     }
 
-    /// An equal book, or want of memory. It costs a pointer for each mapping, a copy of each trace, and the
-    /// indexes anew.
+    /// An equal book. It costs a pointer for each mapping, a copy of each trace, and new indexes.
     pub fn clone(&self) -> Result<Routing, AllocError>
         ensures { IfOk result (λ copy. copy ≡ self.now) }
     {

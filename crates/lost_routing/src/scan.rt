@@ -1,4 +1,4 @@
-//! The questions of a small book, in which each mapping is looked at. Rules without a section are this profile's own.
+//! The questions of a small book, which look at each mapping.
 ghost use Rattle.std.specs.Prelude.{◌≡◌, Bool, IfOk};
 ghost use Rattle.std.specs.Fn.{FnReturnsAt};
 ghost use Rattle.lost_spec.specs.Mapping as spec;
@@ -9,10 +9,10 @@ use lost_query::Positions;
 use lost_tiered::TieredVec;
 use std::alloc::{AllocError, Global};
 
-/// Among how many mappings, at most, each is looked at: to ask the index about a place costs as much as some thirty looks.
+/// The most mappings for a look at each: to ask the index about a place costs as much as some thirty looks.
 pub(crate) const FEW: usize = 16;
 
-/// The positions, rising, of the mappings that pass a test, by a look at each of them; or want of memory.
+/// The positions, rising, of the mappings that pass a test, by a look at each.
 pub(crate) fn scan<F: Fn(&Mapping) -> bool>(
     alloc: Global,
     mappings: &TieredVec<Mapping>,

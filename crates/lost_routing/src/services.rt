@@ -1,4 +1,4 @@
-//! The services that are held.
+//! The services held.
 ghost use Rattle.std.specs.Prelude.{◌≡◌, IfOk, filter, length};
 ghost use Rattle.std.specs.List.Sorted.{IsStrictlySortedBy};
 ghost use Rattle.std.specs.Option.{option_copied};
@@ -16,8 +16,8 @@ use lost_urn::ServiceUrn;
 use std::alloc::AllocError;
 
 impl Store {
-    /// The services just below one, or the topmost, of the live mappings, or want of memory. It looks at one live
-    /// mapping of each service, and not at the others.
+    /// The services just below one, or the topmost, of the live mappings. It looks at one live mapping of each service,
+    /// and not at the others.
     pub(crate) fn services_below(
         &self,
         moment: &Moment,
@@ -41,8 +41,8 @@ impl Store {
     }
 }
 
-/// The position of the first of these candidates whose mapping is live and has the service of this text. The numbers of the
-/// mappings rise.
+/// The position of the first of these candidates whose mapping is live and has the service of this text. The numbers of
+/// the mappings rise.
 fn live_position(
     numbers: &TieredVec<u64>,
     mappings: &TieredVec<Mapping>,

@@ -1,4 +1,4 @@
-//! The mappings under their numbers, with the tables and the indexes by which they are found.
+//! The mappings under their numbers, with the tables and the indexes that find them.
 ghost use Rattle.std.specs.Prelude.{◌≡◌, ◌<◌, Some, length, slice_get, IfOk, OnOk, OnErr};
 ghost use Rattle.lost_routing.specs.Invariants.{IsNew};
 ghost use Rattle.lost_routing.specs.Store.{nothing_stored, with_last, with_mapping_at, without_position};
@@ -46,7 +46,7 @@ impl Store {
         }
     }
 
-    /// How many mappings there are.
+    /// The number of mappings.
     pub(crate) fn len(&self) -> usize
         ensures { result ≡ length self.now.mappings }
     {
@@ -61,7 +61,7 @@ impl Store {
         self.mappings.at(position)
     }
 
-    /// Puts a mapping behind all, under a number that is above all. Or want of memory, which changes nothing.
+    /// Adds a mapping at the end, under a number that is above all. If memory is refused, nothing changes.
     pub(crate) fn put(&mut self, number: u64, mapping: Mapping) -> Result<(), AllocError>
         requires { IsNew number self.old.numbers }
         ensures put { OnOk result (self.new ≡ with_last number mapping self.old) }
@@ -82,7 +82,7 @@ impl Store {
         Ok(())
     }
 
-    /// Puts a mapping in the place of the one at a position, under its number. Or want of memory, which changes nothing.
+    /// Replaces the mapping at a position, under its number. If memory is refused, nothing changes.
     pub(crate) fn change(&mut self, position: usize, mapping: Mapping) -> Result<(), AllocError>
         requires { position < length self.old.mappings }
         ensures changed { OnOk result (self.new ≡ with_mapping_at position mapping self.old) }
@@ -100,7 +100,7 @@ impl Store {
         Ok(())
     }
 
-    /// Takes the mapping at a position out, with its number. It takes no memory.
+    /// Removes the mapping at a position, with its number. It takes no memory.
     pub(crate) fn take(&mut self, position: usize)
         requires { position < length self.old.mappings }
         ensures { self.new ≡ without_position position self.old }
@@ -110,7 +110,7 @@ impl Store {
         leave(&mut self.tables, &mut self.regions, &mapping, number);
     }
 
-    /// The same mappings under the same numbers, with indexes of their own, or want of memory.
+    /// The same mappings under the same numbers, with indexes of their own.
     pub(crate) fn clone(&self) -> Result<Store, AllocError>
         ensures { IfOk result (λ copy. copy ≡ self.now) }
     {

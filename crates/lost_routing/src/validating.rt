@@ -16,8 +16,8 @@ use std::alloc::AllocError;
 
 impl Store {
     /// The live mappings of this service with some pattern that names each of these elements with the address's
-    /// comparison text, or want of memory. Without elements the mappings of the service are tested; where an element
-    /// does not stand in the address there are none.
+    /// comparison text. Without elements, the mappings of the service are tested. If an element does not stand in the
+    /// address, there are none.
     #[tactic(auto, using(crate::proofs::NamedLemmas::nowhere_where_missing, crate::proofs::NamedLemmas::nowhere_where_none))]
     pub(crate) fn referring(
         &self,
@@ -41,7 +41,7 @@ impl Store {
         self.referring_named(moment, service, address, elements, &required)
     }
 
-    /// The same, where the elements stand in the address with these texts: the index of references is asked.
+    /// Does the same for elements that stand in the address with these texts, by the index of references.
     fn referring_named(
         &self,
         moment: &Moment,
@@ -64,7 +64,7 @@ impl Store {
         )
     }
 
-    /// The same, of the mappings of the service one after another.
+    /// Does the same by a walk over the mappings of the service.
     fn referring_of_service(
         &self,
         moment: &Moment,

@@ -22,8 +22,8 @@ impl Store {
         false
     }
 
-    /// Whether some live mapping has the service of the first labels of another one, of which there are 1 to its depth.
-    /// It takes no memory.
+    /// Whether some live mapping has the service of the first `labels` labels of another one, from 1 to its depth. It
+    /// takes no memory.
     #[tactic(auto, using(crate::proofs::CoverLemmas::covers_service))]
     fn is_served(&self, moment: &Moment, service: &ServiceUrn, labels: usize) -> bool
         requires some { 1 ≤ labels }
@@ -37,7 +37,7 @@ impl Store {
     }
 }
 
-/// Whether the mapping has the service of the first labels of another one.
+/// Whether the mapping has the service of the first `labels` labels of another one.
 fn is_front(mapping: &Mapping, service: &ServiceUrn, labels: usize) -> bool
     requires some { 1 ≤ labels }
     requires within { labels ≤ length service.now }

@@ -1,4 +1,4 @@
-//! The numbers of refusals and faults. Rules without a section are this profile's own.
+//! The numbers of refusals and faults.
 ghost use Rattle.std.specs.Prelude.{◌≡◌, ℕ};
 
 /// A refusal or a fault that has a number, as tables and the desk's lines show it.

@@ -1,5 +1,4 @@
 //! The refusals that definitions and code share. A variant's number, where a line or a table shows one, is its `code`.
-//! Rules without a section are this profile's own.
 
 use crate::code::Coded;
 use thiserror::Error;

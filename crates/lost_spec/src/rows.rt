@@ -1,5 +1,5 @@
 //! The worked rows that need no text of JSON. Each function's contract is a row, which the check proves by computing.
-//! The last ones are our own: they say what the others leave open, above all which of several refusals comes first.
+//! The last ones are our own: they settle what the others leave open, above all which refusal comes first.
 
 ghost use Rattle.lost_spec.specs.Rows.{Urn, Stamps, Empty, OneMapping, StagedOnly, SharedEdge, OuterEdge, Poles, Fallback, Defaults, Profiles, ReplaceWithdraw, Refusals, ReplaceCodes, ReplaceByDefault, LimitsRow, DeskCodes, BadLines, BadPatterns, CivicRow, UnaskedValidation, ValidateAPoint, TwoProfiles, Expiry, BoundaryAndPath, ServicesByLocation};
 ghost use Rattle.lost_spec.specs.OwnRows.{FirstFaults, LabelOrder, Comparison, EditOrder, DeskOrder, AnswerOrder, LongestFirst, ReferencePatterns, NameOrder};
@@ -48,22 +48,22 @@ pub fn poles()
     ensures { Poles }
 {}
 
-/// A service that nobody has is found by the one above it, with a warning.
+/// For a service that no mapping has, the one above it is found, with a warning.
 pub fn fallback()
     ensures { Fallback }
 {}
 
-/// A default is found where nothing holds the place.
+/// A default is found where no other mapping holds the place.
 pub fn defaults()
     ensures { Defaults }
 {}
 
-/// A location of a profile that is not known is passed over.
+/// A location of an unknown profile is skipped.
 pub fn profiles()
     ensures { Profiles }
 {}
 
-/// A replacement keeps its place, and a withdrawal closes up.
+/// A replacement keeps its place in the order, and a withdrawal leaves no gap.
 pub fn replace_withdraw()
     ensures { ReplaceWithdraw }
 {}
@@ -98,7 +98,7 @@ pub fn bad_lines()
     ensures { BadLines }
 {}
 
-/// An empty pattern, one with an unknown element or too many patterns are refused.
+/// An empty pattern, a pattern with an unknown element, or too many patterns are refused.
 pub fn bad_patterns()
     ensures { BadPatterns }
 {}
@@ -123,27 +123,27 @@ pub fn two_profiles()
     ensures { TwoProfiles }
 {}
 
-/// A mapping is live before the instant at which it expires, and not at it.
+/// A mapping is live before the instant at which it expires, and not at that instant.
 pub fn expiry()
     ensures { Expiry }
 {}
 
-/// A boundary is shown by key and by value, and a path that comes back is a loop.
+/// A boundary is shown by key and by value, and a path with the server's own name is a loop.
 pub fn boundary_and_path()
     ensures { BoundaryAndPath }
 {}
 
-/// The services one label below what is asked are listed.
+/// The services one label below the one asked are listed.
 pub fn services_by_location()
     ensures { ServicesByLocation }
 {}
 
-/// The first of several refusals of a point, a ring, an address and a pattern comes.
+/// Where several refusals of a point, a ring, an address or a pattern apply, the first comes.
 pub fn first_faults()
     ensures { FirstFaults }
 {}
 
-/// The checks of a label come before those of the next, and the number of labels last.
+/// Labels are checked from the left, and their number last.
 pub fn label_order()
     ensures { LabelOrder }
 {}
@@ -163,7 +163,7 @@ pub fn desk_order()
     ensures { DeskOrder }
 {}
 
-/// The errors of an answer come in their order, and the first location known is used.
+/// The errors of an answer come in their order, and the first location of a known profile is used.
 pub fn answer_order()
     ensures { AnswerOrder }
 {}
@@ -183,7 +183,7 @@ pub fn name_order()
     ensures { NameOrder }
 {}
 
-/// Absent digits of a fraction are zeros, and it has one to nine digits.
+/// A fraction has one to nine digits, and absent ones are zeros.
 pub fn stamp_fractions()
     ensures { StampFractions }
 {}
@@ -213,7 +213,7 @@ pub fn uri_bounds()
     ensures { UriBounds }
 {}
 
-/// The last latitudes and longitudes, the pole one unit below itself, and the longest ring.
+/// The last latitudes and longitudes, the pole taken one unit lower, and the longest ring.
 pub fn place_bounds()
     ensures { PlaceBounds }
 {}
@@ -248,7 +248,7 @@ pub fn freed_key()
     ensures { FreedKey }
 {}
 
-/// A replacement that changes patterns alone wants a new key.
+/// A replacement that changes patterns alone needs a new key.
 pub fn pattern_change()
     ensures { PatternChange }
 {}
@@ -258,7 +258,7 @@ pub fn later_day()
     ensures { LaterDay }
 {}
 
-/// A mapping that has expired answers no question, and is still held.
+/// An expired mapping answers no request, and is still held.
 pub fn expired()
     ensures { Expired }
 {}
@@ -273,7 +273,7 @@ pub fn default_asked()
     ensures { DefaultAsked }
 {}
 
-/// A service two labels below what is asked is listed by its first label below it.
+/// A service two labels below the one asked is listed as the one above it.
 pub fn deep_services()
     ensures { DeepServices }
 {}
@@ -288,7 +288,7 @@ pub fn unfitting_bodies()
     ensures { UnfittingBodies }
 {}
 
-/// Polygons add up.
+/// A mapping holds a place that any of its polygons holds.
 pub fn additive()
     ensures { Additive }
 {}
@@ -303,12 +303,12 @@ pub fn published_again()
     ensures { PublishedAgain }
 {}
 
-/// Where as many traces as the limit are remembered, nothing more is withdrawn, until one of those identities is published.
+/// At the limit of traces nothing more is withdrawn, until one of their identities is published.
 pub fn traces_limit()
     ensures { TracesLimit }
 {}
 
-/// A stamp that is not later is refused before a want of room is.
+/// A stamp that is not later is refused before a full book is.
 pub fn withdrawn_before_full()
     ensures { WithdrawnBeforeFull }
 {}
@@ -328,7 +328,7 @@ pub fn other_identities()
     ensures { OtherIdentities }
 {}
 
-/// A withdrawal adds a trace behind, a replacement changes none, and a publish takes its own away.
+/// A withdrawal adds a trace at the end, a replacement changes none, and a publish removes its own.
 pub fn which_traces()
     ensures { WhichTraces }
 {}

@@ -1,4 +1,4 @@
-//! The numbers that are noted under one key.
+//! The numbers noted under one key.
 ghost use Rattle.std.specs.Prelude.{◌≡◌, ◌≢◌, ◌≤◌, ◌<◌, ◌-◌, ◌∷◌, ℕ, [], length, slice_index_or, IfOk, OnOk, OnErr, IsTrue, ◌↔◌};
 ghost use Rattle.std.specs.List.Sorted.{IsNonDecreasing};
 ghost use Rattle.lost_tables.specs.Lists.{Stands, Lacks, HaveTheSame, KeepsOthersIn};
@@ -6,16 +6,16 @@ ghost use Rattle.lost_tables.specs.Lists.{Stands, Lacks, HaveTheSame, KeepsOther
 use std::alloc::{AllocError, Global};
 use std::marker::Model;
 
-/// Of so many numbers one may stand behind an equal one.
+/// One in this many numbers may repeat the one before.
 const SHARE: usize = 64;
 
-/// The numbers that are noted under one key, rising. Contracts see it as their list. A number that is taken out leaves its
-/// room to the next, which then stands there once more; when more than one of 64 is such a repetition, all of them go. So
-/// taking out seldom moves what stands behind, however many there are.
+/// The numbers noted under one key, rising. Contracts see it as their list. The next number takes the room of a removed
+/// one, and then stands there twice. If more than one in 64 may be such a repetition, all repetitions go. So a removal
+/// seldom moves the numbers behind, however many there are.
 #[derive(Drop)]
 pub(crate) struct Cell {
     numbers: Vec<u64>,
-    /// How many numbers at most stand behind an equal one.
+    /// An upper bound on the numbers that repeat the one before.
     repeated: usize,
 }
 
@@ -31,7 +31,7 @@ impl Model for Cell {
 }
 
 impl Cell {
-    /// A cell of one number, or want of memory.
+    /// A cell of one number.
     pub(crate) fn of(alloc: Global, number: u64) -> Result<Cell, AllocError>
         ensures { IfOk result (λ cell. cell ≡ number ∷ []) }
     {
@@ -57,7 +57,7 @@ impl Cell {
         self.numbers.is_empty()
     }
 
-    /// Puts the number in, unless it stands there, or want of memory, which changes nothing.
+    /// Adds the number, unless it is there. If memory is refused, nothing changes.
     pub(crate) fn add(&mut self, number: u64) -> Result<(), AllocError>
         ensures added { OnOk result (Stands number self.new) }
         ensures keeps { (other : _) → Stands other self.old → Stands other self.new }
@@ -72,7 +72,7 @@ impl Cell {
         Ok(())
     }
 
-    /// Takes the number out.
+    /// Removes the number.
     pub(crate) fn remove(&mut self, number: u64)
         ensures others { KeepsOthersIn number self.old self.new }
         ensures gone { Lacks number self.new }
@@ -84,7 +84,7 @@ impl Cell {
         }
     }
 
-    /// Drops the repetitions, where there may be too many.
+    /// Drops the repetitions if there may be too many.
     fn drop_repeated(&mut self)
         ensures { HaveTheSame self.old self.new }
     {
@@ -105,7 +105,7 @@ fn is_past(numbers: &[u64], number: u64) -> bool
     }
 }
 
-/// Leaves the room of a number, which stands at a position, to the next one. The last one's room goes.
+/// Gives the room of the number at a position to the next number. The last number's room goes.
 fn leave_room(numbers: &mut Vec<u64>, number: u64, position: usize)
     requires within { position < length numbers.old.items }
     requires there { slice_index_or numbers.old.items position 0 ≡ number }
@@ -124,7 +124,7 @@ fn leave_room(numbers: &mut Vec<u64>, number: u64, position: usize)
     }
 }
 
-/// Up to where a number stands, from a position on at which it does.
+/// The end of a number's run, from a position in the run.
 fn end_of(numbers: &[u64], number: u64, position: usize) -> usize
     requires within { position < length numbers.now }
     requires there { slice_index_or numbers.now position 0 ≡ number }
@@ -140,8 +140,8 @@ fn end_of(numbers: &[u64], number: u64, position: usize) -> usize
     end
 }
 
-/// Writes another number over a number that stands in front of a position, however often it stands there. In front of the
-/// position no number is greater, and from there on none is less than the other.
+/// Writes another number over each copy of a number that stands before a position. Before the position no number is
+/// greater. From there on none is less than the other.
 fn write_over(numbers: &mut [u64], number: u64, other: u64, end: usize)
     requires within { end ≤ length numbers.old }
     requires rising { IsNonDecreasing numbers.old }
@@ -159,7 +159,7 @@ fn write_over(numbers: &mut [u64], number: u64, other: u64, end: usize)
     }
 }
 
-/// Takes a number off the end, however often it stands there. None is greater.
+/// Removes each copy of a number from the end. No number is greater.
 fn pop_all(numbers: &mut Vec<u64>, number: u64)
     requires rising { IsNonDecreasing numbers.old.items }
     requires below { (k : ℕ) → k < length numbers.old.items → slice_index_or numbers.old.items k 0 ≤ number }

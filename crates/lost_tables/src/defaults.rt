@@ -5,7 +5,7 @@ ghost use Rattle.lost_tables.specs.Lookup.{default_text};
 
 use lost_mapping::Mapping;
 
-/// The text of a mapping's service, where the mapping is a default.
+/// The text of a mapping's service, if the mapping is a default.
 pub(crate) fn default_text(mapping: &Mapping) -> Option<&str>
     ensures { option_copied result ≡ default_text mapping.now }
 {

@@ -8,7 +8,7 @@ use indexmap::IndexMap;
 use lost_mapping::Identity;
 use std::alloc::{AllocError, Global};
 
-/// Lists a number under an identity, or want of memory. What was listed stays.
+/// Lists a number under an identity. If memory is refused, what was listed stays.
 pub(crate) fn list(
     lists: &mut IndexMap<Identity, Cell>,
     alloc: Global,

@@ -1,5 +1,5 @@
-//! Tables of what mappings are known by, and the picking of mappings by their numbers. A number is the one under which
-//! an indexed book holds a mapping. Rules without a section are this profile's own.
+//! Tables from a mapping's identity, key and service to its number, and the picking of mappings by their numbers. A
+//! number is the one under which an indexed book holds a mapping.
 #![tactic(auto)]
 
 mod cell;

@@ -19,7 +19,7 @@ pub(crate) fn numbers_under<'a, K: Eq + Hash>(lists: &'a IndexMap<K, Cell>, key:
     }
 }
 
-/// Lists a number under a key, where there is a list, and says whether there is one; or want of memory. What was listed
+/// Lists a number under a key that has a list, and returns whether it has one. If memory is refused, what was listed
 /// stays.
 pub(crate) fn add<K: Eq + Hash + Drop>(
     lists: &mut IndexMap<K, Cell>,
@@ -36,7 +36,7 @@ pub(crate) fn add<K: Eq + Hash + Drop>(
     Ok(true)
 }
 
-/// Lists a number under a key, or want of memory. What was listed stays.
+/// Lists a number under a key. If memory is refused, what was listed stays.
 pub(crate) fn insert<K: Eq + Hash + Drop>(
     lists: &mut IndexMap<K, Cell>,
     alloc: Global,
@@ -53,7 +53,7 @@ pub(crate) fn insert<K: Eq + Hash + Drop>(
     Ok(())
 }
 
-/// Takes a number away from a key, unless the key is that of `remaining`.
+/// Removes a number from a key's list, unless the key is `remaining`.
 pub(crate) fn unlist<K: Eq + Hash + Drop>(
     lists: &mut IndexMap<K, Cell>,
     gone: &K,
@@ -70,7 +70,7 @@ pub(crate) fn unlist<K: Eq + Hash + Drop>(
     }
 }
 
-/// Whether there is a key, and it is equal to this one.
+/// Whether there is a key that is equal to this one.
 fn is_key<K: Eq>(own: Option<&K>, key: &K) -> bool
     ensures { MatchOption (option_copied own.entry) (IsFalse result) (λ own. result ≡ K.eq key.now own) }
 {
@@ -80,7 +80,7 @@ fn is_key<K: Eq>(own: Option<&K>, key: &K) -> bool
     }
 }
 
-/// Takes a number away from a key, and the list with it where no other number is in it.
+/// Removes a number from a key's list, and the list if it is then empty.
 fn unlist_under<K: Eq + Hash + Drop>(lists: &mut IndexMap<K, Cell>, key: &K, number: u64)
     ensures others { KeepsOtherNumbers number (under K.eq lists.old) (under K.eq lists.new) }
     ensures elsewhere { (other : _) → K.eq key.now other ≡ false → KeepsUnder other (under K.eq lists.old) (under K.eq lists.new) }
@@ -91,7 +91,7 @@ fn unlist_under<K: Eq + Hash + Drop>(lists: &mut IndexMap<K, Cell>, key: &K, num
     }
 }
 
-/// Takes a number out of the list under a key, and says whether the list is then empty.
+/// Removes a number from the list under a key, and returns whether the list is then empty.
 fn remove_from_list<K: Eq + Hash + Drop>(
     lists: &mut IndexMap<K, Cell>,
     key: &K,

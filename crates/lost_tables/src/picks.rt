@@ -1,4 +1,4 @@
-//! Picking the mappings that pass a test: only those that have their number among candidates are tested.
+//! Picks the mappings that pass a test. Only those with their number among candidates are tested.
 ghost use Rattle.std.specs.Prelude.{◌≡◌, Bool, position, nat_eq, length, IfOk, filter_map, slice_get};
 ghost use Rattle.std.specs.Fn.{FnReturnsAt};
 ghost use Rattle.std.specs.List.{list_any};
@@ -16,7 +16,7 @@ use std::alloc::{AllocError, Global};
 /// How far below itself a number is looked for, step by step.
 const REACHES: [usize; 5] = [1, 8, 64, 512, 4_096];
 
-/// Where a number stands among rising numbers. It takes no memory.
+/// The position of a number among rising numbers. It takes no memory.
 pub fn position_of(numbers: &TieredVec<u64>, number: u64) -> Option<usize>
     requires rising { IsStrictlySortedBy nat_cmp numbers.now }
     ensures { result ≡ position (nat_eq number) numbers.now }
@@ -28,9 +28,9 @@ pub fn position_of(numbers: &TieredVec<u64>, number: u64) -> Option<usize>
     }
 }
 
-/// Where a number may stand among rising numbers; the caller looks whether it does. It stands no higher than at itself,
-/// and lower by as many as were left out below it: few, mostly. So the search begins there and reaches down, which takes
-/// fewer looks at far parts of a long list than halving it does.
+/// The likely position of a number among rising numbers; the caller checks it. The position is at most the number
+/// itself, lower by the count of numbers left out below it: mostly few. So the search begins there and reaches down,
+/// which reads fewer far parts of a long list than halving does.
 fn likely_position(numbers: &TieredVec<u64>, number: u64) -> usize
     requires rising { IsStrictlySortedBy nat_cmp numbers.now }
 {
@@ -44,7 +44,7 @@ fn likely_position(numbers: &TieredVec<u64>, number: u64) -> usize
     end
 }
 
-/// Where a number stands among rising numbers, by a search of all of them.
+/// The position of a number among rising numbers, by a search of all of them.
 fn searched_position(numbers: &TieredVec<u64>, number: u64) -> Option<usize>
     requires rising { IsStrictlySortedBy nat_cmp numbers.now }
     ensures { result ≡ position (nat_eq number) numbers.now }
@@ -56,7 +56,7 @@ fn searched_position(numbers: &TieredVec<u64>, number: u64) -> Option<usize>
     }
 }
 
-/// Up to where rising numbers are below a number, from one position up to another.
+/// The end of the numbers below a number, among rising numbers from `start` to `end`.
 fn halved(numbers: &TieredVec<u64>, number: u64, start: usize, end: usize) -> usize
     requires rising { IsStrictlySortedBy nat_cmp numbers.now }
     ensures below { AreBelow number numbers.now start → AreBelow number numbers.now result }
@@ -74,8 +74,8 @@ fn halved(numbers: &TieredVec<u64>, number: u64, start: usize, end: usize) -> us
     low
 }
 
-/// The positions, rising, of the things that pass a test, or want of memory. The numbers of the things rise, and the
-/// candidates are the numbers of all that pass, in any order, with others among them. Up to eight positions take no memory.
+/// The positions, rising, of the things that pass a test. The numbers of the things rise. The candidates contain the
+/// number of each thing that passes, in any order, and may contain others. Up to eight positions take no memory.
 pub fn select<F: Fn(&Mapping) -> bool>(
     alloc: Global,
     numbers: &TieredVec<u64>,
@@ -101,8 +101,8 @@ pub fn select<F: Fn(&Mapping) -> bool>(
     Ok(found)
 }
 
-/// The position of the first thing that passes a test. The numbers of the things rise, and the candidates are the numbers
-/// of all that pass, in any order, with others among them. It takes no memory.
+/// The position of the first thing that passes a test. The numbers of the things rise. The candidates contain the
+/// number of each thing that passes, in any order, and may contain others. It takes no memory.
 pub fn first<F: Fn(&Mapping) -> bool>(
     numbers: &TieredVec<u64>,
     things: &TieredVec<Mapping>,
@@ -126,8 +126,8 @@ pub fn first<F: Fn(&Mapping) -> bool>(
     least
 }
 
-/// The position of a thing that passes a test and has its number among candidates: that of the first candidate whose thing
-/// passes. The numbers of the things rise. It takes no memory.
+/// The position of a thing that passes a test, the first by the order of the candidates. The numbers of the things
+/// rise. It takes no memory.
 pub fn one<F: Fn(&Mapping) -> bool>(
     numbers: &TieredVec<u64>,
     things: &TieredVec<Mapping>,
@@ -149,8 +149,8 @@ pub fn one<F: Fn(&Mapping) -> bool>(
     None
 }
 
-/// Whether some thing passes a test. The numbers of the things rise, and the candidates are the numbers of all that
-/// pass, in any order, with others among them. It takes no memory.
+/// Whether some thing passes a test. The numbers of the things rise. The candidates contain the number of each thing
+/// that passes, in any order, and may contain others. It takes no memory.
 pub fn any<F: Fn(&Mapping) -> bool>(
     numbers: &TieredVec<u64>,
     things: &TieredVec<Mapping>,
@@ -172,7 +172,7 @@ pub fn any<F: Fn(&Mapping) -> bool>(
     false
 }
 
-/// The position of the thing with a number, where it passes a test.
+/// The position of the thing with a number, if it passes a test.
 fn passing_position<F: Fn(&Mapping) -> bool>(
     numbers: &TieredVec<u64>,
     things: &TieredVec<Mapping>,
@@ -193,7 +193,7 @@ fn passing_position<F: Fn(&Mapping) -> bool>(
     }
 }
 
-/// The lesser of two positions, where there are any.
+/// The lesser of two positions, if there are any.
 fn lesser(one: Option<usize>, other: Option<usize>) -> Option<usize>
     ensures { result ≡ lesser_of one other }
 {

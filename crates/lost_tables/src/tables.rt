@@ -7,8 +7,8 @@ use indexmap::IndexMap;
 use lost_mapping::{Identity, Mapping};
 use std::alloc::{AllocError, Global};
 
-/// For each thing that mappings are known by, a list of the numbers of those mappings. Contracts see it by
-/// `numbers_of`. A number may be listed where its mapping is no longer known by that: a reader tests what it finds.
+/// Lists of the numbers of mappings by identity, key, service and default. Contracts see them by `numbers_of`. A list
+/// may contain numbers whose mappings no longer belong there: a reader tests what it finds.
 #[derive(Drop)]
 pub struct Tables {
     alloc: Global,
@@ -36,21 +36,21 @@ impl Tables {
         }
     }
 
-    /// The numbers that are listed under an identity. It takes no memory.
+    /// The numbers listed under an identity. It takes no memory.
     pub fn of_identity(&self, identity: &Identity) -> &[u64]
         ensures { result.now ≡ numbers_of self.now (ByIdentity identity.now) }
     {
         lists::numbers_under(&self.identities, identity)
     }
 
-    /// The numbers that are listed under a key. It takes no memory.
+    /// The numbers listed under a key. It takes no memory.
     pub fn of_key(&self, key: &str) -> &[u64]
         ensures { result.now ≡ numbers_of self.now (ByKey key.now) }
     {
         texts::numbers_under(&self.keys, key)
     }
 
-    /// The numbers that are listed under the service of a text. It takes no memory.
+    /// The numbers listed under the service of a text. It takes no memory.
     pub fn of_service(&self, text: &str) -> &[u64]
         ensures { (service : Service) → text.now ≡ service_text service
             → result.now ≡ numbers_of self.now (ByService service) }
@@ -58,7 +58,7 @@ impl Tables {
         texts::numbers_under(&self.services, text)
     }
 
-    /// The numbers that are listed under the service of a text as defaults. It takes no memory.
+    /// The numbers listed under the service of a text as defaults. It takes no memory.
     pub fn of_default(&self, text: &str) -> &[u64]
         ensures { (service : Service) → text.now ≡ service_text service
             → result.now ≡ numbers_of self.now (ByDefault service) }
@@ -66,7 +66,7 @@ impl Tables {
         texts::numbers_under(&self.defaults, text)
     }
 
-    /// How many services there are with a list.
+    /// The number of services with a list.
     pub fn service_count(&self) -> usize
         ensures { result ≡ length (service_rows self.now) }
     {
@@ -84,7 +84,7 @@ impl Tables {
         }
     }
 
-    /// Lists a number under each note of a mapping, or want of memory; it is then listed under none of them.
+    /// Lists a number under each note of a mapping. If memory is refused, it is listed under none of them.
     pub fn add_mapping(&mut self, mapping: &Mapping, number: u64) -> Result<(), AllocError>
         ensures listed { OnOk result (IsFullyListed self.new mapping.now number) }
         ensures keeps { OnOk result (Keeps self.old self.new) }
@@ -98,7 +98,7 @@ impl Tables {
         Ok(())
     }
 
-    /// Takes a number away from each note of a mapping. It takes no memory.
+    /// Removes a number from each note of a mapping. It takes no memory.
     pub fn remove_mapping(&mut self, mapping: &Mapping, number: u64)
         ensures gone { IsNowhereListed self.new mapping.now number }
         ensures others { KeepsOthers number self.old self.new }
@@ -110,8 +110,8 @@ impl Tables {
         texts::unlist(&mut self.defaults, default_text(mapping), None, number);
     }
 
-    /// Lists the number of a mapping under each note of the one that is to replace it, or want of memory; it is then
-    /// listed under none of those that the old mapping does not have.
+    /// Lists the number of a mapping under each note of its replacement. If memory is refused, it is listed under none
+    /// of the notes that the old mapping does not have.
     pub fn add_change(
         &mut self,
         old: &Mapping,
@@ -131,7 +131,7 @@ impl Tables {
         Ok(())
     }
 
-    /// Takes a number away from those notes of a mapping that another mapping does not have. It takes no memory.
+    /// Removes a number from those notes of a mapping that another mapping does not have. It takes no memory.
     pub fn remove_change(&mut self, gone: &Mapping, remaining: &Mapping, number: u64)
         ensures gone { IsListedAtMostAs self.new remaining.now gone.now number }
         ensures others { KeepsOthers number self.old self.new }
@@ -150,7 +150,7 @@ impl Tables {
         );
     }
 
-    /// Lists a number under each note of a mapping, or want of memory. What was listed stays.
+    /// Lists a number under each note of a mapping. If memory is refused, what was listed stays.
     fn list(&mut self, mapping: &Mapping, number: u64) -> Result<(), AllocError>
         ensures listed { OnOk result (IsFullyListed self.new mapping.now number) }
         ensures keeps { Keeps self.old self.new }

@@ -21,7 +21,7 @@ pub(crate) fn numbers_under<'a>(lists: &'a IndexMap<String, Cell>, text: &str) -
     }
 }
 
-/// Lists a number under a text, where there is one, or want of memory. What was listed stays.
+/// Lists a number under a text, if there is one. If memory is refused, what was listed stays.
 pub(crate) fn list(
     lists: &mut IndexMap<String, Cell>,
     alloc: Global,
@@ -37,7 +37,7 @@ pub(crate) fn list(
     }
 }
 
-/// Lists a number under a text, or want of memory. What was listed stays.
+/// Lists a number under a text. If memory is refused, what was listed stays.
 #[tactic(auto, using(std::proofs::lemmas::Map::Text::text_keys))]
 fn list_under(
     lists: &mut IndexMap<String, Cell>,
@@ -55,7 +55,7 @@ fn list_under(
     Ok(())
 }
 
-/// Takes a number away from a text, where there is one, unless the text is that of `remaining`.
+/// Removes a number from a text's list, if there is a text and it is not `remaining`.
 pub(crate) fn unlist(
     lists: &mut IndexMap<String, Cell>,
     gone: Option<&str>,
@@ -75,7 +75,7 @@ pub(crate) fn unlist(
     }
 }
 
-/// Whether there is a text, and it is this one.
+/// Whether there is a text that is equal to this one.
 fn is_text(own: Option<&str>, text: &str) -> bool
     ensures { result ≡ is_key (option_copied own.entry) text.now }
 {
@@ -85,7 +85,7 @@ fn is_text(own: Option<&str>, text: &str) -> bool
     }
 }
 
-/// Takes a number away from a text, and the list with it where no other number is in it.
+/// Removes a number from a text's list, and the list if it is then empty.
 #[tactic(auto, using(std::proofs::lemmas::Map::Text::text_keys))]
 fn unlist_under(lists: &mut IndexMap<String, Cell>, text: &str, number: u64)
     ensures others { KeepsOtherNumbers number (under_text lists.old) (under_text lists.new) }
@@ -97,7 +97,7 @@ fn unlist_under(lists: &mut IndexMap<String, Cell>, text: &str, number: u64)
     }
 }
 
-/// Takes a number out of the list under a text, and says whether the list is then empty.
+/// Removes a number from the list under a text, and returns whether the list is then empty.
 #[tactic(auto, using(std::proofs::lemmas::Map::Text::text_keys))]
 fn remove_from_list(lists: &mut IndexMap<String, Cell>, text: &str, number: u64) -> bool
     ensures others { KeepsOtherNumbers number (under_text lists.old) (under_text lists.new) }

@@ -1,4 +1,4 @@
-//! The civic address of a location (RFC 5222, section 12.3). Rules without a section are this profile's own.
+//! The civic address of a location (RFC 5222, section 12.3).
 ghost use Rattle.std.specs.Prelude.{◌≡◌, Some, IfSome, OnSome, option_map, string_bytes};
 ghost use Rattle.serde_json.specs.Data.{Members as SpecMembers, no_members, string, put};
 ghost use Rattle.lost_civic.specs.Pairs.{seen_pairs};
@@ -39,7 +39,7 @@ pub(crate) fn read_pairs(alloc: Global, tree: &Tree<'_, '_>) -> Option<Vec<(Stri
     copy_pairs(alloc, &named)
 }
 
-/// The texts of an object by their names. Of a name that comes twice the last text stays.
+/// The texts of an object by their names. If a name comes twice, its last text stays.
 fn by_name<'a>(alloc: Global, members: Named<'_, 'a>) -> Option<BTreeMap<&'a str, &'a str>>
     ensures { (all : SpecMembers) → HoldsMembers members.entry no_members all
         → IfSome result (λ named. text_members named.entries ≡ all) }
@@ -53,7 +53,7 @@ fn by_name<'a>(alloc: Global, members: Named<'_, 'a>) -> Option<BTreeMap<&'a str
     Some(named)
 }
 
-/// Puts a text under its name, in the place of one that stands there.
+/// Puts a text under its name. It replaces one that stands there.
 fn put<'a>(named: &mut BTreeMap<&'a str, &'a str>, name: &'a str, text: &'a str) -> Option<()>
     ensures { OnSome result (text_members named.new.entries ≡ put name.now (string text.now) (text_members named.old.entries)) }
 {

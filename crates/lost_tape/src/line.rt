@@ -1,4 +1,4 @@
-//! A line as one list of tokens. Rules without a section are this profile's own.
+//! A line as one list of tokens.
 ghost use Rattle.std.specs.Prelude.{◌≡◌, ℕ, List, true, Some, None, Ok, IfSome, OnSome, option_and_then, map};
 ghost use Rattle.std.specs.Bool.{OnTrue};
 ghost use Rattle.std.specs.List.{list_all};
@@ -22,9 +22,9 @@ use std::alloc::Global;
 /// The longest line that is read by tokens, in bytes.
 const MAX_TAPE_BYTES: usize = 131_072;
 
-/// Reads a request line of a common shape by its tokens (RFC 5222, sections 8 to 12; own format). `None` says nothing of
-/// the line, and comes for want of memory too: the tree decides then. The request borrows its texts from the line, or from
-/// `scratch` where they have escapes. What `scratch` holds is kept from line to line.
+/// Reads a request line of a common shape by its tokens (RFC 5222, sections 8 to 12; own format). `None` says nothing
+/// of the line, and comes if memory is refused too: the tree decides then. The request borrows its texts from the line,
+/// or from `scratch` if they have escapes. `scratch` keeps its memory from line to line.
 pub fn read_common<'a>(
     alloc: Global,
     line: &'a [u8],
@@ -39,8 +39,8 @@ pub fn read_common<'a>(
     }
 }
 
-/// Reads a line of a common shape by its tokens: a request, or a desk line that publishes or replaces a mapping, none of it
-/// refused (own format). `None` says nothing of the line, as in [`read_common`].
+/// Reads a line of a common shape by its tokens: a request, or a desk line that publishes or replaces a mapping and is
+/// not refused (own format). `None` says nothing of the line, as in [`read_common`].
 pub(crate) fn read_common_line<'a>(
     alloc: Global,
     line: &'a [u8],
@@ -67,7 +67,7 @@ fn read_text<'a>(alloc: Global, text: &'a str, scratch: &'a mut Scratch) -> Opti
     }
 }
 
-/// What a list of tokens is, that of the value of a text.
+/// What the list of tokens of a text's value is.
 fn read_tape<'a>(alloc: Global, tape: &Tape<'a>) -> Option<Line<'a>>
     requires { (text : List ℕ) × IsTapeOf text tape.now }
     ensures { (text : List ℕ) → IsTapeOf text tape.now → IfSome result (λ found.
@@ -77,7 +77,7 @@ fn read_tape<'a>(alloc: Global, tape: &Tape<'a>) -> Option<Line<'a>>
     read_root(alloc, &root)
 }
 
-/// The value of a list of tokens, where its numbers are whole and it nests no deeper than a tree may.
+/// The value of a list of tokens, if its numbers are whole and it nests no deeper than a tree may.
 fn root_of<'t, 'a>(tape: &'t Tape<'a>) -> Option<Tree<'t, 'a>>
     requires { (text : List ℕ) × IsTapeOf text tape.now }
     ensures { (text : List ℕ) → IsTapeOf text tape.now → IfSome result (λ root. read text ≡ Some (data_of root)) }
@@ -91,7 +91,7 @@ fn root_of<'t, 'a>(tape: &'t Tape<'a>) -> Option<Tree<'t, 'a>>
     })
 }
 
-/// Whether each number is a whole one that fits in 64 bits.
+/// Whether each number is whole and fits in 64 bits.
 fn are_sure(nodes: &[Node<'_>]) -> bool
     ensures { OnTrue result (list_all is_sure (map node_token nodes.now) ≡ true) }
 {

@@ -1,4 +1,4 @@
-//! The locations of a request (RFC 5222, section 12). Rules without a section are this profile's own.
+//! The locations of a request (RFC 5222, section 12).
 ghost use Rattle.std.specs.Prelude.{◌≡◌, Some, IfSome, option_map, option_and_then, not, ◌||◌, if◌then◌else◌};
 ghost use Rattle.lost_spec.specs.Answer.{is_geodetic, is_civic};
 ghost use Rattle.lost_spec.specs.Request.{UnreadableBody};
@@ -29,7 +29,7 @@ pub(crate) fn read_locations<'a>(
     }
 }
 
-/// The locations of an array, where there are as many as there may be.
+/// The locations of an array, if their number is allowed.
 fn read_each_location<'a>(alloc: Global, tree: &Tree<'_, 'a>) -> Option<Locations<'a>>
     ensures { IfSome result (λ locations. locations_in (data_of tree.now) ≡ Some (locations_of locations)) }
 {
@@ -81,7 +81,7 @@ fn read_location<'a>(alloc: Global, object: &Tree<'_, 'a>) -> Option<Location<'a
     })
 }
 
-/// Whether the reference system is known: it is looked at for `geodetic-2d` alone.
+/// Whether the reference system is known. Only `geodetic-2d` looks at it.
 fn is_srs_known(profile: &str, srs_name: &Option<Tree<'_, '_>>) -> Option<bool>
     ensures { IfSome result (λ known. not (is_geodetic profile.now) || is_known_system (option_map data_of srs_name.now) ≡ known) }
 {
@@ -92,7 +92,7 @@ fn is_srs_known(profile: &str, srs_name: &Option<Tree<'_, '_>>) -> Option<bool>
     }
 }
 
-/// Whether the reference system is absent or the one that is known.
+/// Whether the reference system is absent or the known one.
 fn has_known_system(srs_name: &Option<Tree<'_, '_>>) -> Option<bool>
     ensures { IfSome result (λ known. is_known_system (option_map data_of srs_name.now) ≡ known) }
 {
@@ -109,7 +109,7 @@ fn names_known_system(tree: &Tree<'_, '_>) -> Option<bool>
     Some(KNOWN_SYSTEM == text)
 }
 
-/// The content of a location. That of another profile is not looked at.
+/// The content of a location. Another profile's content is not looked at.
 fn read_body(
     alloc: Global,
     profile: &str,

@@ -11,7 +11,7 @@ use crate::tree::Tree;
 use lost_mapping::{DisplayName, Mapping, Parts, Region};
 use std::alloc::Global;
 
-/// The mapping of an object, where nothing of it is refused.
+/// The mapping of an object, if no part is refused.
 pub(crate) fn read_mapping(alloc: Global, object: &Tree<'_, '_>) -> Option<Mapping>
     ensures { IfSome result (λ mapping. (edit : spec.Mapping → book.Edit)
         → mapping_order edit (parts_of_members (members_of object.now)) ≡ Ok (Stage (edit mapping))) }

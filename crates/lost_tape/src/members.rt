@@ -1,5 +1,4 @@
-//! The members of a request and of a location, all found by one walk over an object. Rules without a section are this
-//! profile's own.
+//! The members of a request and of a location, all found by one walk over an object.
 ghost use Rattle.std.specs.Prelude.{OnSome};
 ghost use Rattle.serde_json.specs.Data.{Members as SpecMembers, no_members, put};
 ghost use Rattle.lost_tape.specs.Tapes.{data_of, members_of, HoldsMembers};
@@ -7,7 +6,7 @@ ghost use Rattle.lost_tape.specs.ByName.{HoldsRequest, HoldsLocation};
 
 use crate::tree::{Named, Tree};
 
-/// The members of a request that has locations: of each name the last one, where it is not `null`.
+/// The members of a request that has locations: the last one of each name, unless it is `null`.
 #[derive(Drop)]
 pub(crate) struct RequestMembers<'t, 'a> {
     pub(crate) service: Option<Tree<'t, 'a>>,
@@ -18,7 +17,7 @@ pub(crate) struct RequestMembers<'t, 'a> {
 }
 
 impl<'t, 'a> RequestMembers<'t, 'a> {
-    /// Those of an object without members.
+    /// No members.
     pub(crate) fn none() -> RequestMembers<'t, 'a>
         ensures { HoldsRequest result no_members }
     {
@@ -31,7 +30,7 @@ impl<'t, 'a> RequestMembers<'t, 'a> {
         }
     }
 
-    /// Takes those of an object in, where it is one, after [`RequestMembers::none`].
+    /// Reads the members of an object, after [`RequestMembers::none`]. `None` if the value is no object.
     pub(crate) fn read(&mut self, object: &Tree<'t, 'a>) -> Option<()>
         ensures { HoldsRequest self.old no_members → OnSome result (HoldsRequest self.new (members_of object.now)) }
     {
@@ -40,7 +39,7 @@ impl<'t, 'a> RequestMembers<'t, 'a> {
         Some(())
     }
 
-    /// Puts members into those before them.
+    /// Adds members after those before them.
     fn put_all(&mut self, members: Named<'t, 'a>)
         ensures { (before all : SpecMembers) → HoldsMembers members.entry before all → HoldsRequest self.old before → HoldsRequest self.new all }
     {
@@ -50,7 +49,7 @@ impl<'t, 'a> RequestMembers<'t, 'a> {
         }
     }
 
-    /// Puts a member into those before it.
+    /// Adds a member after those before it.
     fn put(&mut self, name: &str, tree: Tree<'t, 'a>)
         ensures { (before : SpecMembers) → HoldsRequest self.old before → HoldsRequest self.new (put name.now (data_of tree.entry) before) }
     {
@@ -69,7 +68,7 @@ impl<'t, 'a> RequestMembers<'t, 'a> {
     }
 }
 
-/// The members of a location: of each name the last one, where it is not `null`.
+/// The members of a location: the last one of each name, unless it is `null`.
 #[derive(Drop)]
 pub(crate) struct LocationMembers<'t, 'a> {
     pub(crate) id: Option<Tree<'t, 'a>>,
@@ -80,7 +79,7 @@ pub(crate) struct LocationMembers<'t, 'a> {
 }
 
 impl<'t, 'a> LocationMembers<'t, 'a> {
-    /// Those of an object without members.
+    /// No members.
     pub(crate) fn none() -> LocationMembers<'t, 'a>
         ensures { HoldsLocation result no_members }
     {
@@ -93,7 +92,7 @@ impl<'t, 'a> LocationMembers<'t, 'a> {
         }
     }
 
-    /// Takes those of an object in, where it is one, after [`LocationMembers::none`].
+    /// Reads the members of an object, after [`LocationMembers::none`]. `None` if the value is no object.
     pub(crate) fn read(&mut self, object: &Tree<'t, 'a>) -> Option<()>
         ensures { HoldsLocation self.old no_members → OnSome result (HoldsLocation self.new (members_of object.now)) }
     {
@@ -102,7 +101,7 @@ impl<'t, 'a> LocationMembers<'t, 'a> {
         Some(())
     }
 
-    /// Puts members into those before them.
+    /// Adds members after those before them.
     fn put_all(&mut self, members: Named<'t, 'a>)
         ensures { (before all : SpecMembers) → HoldsMembers members.entry before all → HoldsLocation self.old before → HoldsLocation self.new all }
     {
@@ -112,7 +111,7 @@ impl<'t, 'a> LocationMembers<'t, 'a> {
         }
     }
 
-    /// Puts a member into those before it.
+    /// Adds a member after those before it.
     fn put(&mut self, name: &str, tree: Tree<'t, 'a>)
         ensures { (before : SpecMembers) → HoldsLocation self.old before → HoldsLocation self.new (put name.now (data_of tree.entry) before) }
     {

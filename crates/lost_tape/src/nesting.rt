@@ -9,7 +9,7 @@ use json::Node;
 /// How deep the values of a tree may nest, as serde_json reads it.
 const MAX_DEPTH: usize = 127;
 
-/// Whether the values of a line nest at most 127 deep. Where there are no more tokens than that, they do.
+/// Whether the values of a line nest at most 127 deep. A line with at most 127 tokens does.
 #[tactic(auto, using(crate::proofs::NestLemmas::few_nest_within))]
 pub(crate) fn nests_within(nodes: &[Node<'_>]) -> bool
     ensures { OnTrue result (nests_within 0 (map node_token nodes.now) ≡ true) }
@@ -20,7 +20,7 @@ pub(crate) fn nests_within(nodes: &[Node<'_>]) -> bool
     walks_within(nodes)
 }
 
-/// Whether a walk over the tokens leads to no level of nesting above 127.
+/// Whether a walk over the tokens stays within 127 levels.
 fn walks_within(nodes: &[Node<'_>]) -> bool
     ensures { OnTrue result (nests_within 0 (map node_token nodes.now) ≡ true) }
 {
@@ -34,7 +34,7 @@ fn walks_within(nodes: &[Node<'_>]) -> bool
     true
 }
 
-/// The level of nesting behind a token.
+/// The level of nesting after a token.
 fn level_after(level: usize, node: &Node<'_>) -> usize
     requires { level ≤ 127 }
     ensures { result ≡ level_after level (node_token node.now) }

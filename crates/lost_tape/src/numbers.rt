@@ -5,7 +5,7 @@ ghost use Rattle.serde_json.specs.Read.{number_of, number_from};
 
 use fast_float::Numeral;
 
-/// The whole number of a token's text, where it fits in 64 bits. Nothing is said of any other text.
+/// The whole number of a token's text, if it fits in 64 bits. `None` says nothing about the text.
 pub(crate) fn whole_number(text: &str) -> Option<i64>
     ensures { IfSome result (λ number. option_and_then as_i64 (number_of text.now) ≡ Some number) }
 {

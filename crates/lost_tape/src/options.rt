@@ -1,4 +1,4 @@
-//! The service, the path and the wishes of a request. Rules without a section are this profile's own.
+//! The service, the path and the options of a request.
 ghost use Rattle.std.specs.Prelude.{◌≡◌, [], Some, IfSome, option_map, option_and_then, false};
 ghost use Rattle.serde_json.specs.Find.{as_bool};
 ghost use Rattle.lost_message.specs.Request.{path_names};
@@ -48,7 +48,7 @@ pub(crate) fn optional_service(
     }
 }
 
-/// Whether validation is wanted (RFC 5222, section 8.3.3): it is not where nothing is said of it.
+/// Whether validation is wanted (RFC 5222, section 8.3.3): by default it is not.
 pub(crate) fn read_validate(member: &Option<Tree<'_, '_>>) -> Option<bool>
     ensures { IfSome result (λ wanted. or_default as_bool false (option_map data_of member.now) ≡ Some wanted) }
 {
@@ -58,7 +58,7 @@ pub(crate) fn read_validate(member: &Option<Tree<'_, '_>>) -> Option<bool>
     }
 }
 
-/// Whether boundaries are wanted by value (RFC 5222, section 8.3.4): by reference where nothing is said of them.
+/// Whether boundaries are wanted by value (RFC 5222, section 8.3.4): by default they come by reference.
 pub(crate) fn read_by_value(member: &Option<Tree<'_, '_>>) -> Option<bool>
     ensures { IfSome result (λ wanted. or_default by_value_kind false (option_map data_of member.now) ≡ Some wanted) }
 {
@@ -75,7 +75,7 @@ fn read_preference(tree: &Tree<'_, '_>) -> Option<bool>
     by_value(text)
 }
 
-/// The path of a request (RFC 5222, section 6), empty where it has none.
+/// The path of a request (RFC 5222, section 6), empty if it has none.
 pub(crate) fn read_path<'a>(alloc: Global, member: &Option<Tree<'_, 'a>>) -> Option<Vec<CowStr<'a>>>
     ensures { IfSome result (λ path. or_default path_kind [] (option_map data_of member.now) ≡ Some (path_names path.items)) }
 {

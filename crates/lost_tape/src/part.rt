@@ -10,7 +10,7 @@ use lost_geo::GeoPoint;
 use std::alloc::Global;
 use std::borrow::CowStr;
 
-/// What a value of a line is read as, where that is certain. It may borrow the line's texts.
+/// A type that a value of a line is read as, if that is certain. It may borrow the line's texts.
 pub(crate) trait Part<'a>: Drop {
     ghost use Rattle.std.specs.Prelude.{Option};
     ghost use Rattle.serde_json.specs.Data.{Data};
@@ -23,7 +23,7 @@ pub(crate) trait Part<'a>: Drop {
     // What a value means, where it is of this kind.
     ghost meant: { Data → Option Self.Seen };
 
-    /// What the value is read as. Nothing is said where it is not read.
+    /// Reads the value. `None` says nothing about the value.
     fn read(alloc: Global, tree: &Tree<'_, 'a>) -> Option<Self>
         ensures { IfSome result (λ part. meant (data_of tree.now) ≡ Some (seen part)) };
 }
@@ -193,7 +193,7 @@ pub(crate) fn required<'a, T: Part<'a>>(
     T::read(alloc, &tree)
 }
 
-/// The part of this name, or nothing where none is there.
+/// The part of this name. `Some(None)` if there is none.
 pub(crate) fn optional<'a, T: Part<'a>>(
     alloc: Global,
     object: &Tree<'_, 'a>,
@@ -207,7 +207,7 @@ pub(crate) fn optional<'a, T: Part<'a>>(
     }
 }
 
-/// The part of this name, with what stands for it where it is not there.
+/// The part of this name, or the default if there is none.
 pub(crate) fn defaulting<'a, T: Part<'a>>(
     alloc: Global,
     object: &Tree<'_, 'a>,

@@ -1,4 +1,4 @@
-//! Lines that are read by tokens where they are of a common shape, and else by their tree.
+//! Reads lines of a common shape by tokens, and any other by its tree.
 ghost use Rattle.lost_message.specs.Request.{request_of};
 ghost use Rattle.lost_reading.specs.Desk.{desk_line};
 ghost use Rattle.lost_reading.specs.Gives.{Gives};
@@ -11,8 +11,8 @@ use lost_message::Request;
 use lost_reading::{DeskFault, Line, ReadError};
 use std::alloc::Global;
 
-/// Reads a line (own format) as [`lost_reading::read_line_by_tree`] does, with its errors, and sooner where it is of a common
-/// shape. A request borrows its texts as that of [`read_common`] does. What `scratch` holds is kept from line to line.
+/// Reads a line (own format) as [`lost_reading::read_line_by_tree`] does, with its errors, and sooner if its shape is
+/// common. A request borrows its texts as in [`read_common`]. `scratch` keeps its memory from line to line.
 pub fn read_line<'a>(
     alloc: Global,
     line: &'a [u8],
@@ -26,8 +26,8 @@ pub fn read_line<'a>(
     }
 }
 
-/// Reads a request line as [`lost_reading::read_request`] does, with its errors, and sooner where its shape is common.
-/// It borrows its texts as that of [`read_common`] does. What `scratch` holds is kept from line to line.
+/// Reads a request line as [`lost_reading::read_request`] does, with its errors, and sooner if its shape is common.
+/// It borrows its texts as in [`read_common`]. `scratch` keeps its memory from line to line.
 pub fn read_request<'a>(
     alloc: Global,
     line: &'a [u8],

@@ -34,7 +34,7 @@ impl<'a> Part<'a> for Region {
 
     ghost seen = { region_of };
 
-    // What is no region is an unreadable one.
+    // A value that is no region is an unreadable one.
     ghost meant = { λ value. Some (region_in value) };
 
     fn read(alloc: Global, tree: &Tree<'_, 'a>) -> Option<Region> {

@@ -1,4 +1,4 @@
-//! The four requests, and the desk lines with a mapping, by the members of their objects. Rules without a section are this profile's own.
+//! The four requests, and the desk lines with a mapping, by the members of their objects.
 ghost use Rattle.std.specs.Prelude.{◌≡◌, false, Some, None, Ok, IfSome, OnSome, codes, if◌then◌else◌};
 ghost use Rattle.lost_reading.specs.Members.{required};
 ghost use Rattle.lost_reading.specs.Desk.{is_desk_name, order_named, order_in};
@@ -46,7 +46,7 @@ fn read_member<'a>(alloc: Global, name: &str, object: &Tree<'_, 'a>) -> Option<L
     }
 }
 
-/// The request of this name, which is none of a desk line.
+/// The request of this name. `None` for the name of a desk line.
 fn read_named<'a>(alloc: Global, name: &str, object: &Tree<'_, 'a>) -> Option<Line<'a>>
     ensures request { IfSome result (λ found. GivesWhole (Ok found) None (request_named name.now (members_of object.now))) }
     ensures no_desk_name { OnSome result (is_desk_name name.now ≡ false) }

@@ -1,4 +1,4 @@
-//! A value of a line, where its tokens stand in the line's list.
+//! A value of a line, read from its tokens in the line's list.
 ghost use Rattle.std.specs.Prelude.{◌≡◌, Some, None, Option, IfSome, OnSome, option_map, MatchOption, length, ◌<◌};
 ghost use Rattle.std.specs.Bool.{OnTrue};
 ghost use Rattle.serde_json.specs.Data.{Items as SpecItems, no_items, item, Members as SpecMembers, no_members, put};
@@ -31,21 +31,21 @@ impl<'t, 'a> Model for Tree<'t, 'a> {
 }
 
 impl<'t, 'a> Tree<'t, 'a> {
-    /// The text, where this is one.
+    /// The text, if this is one.
     pub(crate) fn text(&self) -> Option<&'a str>
         ensures { IfSome result (λ text. as_str (data_of self.now) ≡ Some text.now) }
     {
         self.element.as_str()
     }
 
-    /// The truth value, where this is one.
+    /// The truth value, if this is one.
     pub(crate) fn truth(&self) -> Option<bool>
         ensures { IfSome result (λ truth. as_bool (data_of self.now) ≡ Some truth) }
     {
         self.element.as_bool()
     }
 
-    /// The whole number, where this is one that fits in 64 bits.
+    /// The whole number, if this is one that fits in 64 bits.
     pub(crate) fn whole(&self) -> Option<i64>
         ensures { IfSome result (λ number. whole_in (data_of self.now) ≡ Some number) }
     {
@@ -59,7 +59,7 @@ impl<'t, 'a> Tree<'t, 'a> {
         self.element.members().is_some()
     }
 
-    /// This value, where it is not `null`.
+    /// This value, unless it is `null`.
     pub(crate) fn unless_null(self) -> Option<Tree<'t, 'a>>
         ensures { option_map data_of result ≡ unless_null (data_of self.entry) }
     {
@@ -70,7 +70,7 @@ impl<'t, 'a> Tree<'t, 'a> {
         }
     }
 
-    /// The last member of this name, where there is one that is not `null`.
+    /// The last member of this name, unless it is `null`.
     pub(crate) fn member(&self, name: &str) -> Option<Tree<'t, 'a>>
         ensures { option_map data_of result ≡ the_member name.now (members_of self.now) }
     {
@@ -91,7 +91,7 @@ impl<'t, 'a> Tree<'t, 'a> {
         }
     }
 
-    /// The items, where this is an array.
+    /// The items, if this is an array.
     pub(crate) fn items(&self) -> Option<Trees<'t, 'a>>
         ensures { IfSome result (λ rest. (items : SpecItems) × (as_array (data_of self.now) ≡ Some items) × HoldsItems rest items) }
     {
@@ -99,7 +99,7 @@ impl<'t, 'a> Tree<'t, 'a> {
         Some(Trees { items })
     }
 
-    /// The members, where this is an object.
+    /// The members, if this is an object.
     pub(crate) fn named(&self) -> Option<Named<'t, 'a>>
         ensures { IfSome result (λ rest. (all : SpecMembers) × (as_object (data_of self.now) ≡ Some all) × HoldsMembers rest no_members all) }
     {
@@ -108,7 +108,7 @@ impl<'t, 'a> Tree<'t, 'a> {
     }
 }
 
-/// The items of an array, from one on to its end. Contracts see their tokens.
+/// The items of an array from a given one to its end. Contracts see their tokens.
 #[derive(Drop)]
 pub(crate) struct Trees<'t, 'a> {
     items: Items<'t, 'a>,
@@ -140,7 +140,7 @@ impl<'t, 'a> Trees<'t, 'a> {
     }
 }
 
-/// The members of an object, from one on to its end. Contracts see their tokens.
+/// The members of an object from a given one to its end. Contracts see their tokens.
 #[derive(Drop)]
 pub(crate) struct Named<'t, 'a> {
     members: Members<'t, 'a>,
@@ -161,7 +161,7 @@ impl<'t, 'a> Model for Named<'t, 'a> {
 }
 
 impl<'t, 'a> Named<'t, 'a> {
-    /// The next member: its name and its value. It is put into those before it, so that the last of a name stays.
+    /// The next member: its name and its value. It is put over those before it, so the last of a name stays.
     pub(crate) fn next(&mut self) -> Option<(&'a str, Tree<'t, 'a>)>
         ensures value { (before all : SpecMembers) → HoldsMembers self.old before all → MatchOption result (before ≡ all)
             (λ found. HoldsMembers self.new (put found.0.now (data_of found.1) before) all) }

@@ -1,12 +1,12 @@
-//! Short texts of numbers that take no memory (own rules): a text that the map desk's replies are written into, and numbers
-//! in decimal digits.
+//! Short texts that take no memory: the lines of the map desk's replies, which are written even where memory is short, and
+//! numbers in decimal digits.
 #![tactic(auto)]
+
+ghost use Rattle.std.specs.Prelude.{◌≡◌, ◌<◌, ◌≤◌, ◌+◌, [], ◌++◌, length, decimal};
 
 pub use digits::digits_value;
 
 mod digits;
-
-ghost use Rattle.std.specs.Prelude.{◌≡◌, ◌<◌, ◌≤◌, ◌+◌, [], ◌++◌, length, decimal};
 
 use itoa::Buffer;
 use std::marker::Model;
@@ -32,7 +32,7 @@ impl Model for DeskText {
 }
 
 impl DeskText {
-    /// The text of no bytes.
+    /// The empty text.
     pub fn new() -> DeskText
         ensures { result ≡ [] }
     {
@@ -42,7 +42,7 @@ impl DeskText {
         }
     }
 
-    /// Appends a part. The caller has: there is room for it.
+    /// Appends a part. The caller makes sure that there is room.
     pub fn push(&mut self, part: &[u8])
         requires { length self.old + length part.now ≤ 64 }
         ensures text { self.new ≡ self.old ++ part.now }
@@ -53,8 +53,8 @@ impl DeskText {
         self.len = end;
     }
 
-    /// Appends the decimal digits of a number: at most 20, and at most two of a number below 100. The caller has: there
-    /// is room for 20.
+    /// Appends the decimal digits of a number: at most 20, and at most two of a number below 100. The caller makes sure
+    /// that there is room for 20.
     pub fn push_number(&mut self, number: u64)
         requires { length self.old ≤ 44 }
         ensures digits { self.new ≡ self.old ++ decimal number }

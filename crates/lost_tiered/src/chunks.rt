@@ -7,10 +7,10 @@ ghost use Rattle.lost_tiered.specs.Chunks.{full, elements, AreFilled, LacksAt};
 use std::alloc::{AllocError, Global};
 use std::collections::VecDeque;
 
-/// How many elements a full chunk has.
+/// The number of elements in a full chunk.
 const FULL: usize = 512;
 
-/// The element at a position of the list, where there is one.
+/// The element at a position of the list, if there is one.
 pub(crate) fn get<T>(chunks: &[VecDeque<T>], position: usize) -> Option<&T>
     requires { AreFilled chunks.now }
     ensures { option_copied result ≡ slice_get (elements chunks.now) position }
@@ -21,7 +21,7 @@ pub(crate) fn get<T>(chunks: &[VecDeque<T>], position: usize) -> Option<&T>
     }
 }
 
-/// Puts an element behind all. Or want of memory, which changes nothing; the element is then dropped.
+/// Adds an element at the end. If memory is refused, nothing changes and the element is dropped.
 pub(crate) fn push<T: Drop>(
     chunks: &mut Vec<VecDeque<T>>,
     alloc: Global,
@@ -43,7 +43,7 @@ pub(crate) fn push<T: Drop>(
     Ok(())
 }
 
-/// Puts an element in the place of the one at a position of the list.
+/// Replaces the element at a position of the list.
 pub(crate) fn set<T: Drop>(chunks: &mut [VecDeque<T>], position: usize, element: T)
     requires filled { AreFilled chunks.old }
     requires within { position < length (elements chunks.old) }
@@ -53,7 +53,7 @@ pub(crate) fn set<T: Drop>(chunks: &mut [VecDeque<T>], position: usize, element:
     chunks[position / FULL][position % FULL] = element;
 }
 
-/// Takes the element at a position of the list out.
+/// Removes the element at a position of the list.
 pub(crate) fn remove<T: Drop>(chunks: &mut Vec<VecDeque<T>>, position: usize) -> T
     requires filled { AreFilled chunks.old.items }
     requires within { position < length (elements chunks.old.items) }
@@ -81,7 +81,7 @@ fn take_out<T>(chunks: &mut [VecDeque<T>], position: usize) -> T
     }
 }
 
-/// Moves one element from each later chunk to the one before, so that the last lacks what an earlier one lacked.
+/// Moves one element from each later chunk to the one before. Then the last chunk lacks the one that `row` lacked.
 fn close_up<T>(chunks: &mut [VecDeque<T>], row: usize)
     requires { LacksAt row chunks.old }
     ensures lacks { LacksAt (length chunks.new - 1) chunks.new }
@@ -92,7 +92,7 @@ fn close_up<T>(chunks: &mut [VecDeque<T>], row: usize)
     }
 }
 
-/// Moves the first element of the next chunk to the end of one that lacks one; the next then lacks one.
+/// Moves the first element of the next chunk to the end of one that lacks one. Then the next chunk lacks one.
 fn pull<T>(chunks: &mut [VecDeque<T>], row: usize)
     requires within { row + 1 < length chunks.old }
     requires lacks { LacksAt row chunks.old }
@@ -105,7 +105,7 @@ fn pull<T>(chunks: &mut [VecDeque<T>], row: usize)
     }
 }
 
-/// Takes the last chunk away if it is empty.
+/// Removes the last chunk if it is empty.
 fn drop_empty<T: Drop>(chunks: &mut Vec<VecDeque<T>>)
     requires { LacksAt (length chunks.old.items - 1) chunks.old.items }
     ensures filled { AreFilled chunks.new.items }

@@ -1,4 +1,4 @@
-//! Lists in chunks of one size. Rules without a section are this profile's own.
+//! Lists in chunks of one size.
 #![tactic(auto)]
 
 mod chunks;

@@ -8,8 +8,8 @@ use std::alloc::{AllocError, Global};
 use std::collections::VecDeque;
 use std::marker::Model;
 
-/// A list in chunks, all full but the last: a tiered vector. An element is found at once; one is taken out by moving the
-/// rest of its chunk and one element of each later chunk, and not all that stand behind it. Contracts see it as its list.
+/// A list in chunks, all full but the last: a tiered vector. An element is found at once. A removal moves only the rest
+/// of the chunk and one element of each later chunk. Contracts see it as its list.
 #[derive(Drop)]
 pub struct TieredVec<T> {
     alloc: Global,
@@ -40,21 +40,21 @@ impl<T> TieredVec<T> {
         }
     }
 
-    /// How many elements there are.
+    /// The number of elements.
     pub fn len(&self) -> usize
         ensures { result ≡ length self.now }
     {
         self.len
     }
 
-    /// The element at a position, where there is one.
+    /// The element at a position, if there is one.
     pub fn get(&self, position: usize) -> Option<&T>
         ensures { option_copied result ≡ slice_get self.now position }
     {
         chunks::get(&self.chunks, position)
     }
 
-    /// The element at a position that there is.
+    /// The element at a position below `len`.
     pub fn at(&self, position: usize) -> &T
         requires { position < length self.now }
         ensures { result.now ≡ slice_index_or self.now position result.now }
@@ -65,7 +65,7 @@ impl<T> TieredVec<T> {
         }
     }
 
-    /// Puts an element behind all. Or want of memory, which changes nothing; the element is then dropped.
+    /// Adds an element at the end. If memory is refused, nothing changes and the element is dropped.
     pub fn push(&mut self, element: T) -> Result<(), AllocError>
     where
         T: Drop,
@@ -80,7 +80,7 @@ impl<T> TieredVec<T> {
         Ok(())
     }
 
-    /// Puts an element in the place of the one at a position.
+    /// Replaces the element at a position.
     pub fn set(&mut self, position: usize, element: T)
     where
         T: Drop,
@@ -90,7 +90,7 @@ impl<T> TieredVec<T> {
         chunks::set(&mut self.chunks, position, element);
     }
 
-    /// Takes the element at a position out. It takes no memory.
+    /// Removes the element at a position. It takes no memory.
     pub fn remove(&mut self, position: usize) -> T
     where
         T: Drop,

@@ -1,4 +1,4 @@
-//! One label of a name that is joined by dots, as a service URN, in any case. Rules without a section are this profile's own.
+//! One label, in any case, of a name whose labels are joined by dots, such as a service URN.
 ghost use Rattle.std.specs.Prelude.{◌≡◌, ◌||◌};
 ghost use Rattle.std.specs.List.{list_all};
 ghost use Rattle.std.specs.Char.{to_ascii_lowercase};
@@ -13,7 +13,7 @@ const MAX_LEN: usize = 63;
 
 /// Refuses a label that is empty, has a byte other than ASCII letters, digits and hyphens, begins or ends with a
 /// hyphen, or has more than 63 bytes, in this order and in any case (RFC 5031, section 3; the length and the order are
-/// own rules). It takes no memory. The labels of other names that are joined by dots are checked by it too.
+/// own rules). It takes no memory, and checks the labels of sources too.
 #[tactic(auto, using(crate::proofs::LabelLemmas::lowering))]
 pub fn check_label(label: &[u8]) -> Result<(), UrnError>
     ensures { AnswersFault result (label_fault (lowered label.now)) }

@@ -1,5 +1,4 @@
 //! Laws that callers may rest on. Each function's contract is the law, and its body is empty.
-//! Rules without a section are this profile's own.
 ghost use Rattle.std.specs.Prelude.{◌≡◌, Ok, IsTrue};
 ghost use Rattle.std.specs.Ordering.{nat_cmp};
 ghost use Rattle.std.specs.Cmp.Lexicographic.{slice_cmp};

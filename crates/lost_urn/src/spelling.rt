@@ -1,5 +1,4 @@
 //! Which texts spell a service: the prefix, each label from the left, and the number of labels.
-//! Rules without a section are this profile's own.
 ghost use Rattle.std.specs.Prelude.{◌≡◌, ◌≢◌, ◌++◌, IfSome, IfNone, IfOk, IfErr, IsOkAnd, length};
 ghost use Rattle.lost_spec.specs.Text.{Text, lowered};
 ghost use Rattle.lost_spec.specs.Service.{labels_fault, urn_prefix, read_service};
@@ -32,7 +31,7 @@ fn strip_prefix(text: &[u8]) -> Option<&[u8]>
     ensures missing { IfNone result ((rest : Text) → lowered text.now ≢ urn_prefix ++ rest) }
 {
     let (front, labels) = text.split_at_checked(PREFIX.len())?;
-    // Mostly it is in lower case, which is seen at once.
+    // Mostly it is in lower case, which one comparison tells.
     if front == PREFIX.as_slice() || front.eq_ignore_ascii_case(PREFIX) {
         Some(labels)
     } else {

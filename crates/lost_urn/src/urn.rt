@@ -33,14 +33,14 @@ impl Model for ServiceUrn {
 
 impl ServiceUrn {
     /// Reads a service URN in any case (RFC 5031, section 3): `urn:service:` and then the labels with a dot between
-    /// each two. The first check that fails gives the refusal (own order): `Prefix`; then for each label from the
-    /// left `EmptyLabel`, `BadCharacter`, `HyphenAtEnd`, `LabelTooLong`; then `TooManyLabels`. `Memory` comes where
-    /// the text is one of a service and there is no memory to keep it: a refusal takes none.
+    /// each two. The first check that fails gives the refusal (own order): `Prefix`; then for each label from the left
+    /// `EmptyLabel`, `BadCharacter`, `HyphenAtEnd`, `LabelTooLong`; then `TooManyLabels`. `Memory` comes only where the
+    /// text spells a service.
     pub fn parse(alloc: Global, text: &[u8]) -> Result<ServiceUrn, UrnError>
         ensures ok { IfOk result (λ s. read_service text.now ≡ Ok s) }
         ensures err { IfErr result (λ e. e ≢ UrnError.Memory → read_service text.now ≡ Err e) }
 
-        // Want of memory comes in place of no refusal.
+        // Memory comes only after the checks.
         ensures refused { IsErr (read_service text.now) → result ≡ read_service text.now }
     {
         let depth = count_labels(text)?;
@@ -84,8 +84,8 @@ impl ServiceUrn {
         }
     }
 
-    /// The text of the service of the first labels, where their number is from 1 to the depth. It takes no memory, so a
-    /// service's chain is walked by it without making a text.
+    /// The text of the service of the first labels, where their number is from 1 to the depth. It takes no memory, so
+    /// walking a service's chain makes no text.
     pub fn front(&self, labels: usize) -> &str
         requires some { 1 ≤ labels }
         requires within { labels ≤ length self.now }
@@ -97,7 +97,7 @@ impl ServiceUrn {
         &text[..end]
     }
 
-    /// The service of the first `n` labels, where `n` is from 1 to the depth. Fails where there is no memory for it.
+    /// The service of the first `n` labels, where `n` is from 1 to the depth.
     pub fn cut(&self, n: usize) -> Result<ServiceUrn, AllocError>
         requires some { 1 ≤ n }
         requires within { n ≤ length self.now }
@@ -107,7 +107,7 @@ impl ServiceUrn {
         Ok(ServiceUrn { text, depth: n })
     }
 
-    /// The same service once more. Fails where there is no memory for it.
+    /// A copy.
     pub fn clone(&self) -> Result<ServiceUrn, AllocError>
         ensures { IfOk result (λ s. s ≡ self.now) }
     {

@@ -1,4 +1,4 @@
-//! The desk's replies. Rules without a section are this profile's own.
+//! The desk's replies.
 ghost use Rattle.std.specs.Prelude.{◌≡◌, ◌↔◌, IsTrue};
 ghost use Rattle.lost_writing.specs.DeskReplies.{desk_text, IsCode, IsInTable, refusal_name as refusal_name_of};
 ghost use Rattle.lost_writing.specs.PlainNames.{IsPlainName};
@@ -8,9 +8,9 @@ use lost_text::DeskText;
 /// A reply to a desk line (own format).
 #[derive(Clone, Copy, PartialEq, Eq, Debug)]
 pub enum DeskReply {
-    /// The edit is staged; so many edits are pending.
+    /// The edit is staged. Gives the number of pending edits.
     Staged(u64),
-    /// All pending edits are published; so many edits were accepted in all.
+    /// All pending edits are published. Gives the number of edits accepted in all.
     Committed(u64),
     /// The line is refused, with the number of the refusal.
     Refused(u8),
@@ -19,14 +19,14 @@ pub enum DeskReply {
 /// The greatest code of the table of refusals.
 const LAST_CODE: u8 = 22;
 
-/// Whether a number is that of a refusal of the table.
+/// Whether a number is a code of the table of refusals.
 pub fn is_code(code: u8) -> bool
     ensures { IsTrue result ↔ IsCode code }
 {
     code >= 1 && code <= LAST_CODE
 }
 
-/// The name of a refusal, which stands in JSON as it is. The caller has: its code is one of the table.
+/// The name of a refusal, which stands in JSON as it is. The code must be one of the table.
 #[tactic(auto, unfolding(serde_json::proofs::OnLiterals::serde_json_on_literals))]
 pub fn refusal_name(code: u8) -> &'static str
     requires { IsCode code }
@@ -95,7 +95,7 @@ fn write_refused(code: u8) -> DeskText
     text
 }
 
-/// Writes a desk's reply. The caller has: a refusal is one of the table.
+/// Writes a desk's reply. A refusal must be one of the table.
 pub fn write_desk(reply: &DeskReply) -> DeskText
     requires { IsInTable reply.now }
     ensures { result ≡ desk_text reply.now }

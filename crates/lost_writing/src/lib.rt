@@ -1,4 +1,4 @@
-//! Lines of replies (own format over RFC 5222): to requests, and to what the map desk orders.
+//! Writes the lines of replies (own format over RFC 5222): to requests, and to the map desk's lines.
 #![tactic(auto)]
 
 mod constant_lines;

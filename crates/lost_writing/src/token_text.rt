@@ -1,4 +1,4 @@
-//! A text of JSON that is written token by token. It takes memory only where it outgrows its room.
+//! A text of JSON that is written token by token. It takes memory only if it outgrows its room.
 ghost use Rattle.std.specs.Prelude.{◌≡◌, [], ◌∷◌, ◌++◌, IfOk, OnOk};
 ghost use Rattle.json.specs.Token.{begin_object, end_object, begin_array, end_array, key as key_token};
 ghost use Rattle.json.specs.Print.{print};
@@ -31,7 +31,7 @@ impl Model for TokenText {
 }
 
 impl TokenText {
-    /// The text of no tokens, with room for so many bytes.
+    /// The text of no tokens, with room for this many bytes.
     pub(crate) fn with_room(alloc: Global, bytes: usize) -> Result<TokenText, AllocError>
         ensures { IfOk result (λ text. text ≡ []) }
     {
@@ -42,12 +42,12 @@ impl TokenText {
         })
     }
 
-    /// What it takes memory from.
+    /// The allocator of the text.
     pub(crate) fn alloc(&self) -> Global {
         self.alloc
     }
 
-    /// The line of the text: what is printed for its tokens, and byte 10.
+    /// The line of the text: its tokens in print, and byte 10.
     pub(crate) fn into_line(self) -> Result<Vec<u8>, AllocError>
         ensures { IfOk result (λ line. line.items ≡ print self ++ 10 ∷ []) }
     {
@@ -89,7 +89,7 @@ impl TokenText {
         self.out.end_array()
     }
 
-    /// The name of a member, whose value comes next.
+    /// Writes the name of a member. Its value comes next.
     #[tactic(auto, unfolding(crate::specs::Tokens::then_token))]
     pub(crate) fn name(&mut self, name: &str) -> Result<(), AllocError>
         ensures { OnOk result (self.new ≡ then_token (key_token name.now) self.old) }
@@ -97,7 +97,7 @@ impl TokenText {
         self.out.key(name)
     }
 
-    /// A text.
+    /// Writes a text.
     #[tactic(auto, unfolding(crate::specs::Tokens::then_value))]
     pub(crate) fn text(&mut self, text: &str) -> Result<(), AllocError>
         ensures { OnOk result (self.new ≡ then_value (string text.now) self.old) }
@@ -105,7 +105,7 @@ impl TokenText {
         self.out.string(text)
     }
 
-    /// A count.
+    /// Writes a count.
     #[tactic(auto, unfolding(crate::specs::Tokens::then_value))]
     pub(crate) fn count(&mut self, count: u64) -> Result<(), AllocError>
         ensures { OnOk result (self.new ≡ then_value (number (unsigned count)) self.old) }
@@ -113,7 +113,7 @@ impl TokenText {
         self.out.u64(count)
     }
 
-    /// A whole number of either sign.
+    /// Writes a whole number of either sign.
     #[tactic(auto, unfolding(crate::specs::Tokens::then_value), using(crate::proofs::TokenLemmas::whole_text))]
     pub(crate) fn whole(&mut self, whole: i64) -> Result<(), AllocError>
         ensures { OnOk result (self.new ≡ then_value (number (of_integer whole)) self.old) }

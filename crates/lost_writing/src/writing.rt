@@ -15,10 +15,10 @@ use lost_message::Reply;
 use replies::write_tree;
 use std::alloc::{AllocError, Global};
 
-/// The room that a reply's line has at first, in bytes.
+/// The first room of a reply's line, in bytes.
 const ROOM: usize = 1_024;
 
-/// The line of a reply (RFC 5222, sections 8.4, 9 to 11 and 13; own format), its byte 10 too, or want of memory.
+/// The line of a reply with its byte 10 (RFC 5222, sections 8.4, 9 to 11 and 13; own format).
 #[tactic(auto, unfolding(crate::specs::Replies::reply_text), using(crate::proofs::TokenLemmas::value_printed))]
 pub fn write_reply(alloc: Global, reply: &Reply<'_>) -> Result<Vec<u8>, AllocError>
     ensures { IfOk result (λ line. line.items ≡ reply_text (reply_of reply.now)) }

@@ -1,4 +1,4 @@
-//! How edits change a book. Rules without a section are this profile's own.
+//! How edits change a book.
 ghost use Rattle.std.specs.Prelude.{◌≡◌, ◌≢◌, false, None, Some, IfErr, OnOk, OnErr};
 ghost use Rattle.lost_spec.specs.Book.{Publish, Replace, Withdraw, refusal, after};
 ghost use Rattle.lost_book.specs.Applied.{IsApplied, is_replacement};
@@ -12,13 +12,12 @@ use lost_message::Edit;
 use lost_spec::faults::EditError;
 
 impl Book {
-    /// Applies an edit: a publish appends and forgets the withdrawal of its identity, a replacement keeps the place, a
-    /// withdrawal closes up and is remembered, and the edition rises by one. A replacement takes no memory.
+    /// Applies an edit. A publish appends, and forgets the withdrawal of its identity. A replacement keeps the place
+    /// and takes no memory. A withdrawal removes the mapping and is remembered. The edition rises by one.
     ///
     /// # Errors
     ///
-    /// The refusal of [`Book::check`], and after it [`EditError::Memory`] for want of memory. The book is then
-    /// unchanged.
+    /// The refusal of [`Book::check`]; [`EditError::Memory`] only after that. The book is then unchanged.
     pub fn apply(&mut self, edit: Edit) -> Result<(), EditError>
         ensures accepted { OnOk result (refusal self.old (edit_of edit) ≡ None) }
         ensures changed { OnOk result (self.new ≡ after self.old (edit_of edit)) }

@@ -17,14 +17,15 @@ impl Book {
     ///
     /// # Errors
     ///
-    /// The first that applies, in this order: [`EditError::EditsSpent`] where as many edits as the limit were
-    /// accepted; [`EditError::IdentityHeld`] for a publish of an identity that is held; [`EditError::Withdrawn`] for a
-    /// publish of one that was withdrawn, where the stamp's instant is not after that of the withdrawal;
-    /// [`EditError::IdentityUnknown`] for another edit of one that is not held; [`EditError::NotNewer`] where the stamp's
-    /// instant is not after that of the mapping held; [`EditError::TracesFull`] for a withdrawal where as many withdrawn
-    /// identities as the limit are remembered; [`EditError::Full`] for a publish where as many mappings as the limit are
-    /// held; [`EditError::KeyHeld`] where another mapping has the key; [`EditError::KeyUnchanged`] for a replacement with
-    /// other regions and the same key (RFC 5222, section 5.6). A mapping that is held counts whether it is live or not.
+    /// The first that applies, in this order: [`EditError::EditsSpent`] where as many edits as the limit were accepted;
+    /// [`EditError::IdentityHeld`] for a publish of an identity that is held; [`EditError::Withdrawn`] for a publish of
+    /// one that was withdrawn, where the stamp's instant is not after that of the withdrawal;
+    /// [`EditError::IdentityUnknown`] for another edit of one that is not held; [`EditError::NotNewer`] where the
+    /// stamp's instant is not after that of the mapping held; [`EditError::TracesFull`] for a withdrawal where as many
+    /// withdrawn identities as the limit are remembered; [`EditError::Full`] for a publish where as many mappings as
+    /// the limit are held; [`EditError::KeyHeld`] where another mapping has the key; [`EditError::KeyUnchanged`] for a
+    /// replacement with other regions and the same key (RFC 5222, section 5.6). A mapping that is held counts whether
+    /// it is live or not.
     pub fn check(&self, edit: &Edit) -> Result<(), EditError>
         ensures { result_err result ≡ refusal self.now (edit_of edit.now) }
     {

@@ -1,5 +1,4 @@
-//! The questions that a book is asked, each answered by a scan of the list. Lists are of positions, rising.
-//! Rules without a section are this profile's own.
+//! The queries of a book, each answered by a scan of the list. Results are lists of positions, rising.
 ghost use Rattle.std.specs.Prelude.{◌≡◌, Bool, None, IfOk, MatchOption, position, slice_get};
 ghost use Rattle.std.specs.Fn.{FnReturnsAt};
 ghost use Rattle.lost_spec.specs.Mapping as spec;
@@ -17,8 +16,7 @@ use lost_urn::ServiceUrn;
 use std::alloc::{AllocError, Global};
 
 impl Book {
-    /// The mappings that are live, are no defaults, have this service and hold the point (RFC 5222, section 8), or want
-    /// of memory.
+    /// The mappings that are live, are no defaults, have this service and hold the point (RFC 5222, section 8).
     pub fn at_point(
         &self,
         moment: &Moment,
@@ -33,8 +31,7 @@ impl Book {
         })
     }
 
-    /// The mappings that are live, are no defaults, have this service and hold the address (RFC 5222, section 8), or
-    /// want of memory.
+    /// The mappings that are live, are no defaults, have this service and hold the address (RFC 5222, section 8).
     pub fn at_address(
         &self,
         moment: &Moment,
@@ -51,7 +48,7 @@ impl Book {
         })
     }
 
-    /// The mappings that are live, are no defaults and hold the point (RFC 5222, section 11), or want of memory.
+    /// The mappings that are live, are no defaults and hold the point (RFC 5222, section 11).
     pub fn holding_point(&self, moment: &Moment, point: &GeoPoint) -> Result<Vec<usize>, AllocError>
         ensures { IfOk result (λ found.
             found.items ≡ positions (is_holding moment.now (AtPoint point.now)) self.now.mappings) }
@@ -61,7 +58,7 @@ impl Book {
         })
     }
 
-    /// The mappings that are live, are no defaults and hold the address (RFC 5222, section 11), or want of memory.
+    /// The mappings that are live, are no defaults and hold the address (RFC 5222, section 11).
     pub fn holding_address(
         &self,
         moment: &Moment,
@@ -75,7 +72,7 @@ impl Book {
         })
     }
 
-    /// The defaults that are live and have this service, or want of memory.
+    /// The defaults that are live and have this service.
     pub fn defaults(&self, moment: &Moment, service: &ServiceUrn) -> Result<Vec<usize>, AllocError>
         ensures { IfOk result (λ found.
             found.items ≡ positions (is_standby moment.now service.now) self.now.mappings) }
@@ -85,8 +82,7 @@ impl Book {
         })
     }
 
-    /// The mappings that are live and have this service, defaults too (RFC 5222, section 8.4.2; own rule), or want of
-    /// memory.
+    /// The mappings that are live and have this service, defaults too (RFC 5222, section 8.4.2; own rule).
     pub fn of_service(
         &self,
         moment: &Moment,
@@ -102,7 +98,7 @@ impl Book {
         )
     }
 
-    /// Where the mappings stand that pass a test, or want of memory.
+    /// The positions of the mappings that pass a test.
     pub fn positions<F: Fn(&Mapping) -> bool>(&self, passes: F) -> Result<Vec<usize>, AllocError>
         requires { F.IsAlwaysCallable passes }
         ensures { (test : spec.Mapping → Bool) → ((m : spec.Mapping) (r : Bool) → FnReturnsAt F.Fn passes m r → r ≡ test m)
@@ -111,7 +107,7 @@ impl Book {
         positions_of(self.mappings(), self.alloc(), passes)
     }
 
-    /// The first mapping that is live and has this key (RFC 5222, section 9; keys are an own rule).
+    /// The position of the first mapping that is live and has this key (RFC 5222, section 9; keys are an own rule).
     pub fn by_key(&self, moment: &Moment, key: &str) -> Option<usize>
         ensures position { result ≡ position (has_live_key moment.now key.now) self.now.mappings }
         ensures mapping { MatchOption result (by_key self.now moment.now key.now ≡ None)
@@ -131,7 +127,7 @@ impl Book {
     }
 }
 
-/// Where the mappings stand that pass a test, or want of memory.
+/// The positions of the mappings that pass a test.
 fn positions_of<F: Fn(&Mapping) -> bool>(
     mappings: &[Mapping],
     alloc: Global,

@@ -10,8 +10,7 @@ use std::collections::BTreeSet;
 use std::marker::Model;
 
 /// The services just below one, or the topmost, on the way to services that are added one after another (RFC 5222,
-/// section 10). They come out in the order of their texts, each once, in whatever order and however often the services
-/// were added.
+/// section 10). They come out in the order of their texts, each once. The order and number of additions do not matter.
 #[derive(Drop)]
 pub struct Children<'a> {
     above: Option<&'a ServiceUrn>,
@@ -30,7 +29,7 @@ impl<'a> Model for Children<'a> {
 }
 
 impl<'a> Children<'a> {
-    /// No children yet, of this service or without one the topmost.
+    /// No children yet of this service, or of the top if there is none.
     pub fn new(alloc: Global, above: Option<&'a ServiceUrn>) -> Children<'a>
         ensures { result ≡ no_children (option_copied above.entry) }
     {
@@ -40,12 +39,11 @@ impl<'a> Children<'a> {
         }
     }
 
-    /// Puts in the child on the way to a service, unless there is none or it is there. Fails where there is no memory
-    /// for it.
+    /// Adds the child on the way to a service, unless there is none or it is already there.
     pub fn add(&mut self, service: &ServiceUrn) -> Result<(), AllocError>
         ensures child { OnOk result (self.new ≡ with_child_to service.now self.old) }
 
-        // What is added is a service, as a list of what was added has to show.
+        // What is added is a service: a list of added services has to show that.
         ensures well_formed { OnOk result (IsTrue (is_service service.now)) }
     {
         // Shows to the proof that the labels make a service.
@@ -56,7 +54,7 @@ impl<'a> Children<'a> {
         Ok(())
     }
 
-    /// The children, in the order of their texts, or want of memory.
+    /// The children, in the order of their texts.
     pub fn into_list(self, alloc: Global) -> Result<Vec<ServiceUrn>, AllocError>
         ensures { IfOk result (λ services. services.items ≡ self.entry.found) }
     {
@@ -64,7 +62,7 @@ impl<'a> Children<'a> {
     }
 }
 
-/// The service just below one, or the topmost, on the way to a service (RFC 5222, section 10), or want of memory.
+/// The service just below one, or the topmost, on the way to a service (RFC 5222, section 10).
 fn child(above: Option<&ServiceUrn>, service: &ServiceUrn) -> Result<Option<ServiceUrn>, AllocError>
     ensures child { IfOk result (λ found. found ≡ child (option_copied above.entry) service.now) }
     ensures service { IfOk result (λ found. IfSome found (λ s. IsTrue (is_service s))) }

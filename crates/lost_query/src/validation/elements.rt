@@ -19,7 +19,7 @@ fn stands_in(address: &CivicAddress, element: Element) -> bool
     address.text(element).is_some()
 }
 
-/// The elements that stand in an address, in the order of the table, or want of memory.
+/// The elements that stand in an address, in the order of the table.
 pub(super) fn elements_of(alloc: Global, address: &CivicAddress) -> Result<Vec<Element>, AllocError>
     ensures { IfOk result (λ elements. elements.items ≡ filter (stands_in address.now) all_elements) }
 {
@@ -30,7 +30,7 @@ pub(super) fn elements_of(alloc: Global, address: &CivicAddress) -> Result<Vec<E
         .collect(alloc)
 }
 
-/// The elements that pass a test, and those that fail, in their order, or want of memory.
+/// The elements that pass a test, and those that fail, in their order.
 pub(super) fn part<F: Fn(&Element) -> bool>(
     alloc: Global,
     elements: &[Element],
@@ -54,7 +54,7 @@ pub(super) fn part<F: Fn(&Element) -> bool>(
     Ok((passing, failing))
 }
 
-/// The names of elements, or want of memory.
+/// The names of elements.
 pub(super) fn names_of(alloc: Global, elements: &[Element]) -> Result<Vec<String>, AllocError>
     ensures { IfOk result (λ names. texts_of names.items ≡ map element_name elements.now) }
 {
@@ -65,7 +65,7 @@ pub(super) fn names_of(alloc: Global, elements: &[Element]) -> Result<Vec<String
     Ok(names)
 }
 
-/// The names in an address that are of no element, ascending by bytes, each once (own order), or want of memory.
+/// The names in an address that are of no element, ascending by bytes, each once (own order).
 pub(super) fn unknown_names(
     alloc: Global,
     address: &CivicAddress,
@@ -81,7 +81,7 @@ pub(super) fn unknown_names(
     Ok(names)
 }
 
-/// Puts names behind others, or gives want of memory.
+/// Adds names at the end.
 pub(super) fn append(names: &mut Vec<String>, others: BTreeSet<String>) -> Result<(), AllocError>
     ensures { OnOk result (names.new.items ≡ names.old.items ++ others.keys) }
 {

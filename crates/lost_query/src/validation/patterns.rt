@@ -1,4 +1,4 @@
-//! What patterns say of the elements of an address.
+//! What patterns tell about the elements of an address.
 ghost use Rattle.std.specs.Prelude.{◌≡◌, ◌++◌, None, Bool, IfOk, OnOk, filter, map};
 ghost use Rattle.std.specs.List.{AllByRecursion, list_any};
 ghost use Rattle.std.specs.Fn.{FnReturnsAt};
@@ -78,7 +78,7 @@ pub fn refers(mapping: &Mapping, address: &CivicAddress, elements: &[Element]) -
         .any(|pattern| is_reference(pattern, address, elements))
 }
 
-/// Puts the patterns of a mapping that pass a test behind others, or gives want of memory.
+/// Adds the patterns of a mapping that pass a test at the end.
 fn add_patterns<'a, F: Fn(&CivicPattern) -> bool>(
     patterns: &mut Vec<&'a CivicPattern>,
     mapping: &'a Mapping,
@@ -100,7 +100,7 @@ fn add_patterns<'a, F: Fn(&CivicPattern) -> bool>(
     Ok(())
 }
 
-/// The patterns of found mappings that match an address (RFC 5222, section 8.4.2), or want of memory.
+/// The patterns of found mappings that match an address (RFC 5222, section 8.4.2).
 pub(super) fn matching_patterns<'a>(
     alloc: Global,
     found: &'a Found,
@@ -123,7 +123,7 @@ pub(super) fn matching_patterns<'a>(
 }
 
 /// The patterns of the live mappings of a service, defaults too, that name each valid element with the address's
-/// comparison text (own policy), or want of memory.
+/// comparison text (own policy).
 pub(super) fn reference_patterns<'a, H: Holdings>(
     alloc: Global,
     holdings: &'a H,

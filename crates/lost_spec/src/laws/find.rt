@@ -2,12 +2,13 @@
 
 ghost use Rattle.lost_spec.specs.FindLaws.{FoundIsThere, NothingWhereNothingIs, NothingUnlessImplemented, ImplementedMeansHere, HereMeansImplemented, EditsElsewhereDoNotMatter};
 
-/// What is found is live, has a service of the chain, and holds the place or is a default, and it is all that does so from the longest service that has any.
+/// The mappings found are all live holders of the place for the longest service of the chain that has one. Where there
+/// is no holder, they are all live defaults of the longest service that has one.
 pub fn found_is_there()
     ensures { FoundIsThere }
 {}
 
-/// Where no live mapping of the chain holds the place and no default stands by, nothing is found.
+/// Where no live mapping of the chain holds the place or is a default, nothing is found.
 pub fn nothing_where_nothing_is()
     ensures { NothingWhereNothingIs }
 {}
@@ -27,7 +28,7 @@ pub fn here_means_implemented()
     ensures { HereMeansImplemented }
 {}
 
-/// An edit of mappings with no service of the chain changes no answer to findService but its edition.
+/// An edit of mappings with no service of the chain changes nothing but the edition in an answer to findService.
 pub fn edits_elsewhere_do_not_matter()
     ensures { EditsElsewhereDoNotMatter }
 {}

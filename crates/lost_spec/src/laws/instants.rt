@@ -2,7 +2,7 @@
 
 ghost use Rattle.lost_spec.specs.MomentLaws.{InstantsAreOrdered};
 
-/// Of two instants one is earlier, or they are one; none is earlier than itself; what is earlier than an earlier one is earlier.
+/// Of two instants one is earlier, or they are equal. None is earlier than itself, and "earlier" is transitive.
 pub fn instants_are_ordered()
     ensures { InstantsAreOrdered }
 {}

@@ -12,12 +12,14 @@ pub fn all_services_are_children()
     ensures { AllServicesAreChildren }
 {}
 
-/// A service is listed at a place exactly where some live mapping, no default, holds the place and has a service that begins with it, and it is what was asked and one label more.
+/// A service is listed at a place exactly where it is what was asked and one label more, and some live mapping, no
+/// default, holds the place and has a service that begins with it.
 pub fn services_are_there()
     ensures { ServicesAreThere }
 {}
 
-/// A service is listed anywhere exactly where some live mapping has a service that begins with it, and it is what was asked and one label more.
+/// A service is listed anywhere exactly where it is what was asked and one label more, and some live mapping has a
+/// service that begins with it.
 pub fn all_services_are_there()
     ensures { AllServicesAreThere }
 {}
@@ -27,7 +29,7 @@ pub fn validation_covers_the_address()
     ensures { ValidationCoversTheAddress }
 {}
 
-/// The positions of the mappings that pass a test rise, and what stands there is what passes, in order.
+/// The positions of the mappings that pass a test rise, and at them stand those mappings, in order.
 pub fn positions_are_where_it_passes()
     ensures { PositionsAreWhereItPasses }
 {}

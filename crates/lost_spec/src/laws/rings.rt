@@ -2,7 +2,7 @@
 
 ghost use Rattle.lost_spec.specs.RingLaws.{VertexOnAnEdgeChangesNothing};
 
-/// An edge crosses at a point just where one of the two parts does into which a vertex on the edge cuts it.
+/// Where a vertex cuts an edge in two, the edge crosses at a point exactly where one of the two parts does.
 pub fn vertex_on_an_edge_changes_nothing()
     ensures { VertexOnAnEdgeChangesNothing }
 {}

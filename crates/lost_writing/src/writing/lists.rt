@@ -11,14 +11,14 @@ use lost_message::Path;
 use std::alloc::AllocError;
 use std::borrow::CowStr;
 
-/// What is written as a tree (own format).
+/// A thing that is written as a tree (own format).
 pub(crate) trait Written {
     ghost use Rattle.serde_json.specs.Data.{Data};
 
-    /// The tree that it is written as.
+    /// The tree of a thing.
     ghost tree: { Self → Data };
 
-    /// Writes its tokens, or wants memory.
+    /// Writes the tokens of the tree.
     fn write(&self, text: &mut TokenText) -> Result<(), AllocError>
         ensures { OnOk result (text.new ≡ then_value (tree self.now) text.old) };
 }

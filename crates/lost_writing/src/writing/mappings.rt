@@ -30,7 +30,7 @@ impl Written for DisplayName {
     }
 }
 
-/// Writes the display names of a mapping, where it has any (RFC 5222, section 5.3).
+/// Writes the display names of a mapping, if it has any (RFC 5222, section 5.3).
 fn names_member(text: &mut TokenText, mapping: &Mapping) -> Result<(), AllocError>
     ensures { OnOk result
         (text.new ≡ then_member_if (codes "displayName") (display_names_data mapping.now.display_names) text.old) }
@@ -38,7 +38,7 @@ fn names_member(text: &mut TokenText, mapping: &Mapping) -> Result<(), AllocErro
     list_member_if_any(text, "displayName", mapping.display_names())
 }
 
-/// The text that tells until when a mapping holds (RFC 5222, section 5.2).
+/// The text that says until when a mapping holds (RFC 5222, section 5.2).
 fn expires_text(expires: &Expires) -> &str
     ensures { result.now ≡ text_of_expires (expires_seen expires.now) }
 {
@@ -88,7 +88,7 @@ fn source_id_member(text: &mut TokenText, mapping: &Mapping) -> Result<(), Alloc
     text_member(text, "sourceId", mapping.identity().source_id())
 }
 
-/// Writes where the service is reached (RFC 5222, section 5.8).
+/// Writes the URIs of the service (RFC 5222, section 5.8).
 fn uris_member(text: &mut TokenText, mapping: &Mapping) -> Result<(), AllocError>
     ensures { OnOk result
         (text.new ≡ then_member (codes "uri") (texts_data mapping.now.uris) text.old) }
@@ -96,7 +96,7 @@ fn uris_member(text: &mut TokenText, mapping: &Mapping) -> Result<(), AllocError
     texts_member(text, "uri", mapping.uris())
 }
 
-/// Writes the boundary by value, where it is shown so (RFC 5222, section 5.5).
+/// Writes the boundary by value, if it is shown so (RFC 5222, section 5.5).
 fn boundary_member(
     text: &mut TokenText,
     mapping: &Mapping,
@@ -123,7 +123,7 @@ fn write_key(text: &mut TokenText, key: &str, source: &str) -> Result<(), AllocE
     text.end_object()
 }
 
-/// Writes the key of a mapping and its source, where the mapping has a key (RFC 5222, section 5.6).
+/// Writes the key of a mapping and its source, if the mapping has a key (RFC 5222, section 5.6).
 fn key_member(text: &mut TokenText, mapping: &Mapping) -> Result<(), AllocError>
     ensures { OnOk result (text.new ≡ then_member_if (codes "serviceBoundaryReference")
         (reference_data (reference_of mapping.now.key mapping.now.source)) text.old) }
@@ -137,7 +137,7 @@ fn key_member(text: &mut TokenText, mapping: &Mapping) -> Result<(), AllocError>
     }
 }
 
-/// Writes the boundary by reference, where it is shown so (RFC 5222, section 5.6).
+/// Writes the boundary by reference, if it is shown so (RFC 5222, section 5.6).
 fn reference_member(
     text: &mut TokenText,
     mapping: &Mapping,
@@ -153,7 +153,7 @@ fn reference_member(
     }
 }
 
-/// Writes the number to dial, where there is one (RFC 5222, section 5.7).
+/// Writes the number to dial, if there is one (RFC 5222, section 5.7).
 fn number_member(text: &mut TokenText, mapping: &Mapping) -> Result<(), AllocError>
     ensures { OnOk result
         (text.new ≡ then_member_if (codes "serviceNumber") (option_map string mapping.now.number) text.old) }
@@ -164,7 +164,7 @@ fn number_member(text: &mut TokenText, mapping: &Mapping) -> Result<(), AllocErr
     }
 }
 
-/// Writes the boundary of a mapping by value or by reference, and none where it is a default (RFC 5222, section 8.3.4).
+/// Writes the boundary of a mapping by value or by reference, and none for a default (RFC 5222, section 8.3.4).
 fn shown_members(
     text: &mut TokenText,
     mapping: &Mapping,
@@ -181,7 +181,7 @@ fn shown_members(
     reference_member(text, mapping, boundary)
 }
 
-/// Writes a mapping with the boundary of this kind, and none where it is a default (RFC 5222, section 8.4.1).
+/// Writes a mapping with the boundary of this kind, and none for a default (RFC 5222, section 8.4.1).
 fn write_mapping(
     text: &mut TokenText,
     mapping: &Mapping,
@@ -218,7 +218,7 @@ fn write_mappings(
     Ok(())
 }
 
-/// Writes the list of the mappings that were found (RFC 5222, section 8.4).
+/// Writes the list of the mappings found (RFC 5222, section 8.4).
 pub(crate) fn write_found_mappings(
     text: &mut TokenText,
     found: &FoundMappings,

@@ -12,7 +12,7 @@ use crate::writing::lists::{Written, write_list, write_path, write_texts};
 use lost_message::Path;
 use std::alloc::AllocError;
 
-/// Writes a text at a name.
+/// Writes a text under a name.
 pub(crate) fn text_member(text: &mut TokenText, name: &str, value: &str) -> Result<(), AllocError>
     ensures { OnOk result (text.new ≡ then_member name.now (string value.now) text.old) }
 {
@@ -20,7 +20,7 @@ pub(crate) fn text_member(text: &mut TokenText, name: &str, value: &str) -> Resu
     text.text(value)
 }
 
-/// Writes a count at a name.
+/// Writes a count under a name.
 pub(crate) fn count_member(text: &mut TokenText, name: &str, count: u64) -> Result<(), AllocError>
     ensures { OnOk result (text.new ≡ then_member name.now (number (unsigned count)) text.old) }
 {
@@ -28,7 +28,7 @@ pub(crate) fn count_member(text: &mut TokenText, name: &str, count: u64) -> Resu
     text.count(count)
 }
 
-/// Writes texts at a name.
+/// Writes texts under a name.
 pub(crate) fn texts_member(
     text: &mut TokenText,
     name: &str,
@@ -48,7 +48,7 @@ pub(crate) fn path_member(text: &mut TokenText, path: &Path<'_>) -> Result<(), A
     write_path(text, path)
 }
 
-/// Writes a list of things at a name.
+/// Writes a list of things under a name.
 pub(crate) fn list_member<T: Written>(
     text: &mut TokenText,
     name: &str,
@@ -60,7 +60,7 @@ pub(crate) fn list_member<T: Written>(
     write_list(text, things)
 }
 
-/// Writes a list of things at a name, where there are any.
+/// Writes a list of things under a name, if there are any.
 pub(crate) fn list_member_if_any<T: Written>(
     text: &mut TokenText,
     name: &str,

@@ -48,7 +48,7 @@ fn by_name(alloc: Global, pairs: &[(String, String)]) -> Result<BTreeMap<&str, &
     Ok(named)
 }
 
-/// Writes the members of pairs that stand by their names, without the brackets of an object.
+/// Writes the members of pairs by their names, without the brackets of an object.
 fn write_named(text: &mut TokenText, named: &BTreeMap<&str, &str>) -> Result<(), AllocError>
     ensures { OnOk result (text.new ≡ then_members (named_members named.now.entries) text.old) }
 {

@@ -51,7 +51,7 @@ fn write_validation(text: &mut TokenText, judged: &Validation) -> Result<(), All
     text.end_object()
 }
 
-/// Writes how an address was judged, where it was.
+/// Writes how an address was judged, if it was.
 fn validation_member(text: &mut TokenText, judged: &Option<Validation>) -> Result<(), AllocError>
     ensures { OnOk result (text.new ≡ then_member_if (codes "locationValidation")
         (option_map validation_data (option_map validation_of judged.now)) text.old) }
@@ -65,7 +65,7 @@ fn validation_member(text: &mut TokenText, judged: &Option<Validation>) -> Resul
     }
 }
 
-/// Writes the warnings, where there are any (RFC 5222, section 13.2).
+/// Writes the warnings, if there are any (RFC 5222, section 13.2).
 fn warnings_member(text: &mut TokenText, warnings: &[Warning]) -> Result<(), AllocError>
     ensures { OnOk result
         (text.new ≡ then_member_if (codes "warnings") (warnings_data warnings.now) text.old) }
@@ -90,7 +90,7 @@ fn services_member(text: &mut TokenText, services: &[ServiceUrn]) -> Result<(), 
     list_member(text, "serviceList", services)
 }
 
-/// Opens an object with one member that is an object, of this name.
+/// Opens an object whose one member has this name and is an object.
 fn begin(text: &mut TokenText, name: &str) -> Result<(), AllocError>
     ensures { OnOk result (text.new ≡ then_begun name.now text.old) }
 {
@@ -107,7 +107,7 @@ fn end(text: &mut TokenText) -> Result<(), AllocError>
     text.end_object()
 }
 
-/// Writes the mappings that were found (RFC 5222, section 8.4).
+/// Writes the reply with the mappings found (RFC 5222, section 8.4).
 fn write_found(
     text: &mut TokenText,
     edition: u64,
@@ -207,7 +207,7 @@ fn write_error(text: &mut TokenText, name: &str) -> Result<(), AllocError>
     end(text)
 }
 
-/// Writes a reply (RFC 5222, sections 8.4, 9 to 11 and 13; own format), or wants memory.
+/// Writes a reply (RFC 5222, sections 8.4, 9 to 11 and 13; own format).
 pub(crate) fn write_tree(text: &mut TokenText, reply: &Reply<'_>) -> Result<(), AllocError>
     ensures { OnOk result (text.new ≡ then_value (reply_data (reply_of reply.now)) text.old) }
 {
