@@ -1,5 +1,5 @@
 -- Positions as decimal text, row by row. (Own.)
-use Rattle.std.specs.Prelude.{◌≡◌, ℤ, Option, Some, None, [], ◌∷◌, ◌++◌, pos, negsuc, codes}
+use Rattle.std.specs.Prelude.{◌≡◌, Some, None, [], ◌∷◌, ◌++◌, pos, negsuc, codes}
 use Rattle.lost_spec.specs.Decimal.{decimal}
 
 -- signs, digits behind the point that are filled up to seven, spaces, and numbers that are in no range
