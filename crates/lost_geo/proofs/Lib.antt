@@ -1,3 +1,4 @@
+pub mod DecimalLemmas
 mod Differences
 mod Parity
 mod Walk

@@ -2,7 +2,7 @@
 ghost use Rattle.std.specs.Prelude.{◌≡◌, ◌+◌, ◌*◌, ◌^◌, ◌-◌, ◌<◌, ◌≤◌, not, IfSome, IsTrue, pos, length, option_map};
 ghost use Rattle.std.specs.List.{list_all, prefix_len};
 ghost use Rattle.lost_spec.specs.Text.{is_digit};
-ghost use Rattle.lost_spec.specs.Decimal.{decimal, is_space, is_word_byte, are_decimals, decimals_value, read_decimals, read_unsigned, read_number};
+ghost use Rattle.lost_spec.specs.Decimal.{decimal, is_space, is_word_byte, front, behind, are_decimals, decimals_value, read_decimals, read_unsigned, read_number};
 
 use crate::point::GeoPoint;
 use lost_text::digits_value;
@@ -24,30 +24,53 @@ impl GeoPoint {
     pub fn decimal(text: &[u8]) -> Option<(i64, i64)>
         ensures { result ≡ decimal text.now }
     {
-        let (first, rest) = text.split_at(word_len(text));
-        let lat = read_number(first)?;
-        let lon = read_number(&rest[spaces_len(rest)..])?;
+        let lat = read_number(word(text))?;
+        let lon = read_number(after_spaces(after_word(text)))?;
         Some((lat, lon))
     }
 }
 
+/// The text before its first space.
+fn word(text: &[u8]) -> &[u8]
+    ensures { result.now ≡ front is_word_byte text.now }
+{
+    &text[..word_len(text)]
+}
+
+/// The text from its first space on.
+fn after_word(text: &[u8]) -> &[u8]
+    ensures { result.now ≡ behind is_word_byte text.now }
+{
+    &text[word_len(text)..]
+}
+
 /// How many bytes stand before the first space.
 fn word_len(text: &[u8]) -> usize
-    ensures { result ≡ prefix_len is_word_byte text.now }
+    ensures value { result ≡ prefix_len is_word_byte text.now }
+    ensures within { result ≤ length text.now }
 {
     text.iter().take_while(|byte| **byte != b' ').count()
 }
 
+/// The text behind the spaces that it begins with.
+fn after_spaces(text: &[u8]) -> &[u8]
+    ensures { result.now ≡ behind is_space text.now }
+{
+    &text[spaces_len(text)..]
+}
+
 /// How many spaces a text begins with.
 fn spaces_len(text: &[u8]) -> usize
-    ensures { result ≡ prefix_len is_space text.now }
+    ensures value { result ≡ prefix_len is_space text.now }
+    ensures within { result ≤ length text.now }
 {
     text.iter().take_while(|byte| **byte == b' ').count()
 }
 
 /// How many digits a text begins with.
 fn digits_len(text: &[u8]) -> usize
-    ensures { result ≡ prefix_len is_digit text.now }
+    ensures value { result ≡ prefix_len is_digit text.now }
+    ensures within { result ≤ length text.now }
 {
     text.iter().take_while(|byte| byte.is_ascii_digit()).count()
 }
@@ -69,11 +92,12 @@ fn read_unsigned(text: &[u8]) -> Option<u64>
     ensures value { result ≡ read_unsigned text.now }
     ensures small { IfSome result (λ units. units < 1_000_000_000_000) }
 {
-    let (degrees, rest) = text.split_at(digits_len(text));
-    if degrees.is_empty() || degrees.len() > MAX_DEGREE_DIGITS {
+    let end = digits_len(text);
+    if end == 0 || end > MAX_DEGREE_DIGITS {
         return None;
     }
-    Some(digits_value(degrees) * UNITS_OF_A_DEGREE + read_decimals(rest)?)
+    let decimals = read_decimals(&text[end..])?;
+    Some(digits_value(&text[..end]) * UNITS_OF_A_DEGREE + decimals)
 }
 
 /// The units that stand behind the whole degrees.
