@@ -1,4 +1,4 @@
-//! How the lines of a burst are answered. Rules without a section are this profile's own.
+//! How the lines of a burst are answered.
 ghost use Rattle.std.specs.Prelude.{◌≡◌, ◌≢◌, List, ℕ, [], ◌∷◌, ◌++◌, All, OnOk, OnErr};
 ghost use Rattle.lost_lines.specs.Cutting.{newline, lines_of};
 ghost use Rattle.lost_worker.specs.Lines.{HasSeenMore};

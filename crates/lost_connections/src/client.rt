@@ -1,4 +1,4 @@
-//! A connection that is served as its bytes come. Rules without a section are this profile's own.
+//! A connection that is served as its bytes come.
 ghost use Rattle.std.specs.Prelude.{◌≡◌, ◌<◌, true, List, ℕ, [], Ok, length, IfOk, OnOk, OnErr};
 ghost use Rattle.std.specs.Io.KnownBytes.{Consumes};
 ghost use Rattle.lost_worker.specs.Lines.{HasSeenMore};

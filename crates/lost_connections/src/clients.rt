@@ -1,4 +1,4 @@
-//! The connections of one worker. Rules without a section are this profile's own.
+//! The connections of one worker.
 ghost use Rattle.std.specs.Prelude.{◌≡◌, ◌≢◌, ◌<◌, ℕ, None, length};
 ghost use Rattle.slab.specs.Slab.{get};
 ghost use Rattle.lost_worker.specs.Lines.{HasSeenMore};

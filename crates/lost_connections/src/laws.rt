@@ -1,4 +1,4 @@
-//! What the bursts of a connection come to. Rules without a section are this profile's own.
+//! What the bursts of a connection come to.
 ghost use Rattle.lost_connections.specs.Laws.{BurstIsStream, BurstsAreStream};
 
 /// One burst of a connection is a stream of lines and replies.

@@ -1,4 +1,4 @@
-//! The replies of a connection that its output did not take yet. Rules without a section are this profile's own.
+//! The replies of a connection that its output did not take yet.
 ghost use Rattle.std.specs.Prelude.{◌≡◌, ◌≤◌, ◌==◌, [], Some, length, take, IfOk, OnErr};
 ghost use Rattle.std.specs.Io.{WritesAtMost};
 ghost use Rattle.std.specs.Io.KnownBytes.{Appends, Keeps, WriteAppends};

@@ -1,4 +1,4 @@
-//! How connections are accepted until a server is over. Rules without a section are this profile's own.
+//! How connections are accepted until a server is over.
 use lost_sockets::{Listener, Peer, Stream};
 use std::io::ErrorKind;
 use std::sync::Wait;

@@ -1,4 +1,4 @@
-//! How many connections there may be, in all and of one address. Rules without a section are this profile's own.
+//! How many connections there may be, in all and of one address.
 ghost use Rattle.std.specs.Prelude.{◌≡◌, ◌+◌, ◌-◌, ◌<◌, ◌≤◌, true, if◌then◌else◌};
 
 use std::alloc::Global;

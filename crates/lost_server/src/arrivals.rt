@@ -1,4 +1,4 @@
-//! How connections come to the workers that watch them. Rules without a section are this profile's own.
+//! How connections come to the workers that watch them.
 ghost use Rattle.std.specs.Prelude.{◌≡◌, ◌≢◌, Err};
 
 use crate::hall::Hall;

@@ -1,4 +1,4 @@
-//! The moments of the machine's clock. Rules without a section are this profile's own.
+//! The moments of the machine's clock.
 ghost use Rattle.std.specs.Prelude.{◌≡◌, ◌≤◌, ◌/◌, ◌%◌, ◌^◌, ◌↔◌, pos, IfSome, IsNone};
 ghost use Rattle.std.specs.Duration.{as_nanos};
 

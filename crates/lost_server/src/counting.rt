@@ -1,4 +1,4 @@
-//! What counts the replies of a worker, and the lines of desks. Rules without a section are this profile's own.
+//! What counts the replies of a worker, and the lines of desks.
 ghost use Rattle.std.specs.Prelude.{◌≡◌};
 
 use lost_desk::Desk;

@@ -1,4 +1,4 @@
-//! Which limit of time a connection has passed. Rules without a section are this profile's own.
+//! Which limit of time a connection has passed.
 ghost use Rattle.std.specs.Prelude.{◌≡◌};
 ghost use Rattle.lost_server.specs.Deadlines.{is_past as is_past_limit, passed_of, since_when, times_after, times_at};
 

@@ -1,4 +1,4 @@
-//! The two ends of a desk's connection, while it is its turn. Rules without a section are this profile's own.
+//! The two ends of a desk's connection, while it is its turn.
 use crate::desk_turns::DeskDoor;
 use crate::strangers::{MOST_LOOKED_AT, stranger_text};
 use lost_sockets::Stream;

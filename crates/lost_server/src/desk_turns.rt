@@ -1,4 +1,4 @@
-//! How desks take turns. Rules without a section are this profile's own.
+//! How desks take turns.
 use crate::accepting::accept_until;
 use lost_sockets::{Listener, Peer, Stream};
 use std::sync::atomic::AtomicBool;

@@ -1,4 +1,4 @@
-//! What the thread of the desk does. Rules without a section are this profile's own.
+//! What the thread of the desk does.
 use crate::counting::{DeskCounting, tell_book};
 use crate::desk_ends::{DeskTurn, TurnInput, TurnOutput, is_of_waiting};
 use crate::desk_turns::DeskDoor;

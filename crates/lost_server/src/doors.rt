@@ -1,4 +1,4 @@
-//! Where the connections of a server come from. Rules without a section are this profile's own.
+//! Where the connections of a server come from.
 use lost_sockets::Listener;
 use std::io;
 

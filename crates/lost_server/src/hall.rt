@@ -1,4 +1,4 @@
-//! What the threads of a server share that watch many connections. Rules without a section are this profile's own.
+//! What the threads of a server share that watch many connections.
 ghost use Rattle.std.specs.Prelude.{◌≤◌};
 
 use crate::admission::{Admission, Refusal};

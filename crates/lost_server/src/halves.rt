@@ -1,4 +1,4 @@
-//! The two halves of a connection that is watched. Rules without a section are this profile's own.
+//! The two halves of a connection that is watched.
 use lost_sockets::Stream;
 use memchr::{memchr_iter, memrchr};
 use std::alloc::{AllocError, Global};

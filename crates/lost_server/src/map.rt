@@ -1,4 +1,4 @@
-//! The map that a server reads before it listens. Rules without a section are this profile's own.
+//! The map that a server reads before it listens.
 ghost use Rattle.std.specs.Prelude.{◌≡◌, [], Option, OnOk};
 ghost use Rattle.lost_server.specs.Map.{IsLoaded};
 ghost use Rattle.lost_worker.specs.Desking.{IsSameDesk};

@@ -1,4 +1,4 @@
-//! What is said of connections on standard error. Rules without a section are this profile's own.
+//! What is said of connections on standard error.
 use crate::voice::Mouth;
 use lost_sockets::Peer;
 use lost_status::Status;

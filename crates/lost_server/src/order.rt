@@ -1,4 +1,4 @@
-//! What is ordered of a server. Rules without a section are this profile's own.
+//! What is ordered of a server.
 use lost_mapping::Source;
 use std::time::Duration;
 

@@ -1,4 +1,4 @@
-//! The two ends of a query connection. Rules without a section are this profile's own.
+//! The two ends of a query connection.
 use crate::notices::Notices;
 use lost_sockets::{Peer, Stream};
 use std::alloc::{AllocError, Global};

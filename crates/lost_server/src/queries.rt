@@ -1,4 +1,4 @@
-//! How query connections go to the workers. Rules without a section are this profile's own.
+//! How query connections go to the workers.
 ghost use Rattle.std.specs.Prelude.{◌≡◌, ◌≢◌, Err};
 
 use crate::peer::{Incoming, Outgoing, ends};

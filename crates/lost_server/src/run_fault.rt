@@ -1,4 +1,4 @@
-//! Why a server stopped before all its connections had ended. Rules without a section are this profile's own.
+//! Why a server stopped before all its connections had ended.
 ghost use Rattle.std.specs.Prelude.{◌≡◌};
 ghost use Rattle.lost_server.specs.RunFault.{fault_of};
 

@@ -1,4 +1,4 @@
-//! A server that begins with no mappings, over listeners that stand. Rules without a section are this profile's own.
+//! A server that begins with no mappings, over listeners that stand.
 ghost use Rattle.std.specs.Prelude.{◌≡◌, ◌≢◌, ◌<◌, ◌⊎◌, ◌↔◌, Err};
 
 use crate::doors::Doors;

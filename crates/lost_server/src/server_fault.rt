@@ -1,4 +1,4 @@
-//! Why a server did not start, or stopped. Rules without a section are this profile's own.
+//! Why a server did not start, or stopped.
 use crate::run_fault::RunFault;
 use lost_sockets::ListenError;
 use std::io::ErrorKind;

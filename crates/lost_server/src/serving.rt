@@ -1,4 +1,4 @@
-//! The threads of a server. Rules without a section are this profile's own.
+//! The threads of a server.
 ghost use Rattle.std.specs.Prelude.{◌≡◌, ◌≢◌, Err};
 
 use crate::desks::serve_one_desk;

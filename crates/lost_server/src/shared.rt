@@ -1,4 +1,4 @@
-//! What all threads of a server share. Rules without a section are this profile's own.
+//! What all threads of a server share.
 use crate::notices::Notices;
 use crate::order::ConnectionSettings;
 use lost_mapping::Source;

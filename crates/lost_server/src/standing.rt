@@ -1,4 +1,4 @@
-//! The threads of a server that watches many connections. Rules without a section are this profile's own.
+//! The threads of a server that watches many connections.
 ghost use Rattle.std.specs.Prelude.{◌≡◌, ◌≢◌, Err};
 
 use crate::arrivals::{Entrance, entrance_of, let_in_all};

@@ -1,4 +1,4 @@
-//! What answers those that ask for the status of a server. Rules without a section are this profile's own.
+//! What answers those that ask for the status of a server.
 use crate::accepting::accept_until;
 use lost_sockets::{Listener, Stream};
 use lost_status::{Deadline, Status, serve_status};

@@ -1,4 +1,4 @@
-//! What is no desk, by the first bytes that it sends. Rules without a section are this profile's own.
+//! What is no desk, by the first bytes that it sends.
 ghost use Rattle.std.specs.Prelude.{◌≡◌};
 ghost use Rattle.lost_server.specs.Strangers.{is_http as is_front_of_http, is_tls as is_front_of_tls};
 

@@ -1,4 +1,4 @@
-//! What says lines on standard error, so that nobody else waits for it. Rules without a section are this profile's own.
+//! What says lines on standard error, so that nobody else waits for it.
 use crossbeam_channel::{Receiver, Sender, bounded};
 use std::alloc::{AllocError, Global};
 use std::io::Eprint;

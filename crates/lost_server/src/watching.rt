@@ -1,4 +1,4 @@
-//! The loop of a worker that watches many connections. Rules without a section are this profile's own.
+//! The loop of a worker that watches many connections.
 ghost use Rattle.std.specs.Prelude.{◌<◌, length};
 
 use crate::arrivals::{ARRIVALS, Arrival};

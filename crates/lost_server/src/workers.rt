@@ -1,4 +1,4 @@
-//! The workers. Rules without a section are this profile's own.
+//! The workers.
 ghost use Rattle.std.specs.Prelude.{◌≡◌, IfSome};
 ghost use Rattle.lost_spec.specs.Laws.{BeginsWith};
 

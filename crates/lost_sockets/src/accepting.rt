@@ -1,4 +1,4 @@
-//! How connections are accepted. Rules without a section are this profile's own.
+//! How connections are accepted.
 ghost use Rattle.std.specs.Prelude.{IfSome};
 ghost use Rattle.lost_sockets.specs.Kind.{AreOfKind};
 

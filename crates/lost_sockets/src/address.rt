@@ -1,4 +1,4 @@
-//! Where a server listens, as it is written. Rules without a section are this profile's own.
+//! Where a server listens, as it is written.
 ghost use Rattle.lost_sockets.specs.Address.{IsAddressOf};
 
 /// What the address of a Unix socket begins with.

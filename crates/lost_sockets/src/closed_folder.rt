@@ -1,4 +1,4 @@
-//! Where a Unix socket is made before anybody may use it. Rules without a section are this profile's own.
+//! Where a Unix socket is made before anybody may use it.
 use crate::listen_error::{ListenError, unix_error_of};
 use crate::socket_file::Standing;
 use std::alloc::{AllocError, Global};

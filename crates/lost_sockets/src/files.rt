@@ -1,4 +1,4 @@
-//! How many files a program may have open. Rules without a section are this profile's own.
+//! How many files a program may have open.
 use libc::types::rlimit;
 use libc::{RLIMIT_NOFILE, getrlimit};
 

@@ -1,4 +1,4 @@
-//! Why an address cannot be listened on. Rules without a section are this profile's own.
+//! Why an address cannot be listened on.
 ghost use Rattle.std.specs.Prelude.{◌≡◌, Some};
 ghost use Rattle.lost_sockets.specs.ListenError.{tcp_error_of, unix_error_of, listen_error_text};
 

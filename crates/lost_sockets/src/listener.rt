@@ -1,4 +1,4 @@
-//! What connections are accepted from. Rules without a section are this profile's own.
+//! What connections are accepted from.
 ghost use Rattle.std.specs.Prelude.{◌≡◌, ◌<◌, [], Some, Err, IfOk, IfSome, is_some, length};
 ghost use Rattle.lost_sockets.specs.Kind.{unix_path, is_unix_listener, AreOfKind};
 

@@ -1,4 +1,4 @@
-//! Who may use a socket's file. Rules without a section are this profile's own.
+//! Who may use a socket's file.
 ghost use Rattle.std.specs.Option.{SomeIff};
 ghost use Rattle.std.specs.Str.Parse.{digits_value};
 ghost use Rattle.lost_sockets.specs.Mode.{IsMode};

@@ -1,4 +1,4 @@
-//! Whom a connection comes from. Rules without a section are this profile's own.
+//! Whom a connection comes from.
 ghost use Rattle.std.specs.Prelude.{◌≡◌, Some};
 ghost use Rattle.lost_sockets.specs.Peer.{peer_text, address_of};
 

@@ -1,4 +1,4 @@
-//! The file of a Unix socket. Rules without a section are this profile's own.
+//! The file of a Unix socket.
 use crate::address::Address;
 use crate::listen_error::{ListenError, unix_error_of};
 use std::fs::{remove_file, symlink_metadata};

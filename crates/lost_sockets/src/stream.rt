@@ -1,4 +1,4 @@
-//! A connection. Rules without a section are this profile's own.
+//! A connection.
 ghost use Rattle.std.specs.Prelude.{◌≡◌, true, false, None, IfSome};
 ghost use Rattle.std.specs.Duration.{as_nanos};
 ghost use Rattle.std.specs.Io.{ReadsAtMost, WritesAtMost};

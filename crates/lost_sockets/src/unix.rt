@@ -1,4 +1,4 @@
-//! How a Unix socket comes to its path. Rules without a section are this profile's own.
+//! How a Unix socket comes to its path.
 ghost use Rattle.std.specs.Prelude.{◌≡◌, ◌<◌, ◌↔◌, [], Err, length};
 
 use crate::closed_folder::ClosedFolder;

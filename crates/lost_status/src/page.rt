@@ -1,8 +1,8 @@
-//! What a request of HTTP asks for. The paths are this profile's own.
+//! What an HTTP request asks for. The paths are own ones.
 ghost use Rattle.std.specs.Prelude.{◌≡◌};
 ghost use Rattle.lost_status.specs.Page.{asked_for, is_reading as is_reading_method, page_at as page_at_path};
 
-/// What is shown at a path.
+/// The page at a path.
 #[derive(Clone, Copy, PartialEq, Eq, Debug)]
 pub(crate) enum Page {
     /// `/health`: whether the server is ready.

@@ -1,4 +1,4 @@
-//! A connection. Rules without a section are this profile's own.
+//! A connection.
 
 /// The two ends of a connection: what is read, and what is written. It is closed when it is dropped.
 #[derive(Drop)]

@@ -1,4 +1,4 @@
-//! Which places came before, as far as a table of fixed size tells. Rules without a section are this profile's own.
+//! Which places came before, as far as a table of fixed size tells.
 
 use std::alloc::{AllocError, Global};
 

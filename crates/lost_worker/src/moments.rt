@@ -1,4 +1,4 @@
-//! The moments at which lines are answered. Rules without a section are this profile's own.
+//! The moments at which lines are answered.
 ghost use Rattle.std.specs.Prelude.{List};
 ghost use Rattle.lost_spec.specs.Moment.{Instant};
 ghost use Rattle.lost_worker.specs.Moments.{Gives};

@@ -1,4 +1,4 @@
-//! What answers a request line. Rules without a section are this profile's own.
+//! What answers a request line.
 ghost use Rattle.std.specs.Prelude.{◌≡◌, ◌+◌, IsTrue, IfOk, OnOk};
 ghost use Rattle.lost_spec.specs.Book.{is_accepted};
 ghost use Rattle.lost_spec.specs.Laws.{BeginsWith};

@@ -1,4 +1,4 @@
-//! What looks on while a desk's lines are answered. Rules without a section are this profile's own.
+//! What looks on while a desk's lines are answered.
 use lost_desk::Desk;
 use lost_json::DeskReply;
 
