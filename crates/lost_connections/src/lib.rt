@@ -1,4 +1,5 @@
-//! Many connections of one worker (own rules): each is served in bursts, as its bytes come, and none is waited for.
+//! Many connections of one worker (own rules): each is served in bursts, as its bytes come, and the worker waits for
+//! none of them.
 #![tactic(auto)]
 
 mod answering;

@@ -38,7 +38,7 @@ pub(crate) fn reply_over<H: Holdings>(
 }
 
 /// The reply to a line over this book, as [`reply_over`] gives it. If the request is answered at a place, the place's
-/// set is taken from `sets`, or made and kept there.
+/// set is taken from `sets`, or made and kept there if wanted.
 #[tactic(auto, unfolding(lost_json::specs::Line::line_reply))]
 pub(crate) fn reply_over_sets<S: PlaceSets>(
     alloc: Global,
@@ -61,7 +61,7 @@ pub(crate) fn reply_over_sets<S: PlaceSets>(
 }
 
 /// The reply to a request over this book. If it is answered at a place, the place's set is taken from `sets`, or made
-/// and kept there.
+/// and kept there if wanted.
 fn answer_request<S: PlaceSets>(
     alloc: Global,
     sets: &mut S,

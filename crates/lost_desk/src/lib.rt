@@ -20,8 +20,6 @@ mod version;
 mod view;
 mod with_holders;
 
-/// The book in each copy.
-
 pub use desk::Desk;
 pub use faults::{CommitError, OpenError};
 pub use open::open_desk;

@@ -2,7 +2,7 @@
 use libc::types::rlimit;
 use libc::{RLIMIT_NOFILE, getrlimit};
 
-/// How many files this program may have open, connections and listeners among them (`ulimit -n`); `None` where the system
+/// How many files this program may have open, connections and listeners included (`ulimit -n`); `None` if the system
 /// does not say.
 pub fn most_files() -> Option<u64> {
     let mut limit = rlimit {
