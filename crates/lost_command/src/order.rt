@@ -17,7 +17,7 @@ pub struct ServeOrder<'a> {
     pub keeps_going: bool,
     /// The address of queries, as it was given.
     pub queries: &'a str,
-    /// The address of the desk, as it was given. Without it there is a map.
+    /// The address of the desk, as it was given. If there is none, there is a map.
     pub desk: Option<&'a str>,
     /// The address of the status, as it was given.
     pub status: Option<&'a str>,

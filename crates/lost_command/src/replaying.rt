@@ -72,7 +72,6 @@ pub(crate) fn turns_of(given: &ArgMatches<'_>) -> Turns {
 
 /// Reports a bad name or a bad moment with its word, and gives the reason of a mistake that was reported already; any
 /// other reason is given unchanged.
-/// other reason is given as it is.
 pub(crate) fn said_of<R: Eprint>(rt: &R, reason: ExitReason, name: &str, now: &str) -> ExitReason {
     let text = reason.text();
     // If standard error fails, the exit status still tells.

@@ -110,7 +110,7 @@ fn answer_at_place<S: PlaceSets>(
     Ok(reply)
 }
 
-/// The reply to a request over this book, where the set of this place is known.
+/// The reply to a request over this book, given the set of this place.
 fn answer_from_set(
     alloc: Global,
     book: &Routing,

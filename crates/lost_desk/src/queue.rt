@@ -28,7 +28,7 @@ pub(crate) fn publish_all<R: Wait>(
     publish_logged(rt, copies, front)
 }
 
-/// Publishes all that waits in the copies. If memory is refused, nothing is published and all of it still waits.
+/// Publishes all that waits in the copies. If memory is refused, nothing is published and the edits still wait.
 fn publish_logged<R: Wait>(rt: &R, copies: &mut Copies, front: &Front) -> Result<(), AllocError>
     requires { IsReady copies.old [] front.now }
     ensures { MatchResult result

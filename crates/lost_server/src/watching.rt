@@ -45,7 +45,7 @@ struct Note {
     peer: Peer,
     /// Whether it is in the queue of connections to serve at once.
     is_queued: bool,
-    /// How often bytes had come, how many lines had ended, and how many bytes were taken, at the last look.
+    /// At the last look: how often bytes had come, how often line ends, and how many bytes were taken.
     reads: u64,
     ends: u64,
     taken: u64,
@@ -193,7 +193,7 @@ impl Watcher {
         }
     }
 
-    /// Takes a connection, or closes it if memory is refused.
+    /// Takes a connection, or closes it if it cannot be watched.
     fn take<R: Wait + Clock + Eprint + Drop, G>(
         &mut self,
         shared: &Shared<'_, R, G>,

@@ -1,4 +1,4 @@
-//! The numbers of a server in Prometheus' text format, version 0.0.4. The metrics' names are own ones.
+//! The numbers of a server in Prometheus' text format, version 0.0.4 (own names).
 ghost use Rattle.std.specs.Prelude.{◌≡◌, ◌∷◌, ◌++◌, OnOk, codes, decimal, string_bytes};
 ghost use Rattle.lost_writing.specs.DeskReplies.{IsCode, refusal_name as refusal_name_of};
 ghost use Rattle.lost_status.specs.Exposition.{counted, label, labelled};

@@ -1,4 +1,4 @@
-//! What an HTTP request asks for. The paths are own ones.
+//! What an HTTP request asks for (own paths).
 ghost use Rattle.std.specs.Prelude.{◌≡◌};
 ghost use Rattle.lost_status.specs.Page.{asked_for, is_reading as is_reading_method, page_at as page_at_path};
 
@@ -24,7 +24,7 @@ pub(crate) enum Asked {
     OtherPath,
 }
 
-/// What a request with this method and this path asks for. Where there is no page, the method does not matter.
+/// What a request with this method and this path asks for. If there is no page, the method does not matter.
 pub(crate) fn asked_by(method: &str, path: &str) -> Asked
     ensures { result ≡ asked_for method.now path.now }
 {

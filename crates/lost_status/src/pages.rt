@@ -1,4 +1,4 @@
-//! The answer to an HTTP request (RFC 9110). The texts are own ones.
+//! The answer to an HTTP request (RFC 9110; own texts).
 ghost use Rattle.std.specs.Prelude.{◌≡◌, OnOk};
 ghost use Rattle.lost_status.specs.declared.page.Asked.{Asked};
 ghost use Rattle.lost_status.specs.Page.{MayGet};

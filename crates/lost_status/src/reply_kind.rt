@@ -18,8 +18,7 @@ pub enum ReplyKind {
     GetServiceBoundaryResponse,
     /// `loop`: the path of the request has the server's own name (RFC 5222, section 13.1).
     Loop,
-    /// `locationProfileUnrecognized`: the server knows no profile among the request's locations (RFC 5222, section
-    /// 13.1).
+    /// `locationProfileUnrecognized`: the server knows the profile of no location (RFC 5222, section 13.1).
     LocationProfileUnrecognized,
     /// `SRSInvalid`: the server does not know the reference system of the location used (RFC 5222, section 13.1).
     SrsInvalid,

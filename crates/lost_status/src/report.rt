@@ -1,4 +1,4 @@
-//! The numbers of a server as one JSON object. Its names are own ones.
+//! The numbers of a server as one JSON object (own names).
 use crate::connection_counts::Connections;
 use crate::desk_state::{DeskNow, LAST_CODE};
 use crate::reply_kind::{KINDS, ReplyKind};

@@ -17,7 +17,7 @@ pub(crate) struct Snapshot {
     pub(crate) workers: u64,
     /// How many of them serve a connection.
     pub(crate) busy: u64,
-    /// How often the workers' caches of places had what was asked.
+    /// How many hits the workers' caches of places had.
     pub(crate) cache_hits: u64,
     /// How many replies were given, by kind, in the order of all kinds.
     pub(crate) replies: [u64; KINDS],

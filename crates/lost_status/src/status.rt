@@ -147,7 +147,7 @@ impl Status {
         count
     }
 
-    /// How often the caches of all workers had what was asked.
+    /// How many hits the caches of all workers had.
     fn cache_hits(&self) -> u64 {
         let mut sum = 0u64;
         for worker in self.workers.iter() {

@@ -32,7 +32,7 @@ impl WorkerCounts {
         self.is_busy.store(is_busy, Ordering::SeqCst);
     }
 
-    /// Sets how often its cache of places had what was asked so far.
+    /// Sets how many hits its cache of places has had so far.
     pub fn set_cache_hits(&self, hits: u64) {
         self.cache_hits.store(hits, Ordering::SeqCst);
     }
@@ -47,7 +47,7 @@ impl WorkerCounts {
         self.is_busy.load(Ordering::SeqCst)
     }
 
-    /// How often its cache of places had what was asked.
+    /// How many hits its cache of places has had.
     pub(crate) fn cache_hits(&self) -> u64 {
         self.cache_hits.load(Ordering::SeqCst)
     }

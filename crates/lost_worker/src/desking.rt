@@ -53,7 +53,7 @@ impl<T: Wait, V: DeskWitness> Answerer for Desking<'_, '_, '_, '_, T, V> {
     }
 }
 
-/// Reads a desk line by its tokens; `None` if the line is no desk line, as a request.
+/// Reads a desk line by its tokens; `None` if the line is no desk line but, for example, a request.
 fn read_desk_by_tape(
     alloc: Global,
     line: &[u8],
@@ -68,7 +68,7 @@ fn read_desk_by_tape(
 }
 
 /// The reply to a line, given what was read of the line. A line that is no desk line is code 1. Code 20 says that
-/// memory was refused while reading the line, staging its edit or committing. Any other refusal comes before code 20.
+/// memory was refused for reading the line, for a commit, or for staging an edit that nothing else refuses.
 fn judge<T: Wait>(rt: &T, desk: &mut Desk, read: Result<Option<DeskLine>, DeskFault>) -> DeskReply
     ensures answered { (line : Bytes) → AnswersRead read (desk_terms desk.old.limits) (lists_of desk.old) line
         (said result) (lists_of desk.new) }

@@ -12,8 +12,8 @@ use lost_mapping::Source;
 use std::alloc::Global;
 use std::io::{Read, Write};
 
-/// Answers the request lines of `input`, in order, as the server of this name, and writes a reply for each line (RFC
-/// 5222; own format). Each line that is kept whole goes to `replier` at the next moment of `moments`. If memory is
+/// Answers the request lines of `input`, in order, as the server of this name, and writes a reply for each line
+/// (RFC 5222; own format). Each line that is kept whole goes to `replier` at the next moment of `moments`. If memory is
 /// refused for the reply or for keeping the line, the reply is `internalError`. A line over 1,048,576 bytes is
 /// `badRequest`. Each line is answered only once `gate` let it through.
 ///

@@ -1,5 +1,5 @@
-//! `lostd`: a LoST server (RFC 5222) of JSON lines. `lostd replay` answers standard input on standard output, `lostd
-//! check` reports the lines that `replay` would refuse, and `lostd serve` answers connections.
+//! `lostd`: a LoST server (RFC 5222) of JSON lines. `lostd replay` answers standard input on standard output,
+//! `lostd check` reports the lines that `replay` would refuse, and `lostd serve` answers connections.
 #![tactic(auto)]
 
 mod serving;
