@@ -63,8 +63,7 @@ impl ExitReason {
         }
     }
 
-    /// The error text; empty if the error was reported already. For a bad word it is the text behind the word (own
-    /// rule).
+    /// The error text; empty if it was reported already. For a bad word, the text that follows the word (own rule).
     pub fn text(self) -> &'static str {
         match self {
             ExitReason::Words => "the command line could not be read: is it UTF-8?",

@@ -18,8 +18,7 @@ const MOST_KEPT: usize = 1_048_577;
 /// The most bytes of room that stay for the next line.
 const KEPT_ROOM: usize = 65_536;
 
-/// Answers the lines whose ends are in `bytes`, the first behind the line that was begun, and keeps the rest of
-/// `bytes`.
+/// Answers the lines that end in `bytes`, the first with its begun part, and keeps the rest.
 pub(crate) fn answer<P: Replier, M: Moments>(
     alloc: Global,
     begun: &mut Vec<u8>,
@@ -72,7 +71,7 @@ pub(crate) fn answer_last<P: Replier, M: Moments>(
     answered
 }
 
-/// Answers the lines in these bytes, the first behind the line that was begun.
+/// Answers the lines in these bytes, the first with its begun part.
 fn answer_lines<P: Replier, M: Moments>(
     alloc: Global,
     begun: &mut Vec<u8>,

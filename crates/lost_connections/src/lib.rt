@@ -1,5 +1,4 @@
-//! Many connections of one worker (own rules): each is served in bursts, as its bytes come, and the worker waits for
-//! none of them.
+//! Many connections of one worker (own rules): each is served in bursts, as its bytes come, and no worker waits.
 #![tactic(auto)]
 
 mod answering;

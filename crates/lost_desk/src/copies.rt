@@ -53,8 +53,7 @@ impl Copies {
         }
     }
 
-    /// Has the copies take in one more operation at the next publication. If memory is refused, nothing changes and the
-    /// operation comes back.
+    /// Has the copies take in one more operation at the next publication. If memory is refused, it is given back.
     pub(crate) fn append(&mut self, operation: Operation) -> Result<(), Operation>
         ensures { MatchResult result
             (λ _. self.new ≡ with_waiting self.old operation)
@@ -76,8 +75,7 @@ impl Copies {
         }
     }
 
-    /// Publishes all that waits. If memory is refused, nothing changes. It waits for readers that still read the other
-    /// copy.
+    /// Publishes all that waits. If memory is refused, nothing changes. It waits for readers of the other copy.
     pub(crate) fn publish<R: Wait>(&mut self, rt: &R) -> Result<(), AllocError>
         requires { MayFollow self.old.shown (next_of self.old) }
         ensures { MatchResult result (λ _. self.new ≡ with_published self.old) (λ _. self.new ≡ self.old) }

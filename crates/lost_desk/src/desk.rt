@@ -74,9 +74,8 @@ impl Desk {
         Ok(self.ahead.edition() - self.copies.shown().front.len())
     }
 
-    /// Publishes all pending edits at once, and gives the edition: the number of published edits. If nothing is
-    /// pending, it gives the same edition and takes no memory. It waits for readers that still read the copy before the
-    /// last.
+    /// Publishes all pending edits at once, and gives the edition: the number of published edits. With nothing
+    /// pending it takes no memory. It waits for readers that still read the copy before the last.
     ///
     /// # Errors
     ///

@@ -26,8 +26,7 @@ impl Reader {
     ///
     /// # Errors
     ///
-    /// If memory is refused, and after the desk was closed. The reader may then have entered once and seen a longer
-    /// list.
+    /// If memory is refused or the desk is closed. The reader may then have entered once and seen a longer list.
     pub fn reply_line_over<S: PlaceSets>(
         &mut self,
         alloc: Global,

@@ -11,8 +11,7 @@ use std::alloc::AllocError;
 use std::collections::VecDeque;
 use std::sync::Wait;
 
-/// Publishes all that waits in the copies and in the queue. If memory is refused, nothing is published and all stays
-/// pending. The front has all edits.
+/// Publishes all that waits in the copies and the queue. The front has all edits. If memory is refused, all stay pending.
 pub(crate) fn publish_all<R: Wait>(
     rt: &R,
     copies: &mut Copies,

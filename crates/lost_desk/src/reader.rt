@@ -63,8 +63,7 @@ impl Reader {
     ///
     /// # Errors
     ///
-    /// If memory is refused, and after the desk was closed. The reader may then have entered once and seen a longer
-    /// list.
+    /// If memory is refused or the desk is closed. The reader may then have entered once and seen a longer list.
     pub fn reply_line(
         &mut self,
         alloc: Global,

@@ -83,8 +83,8 @@ pub(crate) struct Admission {
 }
 
 impl Admission {
-    /// No connections, with a limit of `most` in all, and of `most_of_address` from one address; `None` for no such
-    /// limit. Addresses are hashed with `keys`, which no client knows.
+    /// No connections, at most `most` in all and `most_of_address` from one address; `None` for any number. Addresses
+    /// are hashed with `keys`, which no client knows.
     pub(crate) fn new(
         alloc: Global,
         most: u32,

@@ -37,8 +37,7 @@ struct StandingWorker {
     watcher: Watcher,
 }
 
-/// Watches all connections that come, with one worker for each reader, until the server is over, and meanwhile serves
-/// desks.
+/// Watches all connections, with one worker for each reader, until the server is over, and meanwhile serves desks.
 pub(crate) fn watch_all<
     R: Threads + Wait + Clock + Eprint + RandomSource + Net + Drop + Send + Sync,
     G: Sync,

@@ -11,8 +11,7 @@ use std::time::{Clock, Duration};
 /// The most lines that may wait for standard error.
 const MOST_WAITING: usize = 256;
 
-/// How often to check at the end whether all lines are written, and how long to wait between, in milliseconds: 5
-/// seconds.
+/// How often to check at the end whether all lines are written, and the milliseconds between: 5 seconds in all.
 const LAST_LOOKS: u32 = 250;
 
 const PAUSE: u64 = 20;

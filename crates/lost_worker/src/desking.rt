@@ -83,8 +83,7 @@ fn judge<T: Wait>(rt: &T, desk: &mut Desk, read: Result<Option<DeskLine>, DeskFa
     }
 }
 
-/// Stages an edit: its refusal, or the number of edits that are staged and not published. If memory is refused, the
-/// reply is code 20.
+/// Stages an edit: its refusal, or the number of pending edits. If memory is refused, the reply is code 20.
 fn stage(desk: &mut Desk, edit: Edit) -> DeskReply
     ensures judged { (line : Bytes) → IsJudged (desk_terms desk.old.limits) (lists_of desk.old) line
         (Some (Ok (Stage (edit_of edit)))) (said result) (lists_of desk.new) }
