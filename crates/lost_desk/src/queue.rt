@@ -11,7 +11,7 @@ use std::alloc::AllocError;
 use std::collections::VecDeque;
 use std::sync::Wait;
 
-/// Publishes all that waits in the copies and the queue. The front has all edits. If memory is refused, all stay pending.
+/// Publishes the edits in the copies and the queue. The front has all edits. If memory is refused, all of them wait.
 pub(crate) fn publish_all<R: Wait>(
     rt: &R,
     copies: &mut Copies,
