@@ -164,7 +164,7 @@ fn serve_command<'a>(alloc: Global) -> Result<Command<'a>, Error> {
     limited(alloc, command)
 }
 
-/// The limits of the connections of a server that has no number of them.
+/// The limits on connections of a server without a fixed number of them.
 fn limited<'a>(alloc: Global, command: Command<'a>) -> Result<Command<'a>, Error> {
     let line_time = seconds_argument(
         alloc,
