@@ -19,7 +19,7 @@ pub(crate) fn judge(
     Ok(if is_wanted { None } else { Some(said) })
 }
 
-/// What the call of a case gives. The first word of a call says whose it is.
+/// What the call of a case gives. The first word of a call chooses the file of its crate.
 fn said(alloc: Global, shelf: &mut Shelf, fields: &Fields) -> Result<String, Trouble> {
     let call = fields.text(0)?;
     match call.split_once(' ').unwrap_or((call, "")).0 {

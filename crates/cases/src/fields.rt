@@ -19,7 +19,7 @@ impl Fields {
         Ok(Fields { fields })
     }
 
-    /// What is wanted: the last field.
+    /// The wanted result: the last field.
     pub(crate) fn wanted(&self) -> Result<&[u8], Trouble> {
         match self.fields.last() {
             Some(field) => Ok(field.as_slice()),

@@ -89,7 +89,7 @@ fn error(name: &str) -> Result<AnswerError, Trouble> {
     }
 }
 
-/// Where a line may be cut short and is read all the same.
+/// The least length at which a line that is cut short is still read.
 fn cut_short(alloc: Global, line: &[u8]) -> Result<String, Trouble> {
     for end in 0..line.len() {
         match read_request(alloc, &line[..end]).err() {

@@ -39,12 +39,12 @@ fn build(alloc: Global, text: &str) -> Result<String, Trouble> {
     }
 }
 
-/// The first refusal of parts, where they lie.
+/// The first refusal of parts, checked where they are.
 fn parts_fault(parts: &Parts) -> Option<MappingError> {
     Mapping::check::<Parts>(&parts.borrowed()).err()
 }
 
-/// Whether a mapping is live at an instant, and when a copy of its end says so.
+/// Whether a mapping is live at an instant; `at odds` where a copy of its end says otherwise.
 fn is_live(mapping: &Mapping, moment: &Moment) -> Result<&'static str, Trouble> {
     let end = mapping.expires().clone()?;
     let live = mapping.is_live(moment);

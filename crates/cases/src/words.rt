@@ -11,7 +11,7 @@ pub(crate) fn checked(alloc: Global, refusal: Option<u8>) -> Result<String, Trou
     }
 }
 
-/// A text of its own.
+/// An owned copy of a text.
 pub(crate) fn owned(alloc: Global, text: &str) -> Result<String, Trouble> {
     Ok(String::from_str(alloc, text)?)
 }
@@ -63,7 +63,7 @@ pub(crate) fn number_pairs(alloc: Global, text: &str) -> Result<Vec<(i64, i64)>,
     Ok(pairs)
 }
 
-/// Pairs `NAME=VALUE`, with this mark between each two or behind each.
+/// Pairs `NAME=VALUE`, with this mark between each two or after each.
 pub(crate) fn text_pairs(
     alloc: Global,
     text: &str,

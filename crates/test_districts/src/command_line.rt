@@ -19,7 +19,7 @@ pub fn words<R: Env + AllocGlobal>(rt: &R) -> io::Result<String> {
     Ok(words)
 }
 
-/// Says on standard error which words there are, and gives status 2.
+/// Prints the usage on standard error, and gives status 2.
 ///
 /// # Errors
 /// That of standard error.
