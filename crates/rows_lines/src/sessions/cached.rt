@@ -70,8 +70,8 @@ fn request(alloc: Global, reader: &mut CachedReader, setting: &Setting, line: &[
     }
 }
 
-/// The replies to the lines of a session, by a desk of these limits and a reader that keeps so many places, or `None` where
-/// the run ends in a fault.
+/// The replies to the lines of a session, by a desk of these limits and a reader that keeps so many places, or `None`
+/// where the run ends in a fault.
 pub(crate) fn replies<R: Wait + AllocGlobal>(
     rt: &R,
     lines: &[u8],
