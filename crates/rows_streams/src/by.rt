@@ -21,7 +21,7 @@ pub(crate) enum By {
 }
 
 impl By {
-    /// What a word of a command names.
+    /// The server that a word of a command names.
     pub(crate) fn named(word: &str) -> Option<By> {
         match word {
             "replay" => Some(By::Replay),
@@ -42,7 +42,7 @@ pub(crate) struct Outcome {
 }
 
 impl Outcome {
-    /// How a stream was served, by the streams after it.
+    /// How a stream was served, read from the streams after it.
     fn of<R: Read + Drop>(
         served: Result<Counts, ServeError>,
         input: &Watched<R>,
@@ -58,7 +58,7 @@ impl Outcome {
     }
 }
 
-/// Serves a stream from its start, or `None` where memory is refused before it is read.
+/// Serves a stream from its start; `None` where memory is refused before the first read.
 pub(crate) fn served<T: Wait, R: Read + Drop>(
     rt: &T,
     alloc: Global,
