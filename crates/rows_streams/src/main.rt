@@ -13,10 +13,10 @@
 //!   and `marks` the answers where memory is refused.
 //! - `lines`: the script `lines.lines`, whose lines are answered by their lengths. [`lines`] says how it is written.
 //!
-//! Other lines of the first two scripts prepare the next stream: `line TEXT`, `last TEXT` (without byte 10), `long
-//! NUMBER` (so many bytes), `byte NUMBER`, `filled NUMBER TEXT` (with spaces behind it, so many bytes in all) and `each
-//! NUMBER TEXT` (so many times, with the number of the time for `#`) add to it; `turns LINES` says how many lines are
-//! answered at most; `refuse LINE` has the gate refuse a line.
+//! Other lines of the first two scripts prepare the next stream. `line TEXT`, `last TEXT` (without byte 10),
+//! `long NUMBER` (so many bytes), `byte NUMBER`, `filled NUMBER TEXT` (with spaces after it, so many bytes in all) and
+//! `each NUMBER TEXT` (so many times, with the number of the time for `#`) add to it. `turns LINES` says how many lines
+//! are answered at most. `refuse LINE` has the gate refuse a line and all after it.
 #![tactic(auto)]
 
 mod always;
