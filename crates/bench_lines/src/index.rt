@@ -17,7 +17,7 @@ const SMALL: u32 = 32;
 
 const LARGE: u32 = 245;
 
-/// How many points are asked for one after another, and how many after the caches were emptied before each.
+/// How many points are asked for one after another, and how many with the caches emptied before each.
 const ASKED: u32 = 400_000;
 
 const ASKED_COLD: u32 = 1_000;

@@ -34,7 +34,7 @@ pub(crate) struct Plan {
     pub(crate) depth: u32,
     /// How often it does so.
     pub(crate) rounds: u32,
-    /// The least number of commits, 100 a second meanwhile; none where it is 0.
+    /// The desk publishes and commits 100 times a second meanwhile, at least this often; never where this is 0.
     pub(crate) commits: u32,
 }
 

@@ -222,7 +222,7 @@ fn push_held(text: &mut String, mapping: &Mapping) -> Result<(), Trouble> {
     Ok(())
 }
 
-/// What the book answers.
+/// The answer of the book.
 fn asked(alloc: Global, book: &Book, call: &str, fields: &Fields) -> Result<String, Trouble> {
     match call {
         "book held" => return held(alloc, book),

@@ -6,7 +6,7 @@ use lost_civic::{CivicAddress, CivicError, CivicPattern, Element};
 use lost_spec::Coded;
 use std::alloc::Global;
 
-/// What a call gives.
+/// The result of a call.
 pub(crate) fn said(alloc: Global, call: &str, fields: &Fields) -> Result<String, Trouble> {
     let text = fields.text(1)?;
     match call {

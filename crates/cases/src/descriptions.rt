@@ -1,4 +1,4 @@
-//! Mappings as cases describe them: a sourceId, and then changes, each behind a `;`. Without changes, a mapping is the
+//! Mappings as cases describe them: a sourceId, and then changes, each after a `;`. Without changes, a mapping is the
 //! police of `map.example`, of 2025-12-01, without end and without a region. Its URI and key come from the sourceId.
 use crate::trouble::Trouble;
 use crate::words::{number_pair, number_pairs, owned, text_pairs};

@@ -1,4 +1,4 @@
-//! The fields of a case: what stands between its bars, without the spaces round it.
+//! The fields of a case: the texts between its bars, without the spaces around them.
 use crate::spelling::spelled;
 use crate::trouble::Trouble;
 use std::alloc::Global;

@@ -9,7 +9,7 @@ use lost_mapping::{Expires, Mapping, MappingError, Moment, Parts};
 use lost_spec::Coded;
 use std::alloc::Global;
 
-/// What a call gives.
+/// The result of a call.
 pub(crate) fn said(alloc: Global, call: &str, fields: &Fields) -> Result<String, Trouble> {
     let text = fields.text(1)?;
     match call {
@@ -55,7 +55,7 @@ fn is_live(mapping: &Mapping, moment: &Moment) -> Result<&'static str, Trouble> 
     })
 }
 
-/// What each reader of a mapping gives.
+/// The result of each reader of a mapping.
 pub(crate) fn shown(alloc: Global, mapping: &Mapping) -> Result<String, Trouble> {
     let mut text = shown_head(alloc, mapping)?;
     for uri in mapping.uris() {

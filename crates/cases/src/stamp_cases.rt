@@ -6,7 +6,7 @@ use lost_mapping::{Identity, MappingError, Moment, Source, SourceError, Stamp, S
 use lost_spec::Coded;
 use std::alloc::Global;
 
-/// What a call gives.
+/// The result of a call.
 pub(crate) fn said(alloc: Global, call: &str, fields: &Fields) -> Result<String, Trouble> {
     match call {
         "stamp" => new_stamp(alloc, fields.bytes(1)?),

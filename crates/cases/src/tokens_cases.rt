@@ -10,7 +10,7 @@ use lost_spec::Coded;
 use lost_tape::{Scratch, read_common, read_line, read_request};
 use std::alloc::Global;
 
-/// What a call gives.
+/// The result of a call.
 pub(crate) fn said(alloc: Global, call: &str, fields: &Fields) -> Result<String, Trouble> {
     match call {
         "tokens common" => common(alloc, fields.bytes(1)?),

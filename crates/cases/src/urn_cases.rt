@@ -9,7 +9,7 @@ use lost_urn::{ServiceUrn, UrnError};
 use std::alloc::Global;
 use std::cmp::Ordering;
 
-/// What a call gives.
+/// The result of a call.
 pub(crate) fn said(alloc: Global, call: &str, fields: &Fields) -> Result<String, Trouble> {
     let text = fields.bytes(1)?;
     match call {

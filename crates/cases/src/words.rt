@@ -1,4 +1,4 @@
-//! Words and lists in the fields of cases, and words that say what a call gives.
+//! Words and lists in the fields of cases, and words for the results of calls.
 use crate::trouble::Trouble;
 use std::alloc::Global;
 use std::hash::{DefaultHasher, Hash, Hasher};
@@ -16,12 +16,12 @@ pub(crate) fn owned(alloc: Global, text: &str) -> Result<String, Trouble> {
     Ok(String::from_str(alloc, text)?)
 }
 
-/// How a refusal is said.
+/// The text of a refusal.
 pub(crate) fn refused(alloc: Global, code: u8) -> Result<String, Trouble> {
     Ok(format!(in alloc; "refused {code}")?)
 }
 
-/// How an answer is said.
+/// The text of an answer.
 pub(crate) fn yes_or_no(answer: bool) -> &'static str {
     if answer { "yes" } else { "no" }
 }

@@ -20,7 +20,7 @@ pub(crate) const MOST: u64 = 1_000_000;
 /// How many mappings are held between two rounds.
 const HELD: u64 = 1_000;
 
-/// How many edits a round has: a replacement, a withdrawal, and a publish of what was withdrawn.
+/// How many edits a round has: a replacement, a withdrawal, and a publish of the withdrawn mapping.
 const ROUND: u64 = 3;
 
 /// How often the services are listed. The shortest time counts: other work of the machine makes it longer.

@@ -152,7 +152,7 @@ fn print_asked<R: Print + AllocGlobal, P: Row>(
     print_numbers(rt, step, &P::asked(index)?)
 }
 
-/// Prints numbers behind the name of their step.
+/// Prints the name of a step and its numbers.
 fn print_numbers<R: Print + AllocGlobal>(rt: &R, step: &str, numbers: &[u64]) -> io::Result<()> {
     print!(rt; "{step}:")?;
     for number in numbers {

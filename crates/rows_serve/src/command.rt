@@ -1,6 +1,6 @@
 //! Rows of the command line. A row begins after an empty line, and each of its lines begins with a mark.
 //!
-//! | Mark | What stands behind it |
+//! | Mark | What follows it |
 //! |---|---|
 //! | `$` | the words, with a space between each two; `''` is an empty one |
 //! | `<` | a line of standard input |

@@ -1,6 +1,6 @@
 //! Rows of an operator's requests. A row begins after an empty line, and each of its lines begins with a mark.
 //!
-//! | Mark | What stands behind it |
+//! | Mark | What follows it |
 //! |---|---|
 //! | `#` | the name of the row |
 //! | `!` | an event at the server before the request ([`events`] lists them) |

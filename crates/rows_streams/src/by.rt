@@ -1,4 +1,4 @@
-//! What serves a stream.
+//! Serves a stream by a replay, a desk or a reader.
 use crate::always::moments_of;
 use lost_book::Limits;
 use lost_desk::{Desk, Readers, open_desk};
@@ -9,7 +9,7 @@ use std::io::Read;
 use std::sync::Wait;
 use test_rows::{Setting, Sink};
 
-/// What serves a stream.
+/// The server of a stream.
 #[derive(Clone, Copy, Drop)]
 pub(crate) enum By {
     /// A replay.

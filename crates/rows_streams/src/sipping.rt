@@ -45,7 +45,7 @@ impl Read for Piecewise<'_> {
 /// Takes so many bytes at a time, and would block at each second write.
 #[derive(Drop)]
 pub(crate) struct Sipping {
-    /// What it has taken.
+    /// The bytes that it has taken.
     pub(crate) text: Vec<u8>,
     most: usize,
     is_full: bool,

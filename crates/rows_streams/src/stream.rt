@@ -48,7 +48,7 @@ impl Stream {
         Ok(true)
     }
 
-    /// Adds a line of a text and of spaces behind it, of at least so many bytes in all.
+    /// Adds a line of a text and spaces after it, of at least so many bytes in all.
     fn add_filled(&mut self, text: &str, least: u64) -> Result<(), AllocError> {
         self.bytes.extend_from_slice(text.as_bytes())?;
         for _ in text.len() as u64..least {

@@ -8,7 +8,7 @@ use std::io;
 use std::sync::Wait;
 use test_rows::{Feed, NEVER, Setting, Sink, Spaces};
 
-/// What serves a stream, and its bytes.
+/// The server of a stream, and the stream's bytes.
 #[derive(Drop)]
 pub(crate) struct Sweep<'a> {
     pub(crate) setting: &'a Setting,

@@ -4,7 +4,7 @@ use std::process::ExitCode;
 use std::rt::Env;
 use std::{env, io};
 
-/// The words behind the program's name, with a space between each two.
+/// The words after the program's name, with a space between each two.
 ///
 /// # Errors
 /// That of the arguments, and `OutOfMemory` where memory runs out.

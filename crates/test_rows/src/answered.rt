@@ -14,7 +14,7 @@ pub struct Answered<'r, R: Clock> {
 }
 
 impl<'r, R: Clock> Answered<'r, R> {
-    /// None was answered yet.
+    /// A count of 0.
     pub fn new(rt: &'r R) -> Answered<'r, R> {
         Answered {
             rt,

@@ -1,4 +1,4 @@
-//! A writer that keeps what is written.
+//! A writer that keeps its bytes.
 use crate::NEVER;
 use std::alloc::{AllocError, Global};
 use std::io;
@@ -8,7 +8,7 @@ use std::io::Write;
 /// flushes fails.
 #[derive(Drop)]
 pub struct Sink {
-    /// What was written.
+    /// The bytes written.
     pub text: Vec<u8>,
     /// The most bytes of one write.
     pub most: usize,

@@ -117,7 +117,7 @@ fn code_of(answer: Result<(), EditError>) -> u8 {
     }
 }
 
-/// Prints what a book holds: the sourceId of the first mapping, and where the one with the key stands.
+/// Prints what a book holds: the sourceId of the first mapping, and the position of the one with the key.
 fn print_held<R: Print, K: Kind>(
     rt: &R,
     book: &K,

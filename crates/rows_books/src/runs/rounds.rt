@@ -19,7 +19,7 @@ pub(crate) const QUESTIONS: u64 = 12;
 /// How far before and after the last edit's stamp a moment may be, in nanoseconds.
 const REACH: u64 = 200;
 
-/// What a round asks about.
+/// The subjects of a round's questions.
 #[derive(Drop)]
 struct Round {
     place: Place,

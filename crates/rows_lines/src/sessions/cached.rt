@@ -12,7 +12,7 @@ use std::alloc::Global;
 use std::sync::Wait;
 use test_rows::Setting;
 
-/// What answers the lines of a session: desk lines by the desk, and other lines by the reader.
+/// Answers the lines of a session: desk lines by the desk, and other lines by the reader.
 #[derive(Drop)]
 struct Cached<'r, 'd, 's, R: Wait> {
     rt: &'r R,

@@ -1,4 +1,4 @@
-//! What clients do.
+//! The work of clients.
 use super::bench::Line;
 use super::lines::{QUESTION, edition_of};
 use std::alloc::Global;

@@ -1,4 +1,4 @@
-//! What desks do.
+//! The work of desks.
 use super::bench::Line;
 use super::lines::{COMMIT, PUBLISH, WITHDRAW, stamped};
 use std::alloc::Global;

@@ -16,7 +16,7 @@ const LIMIT: u64 = 10;
 /// How many replies each worker counts.
 const REPLIES: u32 = 10_000;
 
-/// What the clients send.
+/// The request that the clients send.
 const REQUEST: &[u8] = b"GET /health HTTP/1.1\r\nHost: localhost\r\n\r\n";
 
 /// Plays the scenes, and prints their results.
