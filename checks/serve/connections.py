@@ -173,7 +173,7 @@ def desk_dies(program, is_long):
                 wrong += [] if b"m1@" in peer.ask(question(1)) else ["what was published is gone"]
                 peer.end()
             wrong += server.done(6, 0)
-            wanted = [] if way == "end" else [f"lostd: desk connection of 127.0.0.1:{desk.port}: it could not be read"]
+            wanted = [] if way == "end" else [f"lostd: desk connection from 127.0.0.1:{desk.port}: it could not be read"]
             wrong += differs("said", server.said(), wanted)
     return wrong
 
