@@ -24,7 +24,7 @@ def ended_by_server(peer, patience):
 
 def one_line(said, peer, cause):
     """What is wrong with the one line that is said of a query connection."""
-    fitting = [line for line in said if f" of 127.0.0.1:{peer.port}: " in line]
+    fitting = [line for line in said if f" from 127.0.0.1:{peer.port}: " in line]
     if len(fitting) == 1 and fitting[0].startswith("lostd: query connection ") and fitting[0].endswith(f": {cause}"):
         return []
     return [f"of port {peer.port} it said {fitting} and not: {cause}"]
