@@ -21,24 +21,25 @@ EXAMPLES = """examples:
 DESK = """Sends the desk lines of FILE, and reads the replies at the same time. Standard error names each refused line with its
 number, and standard output sums up all lines.
 
-The server serves one desk at a time, and drops uncommitted edits when a desk's connection ends. While it serves another desk,
-this one waits, and says so. With --keep-open the connection stays open after FILE: further lines come from standard input,
-and it ends at the end of standard input or at an interrupt (Ctrl-C). With FILE - all lines come from standard input, and are
-sent as they come.
+The server serves one desk at a time, and drops uncommitted edits when a desk's connection ends. While it serves another
+desk, this one waits, and says so. With --keep-open the connection stays open after FILE: further lines come from
+standard input, and it ends at the end of standard input or at an interrupt (Ctrl-C). With FILE - all lines come from
+standard input, and are sent as they come.
 
---sync makes the server hold what FILE says: the mappings that its lines leave when they are read from the start. FILE must
-end with a commit, so that a truncated file is not taken for a whole one. FILE.sent keeps what the server was last sent. Against
-it, mappings that are gone are withdrawn, changed ones are replaced, new ones are published, and all of that is committed at
-once. If nothing differs, nothing is sent. Without FILE.sent everything is published. Edits that would be refused are named
-before anything is sent: a changed mapping needs a later lastUpdated, and a new key if its regions changed; one that comes
-back needs a later lastUpdated than its withdrawal. A withdrawal has the stamp of its withdraw line in FILE, or else the time
-of this machine (in UTC, to the second). If that is not after the lastUpdated of the withdrawn mapping, the stamp is a
-nanosecond after that lastUpdated.
+--sync makes the server hold what FILE says: the mappings that its lines leave when they are read from the start. FILE
+must end with a commit, so that a truncated file is not taken for a whole one. FILE.sent keeps what the server was last
+sent. The client compares the two files: it withdraws mappings that are gone, replaces those that changed, publishes new
+ones, and commits all of that at once. If nothing differs, it sends nothing. Without FILE.sent it publishes everything.
+
+Before it sends anything, --sync names each edit that would be refused. A changed mapping needs a later lastUpdated, and
+a new key if its regions changed. A mapping that comes back needs a later lastUpdated than its withdrawal. A withdrawal
+has the stamp of its withdraw line in FILE, or else the time of this machine (in UTC, to the second), whichever is after
+the lastUpdated of the withdrawn mapping. If neither is, the stamp is a nanosecond after that lastUpdated.
 
 If the server still refuses an edit, because it was restarted or another desk changed its map, nothing is committed, and
 FILE.sent stays as it was. Then use --anew: it publishes all of FILE and replaces what the server holds, except what the
-server holds with the same lastUpdated or a later one. It withdraws what FILE.sent has and FILE no longer has. FILE.sent is a
-file of desk lines: a server can start with it.
+server holds with the same lastUpdated or a later one. It withdraws what FILE.sent has and FILE no longer has. FILE.sent
+is a file of desk lines: a server can start with it.
 """
 DESK_EXAMPLES = """examples:
   tail -n +1 -F map.jsonl | lost-client desk --server localhost:5223 -
