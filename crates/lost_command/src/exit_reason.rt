@@ -73,21 +73,21 @@ impl ExitReason {
             | ExitReason::Map
             | ExitReason::MapRefused => "",
             ExitReason::Name => {
-                "is not a server name: it must have 1 to 253 characters, in labels of letters, digits and hyphens joined by single dots, as lost.example"
+                "is not a server name: it must have 1 to 253 characters, in labels of letters, digits and hyphens joined by single dots, such as lost.example"
             }
             ExitReason::Now => {
-                "is not a time: it must be written in UTC as 2026-01-01T00:00:00Z, with up to nine digits of a fraction of a second before the Z"
+                "is not a time: it must be in UTC, such as 2026-01-01T00:00:00Z, with at most nine decimals of a second before the Z"
             }
             ExitReason::Run(ServeError::Read) => "standard input could not be read",
             ExitReason::Run(ServeError::Write) => "standard output could not be written",
             ExitReason::Run(ServeError::TurnsSpent) => {
-                "the input is too long: it has more lines than --lines allows, 1,000,000 where that is left out"
+                "the input is too long: it has more lines than --lines allows (1,000,000 by default)"
             }
             ExitReason::Run(ServeError::Memory) => "memory ran out",
             ExitReason::Workers => "there must be 1 to 64 workers",
             ExitReason::Accept => "no more connections could be accepted",
             ExitReason::NoEdits => {
-                "--desk and --map are both left out: a server has its boundaries from one of them at least; see `lostd serve --help`"
+                "--desk and --map are both missing: a server gets its boundaries from a desk, a map or both; see `lostd serve --help`"
             }
         }
     }

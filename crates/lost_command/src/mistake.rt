@@ -38,7 +38,7 @@ fn hint_of(command: Option<&str>, kind: ClapKind, line: &str) -> &'static str {
         (ClapKind::MissingSubcommand | ClapKind::InvalidSubcommand, _) => "see `lostd --help`",
         (_, Some("serve")) => "see `lostd serve --help`",
         (ClapKind::UnknownArgument, _) if !line.starts_with("unexpected argument '-") => {
-            "standard input is read: use `< FILE`"
+            "lines come from standard input: use `< FILE`"
         }
         (_, Some("check")) => "see `lostd check --help`",
         _ => "see `lostd replay --help`",

@@ -85,7 +85,7 @@ fn socket_mode_of<R: Eprint>(rt: &R, given: &ArgMatches<'_>) -> Result<u32, Exit
         None => {
             // If standard error fails, the exit status still tells.
             let _said = eprintln!(rt;
-                "lostd: --socket-mode '{text}' is not a mode: it must be one to four octal digits up to 0777, as 0660"
+                "lostd: --socket-mode '{text}' is not a mode: it must be one to four octal digits up to 0777, such as 0660"
             );
             Err(ExitReason::CommandLine)
         }

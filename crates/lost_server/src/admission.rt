@@ -68,7 +68,7 @@ impl Refusal {
     pub(crate) fn text(self) -> &'static str {
         match self {
             Refusal::Most => "refused: too many connections are open",
-            Refusal::MostOfAddress => "refused: too many connections of its address are open",
+            Refusal::MostOfAddress => "refused: too many connections from its address are open",
             Refusal::Memory => "refused: memory ran out",
         }
     }

@@ -38,7 +38,7 @@ impl Passed {
     pub(crate) fn text(self) -> &'static str {
         match self {
             Passed::Reply => "it took no reply for too long",
-            Passed::Line => "a line of it was not whole in time",
+            Passed::Line => "it did not finish a line in time",
             Passed::Idle => "it sent nothing for too long",
         }
     }

@@ -68,7 +68,7 @@ pub fn load_map<T: Wait + Eprint, I: Read + Drop>(
         say(
             rt,
             format!(in alloc;
-                "lostd: --map: {pending} edits behind the last commit are left out\n"
+                "lostd: --map: {pending} edits after the last commit were left out\n"
             ),
         );
     }

@@ -88,14 +88,14 @@ impl<R: Wait + Clock + Eprint + Drop> Notices<R> {
     /// Reports that the edits a desk left pending stay pending for the next one.
     pub(crate) fn say_of_pending(&self) {
         self.say(format!(in self.alloc;
-            "lostd: memory ran out: what the last desk left pending could not be dropped, and the next desk's commit publishes it\n"
+            "lostd: memory ran out: the last desk's pending edits could not be dropped, and the next desk's commit publishes them\n"
         ));
     }
 
     /// Reports that a listener was given up.
     pub(crate) fn say_of_listener(&self) {
         self.say(format!(in self.alloc;
-            "lostd: no more connections could be accepted: the server ends when those that stand have ended\n"
+            "lostd: no more connections could be accepted: the server ends when all open connections have ended\n"
         ));
     }
 
@@ -140,10 +140,10 @@ fn query_line(
     cause: &str,
     left_out: u64,
 ) -> Result<String, AllocError> {
-    let mut line = format!(in alloc; "lostd: query connection {number} of {peer}: {cause}")?;
+    let mut line = format!(in alloc; "lostd: query connection {number} from {peer}: {cause}")?;
     if left_out > 0 {
         let more = format!(in alloc;
-            " ({left_out} more connections ended in faults that were not said)"
+            " ({left_out} more connections ended in faults that are not listed)"
         )?;
         line.push_str(more.as_str())?;
     }
@@ -153,6 +153,6 @@ fn query_line(
 
 /// The line about a desk's connection that ended in a fault.
 fn desk_line(alloc: Global, peer: &Peer, cause: &str) -> Result<String, AllocError> {
-    let line = format!(in alloc; "lostd: desk connection of {peer}: {cause}\n")?;
+    let line = format!(in alloc; "lostd: desk connection from {peer}: {cause}\n")?;
     Ok(line)
 }

@@ -106,7 +106,7 @@ impl<R: Wait + Clock + Eprint + Drop> Drop for Incoming<R> {
     fn drop(self) {
         let Incoming { client, has_read } = self;
         if has_read && !client.is_over.load(Ordering::SeqCst) {
-            client.say("it sent more lines than are answered on one connection");
+            client.say("it sent too many lines for one connection");
         }
         let status = client.notices.status();
         if !has_read {

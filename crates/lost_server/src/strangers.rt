@@ -27,10 +27,10 @@ pub(crate) fn is_tls(front: &[u8]) -> bool
 /// The report of a connection with these first bytes, if it is no desk's.
 pub(crate) fn stranger_text(front: &[u8]) -> Option<&'static str> {
     if is_http(front) {
-        return Some("it speaks HTTP, and no desk does");
+        return Some("it speaks HTTP, not desk lines");
     }
     if is_tls(front) {
-        return Some("it speaks TLS, and no desk does");
+        return Some("it speaks TLS, not desk lines");
     }
     None
 }

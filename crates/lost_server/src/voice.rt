@@ -124,6 +124,6 @@ impl Voice {
 /// The report of left-out lines.
 fn left_out_line(alloc: Global, count: u64) -> Result<String, AllocError> {
     format!(in alloc;
-        "lostd: {count} lines were left out here: standard error took none for too long\n"
+        "lostd: {count} lines were left out here: nothing read standard error in time\n"
     )
 }

@@ -165,10 +165,10 @@ fn say_of_map<R: Eprint>(rt: &R, path: &str, fault: MapFault) {
                 opening_failed(kind)
             )
         }
-        MapFault::Unread => eprintln!(rt; "lostd: --map '{path}' could not be read to its end"),
+        MapFault::Unread => eprintln!(rt; "lostd: --map '{path}' could not be read to the end"),
         MapFault::Refused { refused, pending } => {
             eprintln!(rt;
-                "lostd: --map '{path}': {refused} lines refused, {pending} edits behind the last commit: nothing is served; see --keep-going"
+                "lostd: --map '{path}': {refused} lines refused, {pending} edits after the last commit: the server does not start; see --keep-going"
             )
         }
         MapFault::Memory => Ok(()),
