@@ -23,7 +23,7 @@ COMMITTED = b'{"committed":{"edition":3}}'
 # A server without an end makes no end of growths: so many in a row that nobody notices are behind the last that matters.
 QUIET = 100
 PATIENCE = 5
-LEFT = "lostd: memory ran out: what the last desk left pending could not be dropped, and the next desk's commit publishes it"
+LEFT = "lostd: memory ran out: the last desk's pending edits could not be dropped, and the next desk's commit publishes them"
 with open(f"{TOP}/examples/one-mapping.jsonl", "rb") as session:
     QUESTION = session.read().splitlines()[2]
 with open(f"{TOP}/examples/one-mapping.expected", "rb") as replies:

@@ -24,7 +24,7 @@ def ended_by_server(peer, patience):
 
 def one_line(said, peer, cause):
     """What is wrong with the one line that is said of a query connection."""
-    fitting = [line for line in said if f" of 127.0.0.1:{peer.port}: " in line]
+    fitting = [line for line in said if f" from 127.0.0.1:{peer.port}: " in line]
     if len(fitting) == 1 and fitting[0].startswith("lostd: query connection ") and fitting[0].endswith(f": {cause}"):
         return []
     return [f"of port {peer.port} it said {fitting} and not: {cause}"]
@@ -173,7 +173,7 @@ def desk_dies(program, is_long):
                 wrong += [] if b"m1@" in peer.ask(question(1)) else ["what was published is gone"]
                 peer.end()
             wrong += server.done(6, 0)
-            wanted = [] if way == "end" else [f"lostd: desk connection of 127.0.0.1:{desk.port}: it could not be read"]
+            wanted = [] if way == "end" else [f"lostd: desk connection from 127.0.0.1:{desk.port}: it could not be read"]
             wrong += differs("said", server.said(), wanted)
     return wrong
 

@@ -70,7 +70,7 @@ def all_at_once(program, is_long):
         sender.stop()
         wrong += differs("slow ones ended", ended_among(slow), len(slow))
         wrong += differs("silent ones ended", ended_among(silent), 0)
-        wrong += [] if 10 <= said_of(server, "a line of it was not whole in time") <= 200 else ["it is not said of slow ones"]
+        wrong += [] if 10 <= said_of(server, "it did not finish a line in time") <= 200 else ["it is not said of slow ones"]
         time.sleep(max(0, begun + 40 - time.monotonic()))
         wrong += differs("greedy ones ended", sum(has_ended(one) for one in greedy), GREEDY)
         close_all(silent + slow + greedy)
@@ -159,7 +159,7 @@ def line_time(program, is_long):
             for one, name in [(whole, "whole lines"), (parts, "lines in two parts")]:
                 one.shutdown(socket.SHUT_WR)
                 wrong += differs(name, read_all(one), (EMPTY + b"\n") * 5)
-        wrong += differs("lines said", said_of(server, "a line of it was not whole in time"), 1)
+        wrong += differs("lines said", said_of(server, "it did not finish a line in time"), 1)
     return wrong
 
 
@@ -235,7 +235,7 @@ def per_address(program, is_long):
             again.sendall(LIST + b"\n")
             wrong += differs("the reply to one that has room", again.recv(1 << 16), EMPTY + b"\n")
         wrong += differs("refused", server.status()["connections"]["refused"], 1)
-        wrong += differs("lines said", said_of(server, "refused: too many connections of its address are open"), 1)
+        wrong += differs("lines said", said_of(server, "refused: too many connections from its address are open"), 1)
         close_all(kept + others)
     return wrong
 
@@ -257,8 +257,8 @@ def strangers_at_the_desk(program, is_long):
         wrong += differs("a desk", desk.ask_all([publish(1), COMMIT])[1][:12], b'{"committed"')
         desk.end()
         said = server.said()
-        wrong += differs("lines of HTTP", sum(line.endswith("it speaks HTTP, and no desk does") for line in said), 4)
-        wrong += differs("lines of TLS", sum(line.endswith("it speaks TLS, and no desk does") for line in said), 2)
+        wrong += differs("lines of HTTP", sum(line.endswith("it speaks HTTP, not desk lines") for line in said), 4)
+        wrong += differs("lines of TLS", sum(line.endswith("it speaks TLS, not desk lines") for line in said), 2)
         # The normal client was answered from a list that is not empty once the desk had committed.
     return [text for text in wrong if "a normal client was told" not in text]
 

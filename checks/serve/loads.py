@@ -99,7 +99,7 @@ def end_of_lines(program, is_long):
         wrong += differs("the next connection", again.ask(LIST), services_reply(0))
         again.end()
         desk.end()
-        wrong += one_line(server.said(), peer, "it sent more lines than are answered on one connection")
+        wrong += one_line(server.said(), peer, "it sent too many lines for one connection")
         return wrong + server.done(1, 1)
 
 

@@ -6,7 +6,7 @@ import os
 import sys
 from typing import Callable
 
-FULL = "the disk is full: free some of it, and begin again"
+FULL = "the disk is full: free some space, and run this again"
 NOT_ALLOWED = (errno.EACCES, errno.EPERM, errno.EROFS)
 OWN_CLONE = "run it in a clone of your own"
 
@@ -38,5 +38,5 @@ def status_of(command: str, work: Callable[[], int]) -> int:
         print(f"{command}: {unwritten(error.filename, error, OWN_CLONE)}", file=sys.stderr)
         return 1
     except KeyboardInterrupt:
-        print(f"{command}: stopped; begun again, it goes on where it was", file=sys.stderr)
+        print(f"{command}: stopped; run it again to go on from here", file=sys.stderr)
         return 130

@@ -39,5 +39,5 @@ def find_kit(place: str = PLACE) -> Kit:
         raise Fault(f"{path} version does not run: put a kit of logic {LOGIC} there") from None
     kit = Kit(path, ran.stdout.strip())
     if kit.logic != LOGIC:
-        raise Fault(f"the kit of {path} is {kit.identity!r}, and these sources are proved in logic {LOGIC}: take a kit of that logic")
+        raise Fault(f"the kit of {path} is {kit.identity!r}, but these sources are proved in logic {LOGIC}: use a kit of that logic")
     return kit

@@ -68,10 +68,10 @@ def quickest() -> str:
 def see_memory(free: int, needed: int) -> None:
     """A fault where less memory is free than the largest proof takes."""
     if free < needed:
-        raise Fault(f"{free:,} MB of memory are free, and a proof takes up to {needed:,}: end other programs, or take a larger machine")
+        raise Fault(f"{free:,} MB of memory are free, but a proof takes up to {needed:,}: end other programs, or use a larger machine")
 
 
 def see_disk(free: int, folder: str) -> None:
     """A fault where less disk is free than a build may take."""
     if free < DISK:
-        raise Fault(f"{free:,} MB of disk are free at {folder}, and a build takes up to {DISK:,}: free some, or clone onto a larger disk")
+        raise Fault(f"{free:,} MB of disk are free at {folder}, but a build takes up to {DISK:,}: free some, or clone onto a larger disk")

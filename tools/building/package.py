@@ -70,7 +70,7 @@ class Package:
         except (OSError, lzma.LZMAError) as error:
             raise Fault(f"{FILE} cannot be unpacked ({error}): {AGAIN}") from None
         if not self.is_program(body):
-            raise Fault(f"{FILE} is damaged, since its checksum is not that of {MANIFEST}: {AGAIN}")
+            raise Fault(f"{FILE} is damaged (its checksum is not the one in {MANIFEST}): {AGAIN}")
         return body
 
     def unpack(self) -> str:

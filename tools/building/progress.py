@@ -49,8 +49,8 @@ class Line:
         count = sum(self.functions[name] for name in done) + sum(min(proved[name], self.functions[name]) for name in running)
         now = ", ".join(f"{name} {span(spent)}" for name, spent in running.items())
         minutes = max(round(left / 60), 1)
-        so_far = f"{len(done)} of {len(self.functions)} crates, {count:,} of some {sum(self.functions.values()):,} functions"
-        return f"build: {so_far}; some {minutes} minute{'s' * (minutes > 1)} left; at {now}"
+        so_far = f"{len(done)} of {len(self.functions)} crates, {count:,} of about {sum(self.functions.values()):,} functions"
+        return f"build: {so_far}; about {minutes} minute{'s' * (minutes > 1)} left; now at {now}"
 
     def is_due(self) -> bool:
         """Whether it is time to say it again."""

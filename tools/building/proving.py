@@ -139,11 +139,11 @@ class Proving:
             return FULL
         if status in KILLED:
             fewer = max(len(self.copies.folders) // 2, 1)
-            return f"the proof of {name} was killed, most likely for want of memory: run ./build --jobs {fewer}"
+            return f"the proof of {name} was killed, most likely because memory ran out: run ./build --jobs {fewer}"
         if status < 0:
-            return f"the proof of {name} was ended by signal {-status}: begin again, and it goes on where it was"
+            return f"signal {-status} ended the proof of {name}: run this again to go on from here"
         said = "".join(self.log.last_of(name))
-        return f"{name} was not proved and built; the log is {self.log.path}, and ends on it:\n{said}".rstrip()
+        return f"{name} was not proved and built; its last lines in the log {self.log.path} are:\n{said}".rstrip()
 
     def _say(self) -> None:
         spent = {name: job.spent for name, job in self.running.items()}

@@ -17,11 +17,11 @@ class Words(argparse.ArgumentParser):
 
     def add_jobs(self) -> None:
         """Takes --jobs N."""
-        self.add_argument("--jobs", metavar="N", type=jobs_of, help="the most processors to use")
+        self.add_argument("--jobs", metavar="N", type=jobs_of, help="use at most this many processors")
 
 
 def jobs_of(text: str) -> int:
     """A number of jobs."""
     if not (text.isascii() and text.isdigit() and int(text)):
-        raise argparse.ArgumentTypeError(f"{text!r} is no number from 1 on")
+        raise argparse.ArgumentTypeError(f"{text!r} is not a whole number of at least 1")
     return int(text)

@@ -10,7 +10,7 @@ from maptools.addresses import Tcp, tcp_of
 PACKAGES = "apt-get install python3-lxml python3-aiohttp python3-prometheus-client"
 EXAMPLE = f"""It needs Debian's packages python3-lxml, python3-aiohttp and python3-prometheus-client:
   {PACKAGES}
-and is run by Debian's own python3, /usr/bin/python3, which sees them.
+It runs under Debian's own python3, /usr/bin/python3, which finds them.
 
 example:
   lost-gateway --listen 127.0.0.1:8080 --lostd 127.0.0.1:5222
@@ -52,7 +52,7 @@ def number_between(least: float, greatest: float, kind: Callable[[str], Any]) ->
         except ValueError:
             number = least - 1
         if not least <= number <= greatest:
-            raise ValueError(f"{text!r} is no number from {least:g} to {greatest:g}")
+            raise ValueError(f"{text!r} is not a number from {least:g} to {greatest:g}")
         return number
 
     return checked(read)
@@ -63,20 +63,20 @@ def parser(description: str) -> argparse.ArgumentParser:
     raw = argparse.RawDescriptionHelpFormatter
     words = argparse.ArgumentParser(prog="lost-gateway", description=description, epilog=EXAMPLE, formatter_class=raw)
     add = words.add_argument
-    add("--listen", required=True, type=checked(listen_of), metavar="HOST:PORT", help="where clients ask, over HTTP")
+    add("--listen", required=True, type=checked(listen_of), metavar="HOST:PORT", help="the address for clients, over HTTP")
     servers = {"type": checked(servers_of), "metavar": "HOST:PORT[,HOST:PORT..]"}
-    add("--lostd", required=True, help="the addresses for queries of the servers behind, the preferred one first", **servers)
+    add("--lostd", required=True, help="the --queries addresses of the servers behind, the preferred one first", **servers)
     pool = {"type": number_between(1, 64, int), "default": 2, "metavar": "N"}
-    add("--pool", help="connections of each process to each server (2): lostd needs as many --workers as all of them", **pool)
+    add("--pool", help="connections from each process to each server (2); lostd needs as many --workers as all of them", **pool)
     processes = {"type": number_between(1, 256, int), "default": 1, "metavar": "N"}
-    add("--processes", help="how many processes share the work (1); one for each core is the most that helps", **processes)
+    add("--processes", help="how many processes share the work (1); more than one for each core does not help", **processes)
     timeout = {"type": number_between(0.05, 600, float), "default": 2.0, "metavar": "SECONDS"}
-    add("--timeout", help="how long a server may say nothing before the next one is tried (2)", **timeout)
+    add("--timeout", help="how long to wait for a server before the next one is tried (2)", **timeout)
     area = {"choices": ("centre", "refuse"), "default": "centre"}
     add("--area", help="ask for the centre of an area, with a warning (the default), or refuse it as locationInvalid", **area)
     alias = {"type": checked(alias_of), "default": [], "action": "append", "metavar": "THEIRS=OURS"}
-    add("--alias", help="services that begin with THEIRS in front begin with OURS behind, and back in replies", **alias)
-    add("--no-made-up-names", action="store_true", help="leave displayName out where the map has none; else it is the sourceId")
-    add("--name", metavar="NAME", help="the source of errors and warnings; else the server's own name, from its replies")
+    add("--alias", help="turn THEIRS at the start of a service into OURS, and back in replies", **alias)
+    add("--no-made-up-names", action="store_true", help="leave out displayName if the map has none, instead of giving the sourceId")
+    add("--name", metavar="NAME", help="the source of errors and warnings; without it, the server's own name")
     add("--log", metavar="FILE", help="add one JSON line to FILE for each query")
     return words

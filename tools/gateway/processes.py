@@ -75,7 +75,7 @@ class Family:
             self.work(Place(listening_socket(self.address), self.ready_there, self.life_there, is_first))
             status = 0
         except BaseException as error:  # pylint: disable=broad-except
-            print(f"lost-gateway: a process ends: {error!r}", file=sys.stderr, flush=True)
+            print(f"lost-gateway: a process failed: {error!r}", file=sys.stderr, flush=True)
         os._exit(status)
 
     def end(self, *_: object) -> None:
@@ -103,7 +103,7 @@ class Family:
         begun = self.children.pop(child, 0.0)
         forget(child)
         if not self.is_ending:
-            print(f"lost-gateway: process {child} ended, and another takes its place", file=sys.stderr, flush=True)
+            print(f"lost-gateway: process {child} ended; another takes its place", file=sys.stderr, flush=True)
             time.sleep(max(0.0, PAUSE - (time.monotonic() - begun)))
             self.start_child()
 

@@ -18,27 +18,28 @@ EXAMPLES = """examples:
   lost-client desk --server unix:/run/lostd/desk.sock --sync map.jsonl
   lost-client status --server localhost:5224
 """
-DESK = """Sends the desk lines of FILE, and reads the replies at the same time. Each line that is refused is said on standard
-error with its number, and what came of all lines on standard output.
+DESK = """Sends the desk lines of FILE, and reads the replies at the same time. Standard error names each refused line with its
+number, and standard output sums up all lines.
 
-The server serves one desk at a time, and what is not committed when a desk's connection ends is dropped. While another desk
-is served this one waits, and says so. With --keep-open the connection stays after FILE: further lines come from standard
-input, and it ends with standard input or by an interrupt (Ctrl-C). With FILE - all lines come from standard input, and are
-sent as they come.
+The server serves one desk at a time, and drops uncommitted edits when a desk's connection ends. While it serves another
+desk, this one waits, and says so. With --keep-open the connection stays open after FILE: further lines come from
+standard input, and it ends at the end of standard input or at an interrupt (Ctrl-C). With FILE - all lines come from
+standard input, and are sent as they come.
 
-With --sync the server is made to hold what FILE says: the mappings that its lines leave when they are read from the start.
-FILE must end with a commit, so that a file that was cut off is not taken for a whole one. What the server was last sent is
-kept in FILE.sent. By it what is gone is withdrawn, what changed is replaced, what is new is published, and all of it is
-committed at once; where nothing differs, nothing is sent. Without FILE.sent everything is published. What would be refused is
-said before anything is sent: a mapping that changed needs a later lastUpdated, and a new key where its regions changed; one
-that comes back needs a later lastUpdated than its withdrawal has. A withdrawal is stamped as a withdraw line of FILE says, or
-else with the time of this machine (in UTC, to the second); it must be after the lastUpdated of the mapping that is withdrawn,
-and where neither is, it is a nanosecond after that.
+--sync makes the server hold what FILE says: the mappings that its lines leave when they are read from the start. FILE
+must end with a commit, so that a truncated file is not taken for a whole one. FILE.sent keeps what the server was last
+sent. The client compares the two files: it withdraws mappings that are gone, replaces those that changed, publishes new
+ones, and commits all of that at once. If nothing differs, it sends nothing. Without FILE.sent it publishes everything.
 
-Where the server refuses an edit all the same, since it was started anew or another desk changed its map, nothing is committed,
-and FILE.sent stays as it was. Then --anew publishes all of FILE, and replaces what the server holds: what it holds with the
-same lastUpdated or a later one stays as it is there. What FILE.sent has and FILE has no more is withdrawn. FILE.sent has desk
-lines that a server can be started with.
+Before it sends anything, --sync names each edit that would be refused. A changed mapping needs a later lastUpdated, and
+a new key if its regions changed. A mapping that comes back needs a later lastUpdated than its withdrawal. A withdrawal
+has the stamp of its withdraw line in FILE, or else the time of this machine (in UTC, to the second), whichever is after
+the lastUpdated of the withdrawn mapping. If neither is, the stamp is a nanosecond after that lastUpdated.
+
+If the server still refuses an edit, because it was restarted or another desk changed its map, nothing is committed, and
+FILE.sent stays as it was. Then use --anew: it publishes all of FILE and replaces what the server holds, except what the
+server holds with the same lastUpdated or a later one. It withdraws what FILE.sent has and FILE no longer has. FILE.sent
+is a file of desk lines: a server can start with it.
 """
 DESK_EXAMPLES = """examples:
   tail -n +1 -F map.jsonl | lost-client desk --server localhost:5223 -
@@ -46,10 +47,10 @@ DESK_EXAMPLES = """examples:
   lost-client desk --sync map.jsonl --server unix:/run/lostd/desk.sock
   lost-client desk --sync map.jsonl --sent map.second --server 10.0.0.6:5223
 """
-STATUS = """Shows what the server at its --status address says of itself: whether it is ready, its edition and its mappings, and
-what it counted since its start. With --json it is printed as it comes, as one JSON object.
+STATUS = """Shows what the server reports at its --status address: whether it is ready, its edition, its mappings, and its counts
+since it started. --json prints the report as it comes, as one JSON object.
 
-Exit status: 0 where the server is ready, 3 where it is not, 1 where there is no answer.
+Exit status: 0 if the server is ready, 3 if it is not, 1 if there is no answer.
 """
 STATUS_EXAMPLES = """examples:
   lost-client status --server localhost:5224
@@ -80,7 +81,7 @@ def seconds_argument(text: str) -> float:
     except ValueError:
         seconds = 0
     if not 0 < seconds <= 86_400:
-        raise argparse.ArgumentTypeError(f"{text!r} is no number of seconds up to 86,400")
+        raise argparse.ArgumentTypeError(f"{text!r} is not a number of seconds up to 86,400")
     return seconds
 
 
@@ -88,7 +89,7 @@ def add_common(words: argparse.ArgumentParser, is_desk: bool = False) -> None:
     """The arguments of every subcommand. A desk waits for its turn, and needs no server to say what it would send."""
     where = "where the server listens: HOST:PORT, or unix:PATH for a socket in the file system"
     words.add_argument("--server", required=not is_desk, type=server_argument, metavar="ADDRESS", help=where)
-    usual = f"{USUAL:g}, but without end for the first reply, while another desk is served" if is_desk else f"{USUAL:g}"
+    usual = f"{USUAL:g}, but no limit for the first reply, while another desk is served" if is_desk else f"{USUAL:g}"
     seconds = {"type": seconds_argument, "default": None if is_desk else USUAL, "metavar": "SECONDS"}
     words.add_argument("--timeout", help=f"how long to wait for a connection, and for a reply ({usual})", **seconds)
     words.add_argument("--json", action="store_true", help="print each reply as it is")
@@ -108,11 +109,11 @@ def add_requests(commands: Any) -> None:
     """The subcommands that ask one question."""
     find = commands.add_parser("find", help="which centre serves a place (findService)")
     find.add_argument("--service", required=True, metavar="URN", help="such as urn:service:sos.police")
-    find.add_argument("--value", action="store_true", help="show the boundary itself, and not its key")
+    find.add_argument("--value", action="store_true", help="show the boundary itself, not its key")
     find.add_argument("--validate", action="store_true", help="validate the address")
     add_place(find, True)
     services = commands.add_parser("services", help="which services there are (listServices, listServicesByLocation)")
-    services.add_argument("--service", metavar="URN", help="those one label below it")
+    services.add_argument("--service", metavar="URN", help="only those one label below this service")
     add_place(services, False)
     boundary = commands.add_parser("boundary", help="the boundary of a key (getServiceBoundary)")
     boundary.add_argument("--key", required=True, help="the key, as `find` shows it")
@@ -125,10 +126,10 @@ def add_desk(commands: Any) -> None:
     about = {"description": DESK, "epilog": DESK_EXAMPLES, "formatter_class": RAW}
     desk = commands.add_parser("desk", help="send desk lines from a file to the desk's address", **about)
     desk.add_argument("file", metavar="FILE", help="the desk lines; standard input for -")
-    desk.add_argument("--keep-open", action="store_true", help="then send what comes on standard input, until it ends")
+    desk.add_argument("--keep-open", action="store_true", help="after FILE, send what comes on standard input, until it ends")
     desk.add_argument("--sync", action="store_true", help="make the server hold what FILE says")
     desk.add_argument("--sent", metavar="PATH", help="where --sync keeps what the server was sent (FILE.sent)")
-    desk.add_argument("--anew", action="store_true", help="with --sync, to a server that may hold anything")
+    desk.add_argument("--anew", action="store_true", help="with --sync, for a server that may hold anything")
     desk.add_argument("--dry-run", action="store_true", help="with --sync, say what would be sent, and send nothing")
     desk.add_argument("--show", action="store_true", help="with --dry-run, print the lines that would be sent")
     add_common(desk, is_desk=True)
@@ -152,7 +153,7 @@ def mistake_in(options: argparse.Namespace) -> str:
     if not options.server and not options.dry_run:
         return "the following arguments are required: --server"
     if options.sync and (options.keep_open or options.file == "-"):
-        return "--sync takes a FILE, and neither standard input nor --keep-open"
+        return "--sync needs a FILE, and goes with neither standard input nor --keep-open"
     if not options.sync and (options.sent or options.anew or options.dry_run):
         return "--sent, --anew and --dry-run go with --sync"
     return "--show goes with --dry-run" if options.show and not options.dry_run else ""

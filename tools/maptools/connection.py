@@ -48,10 +48,10 @@ def ask(server: Server, line: bytes, seconds: float) -> bytes:
             while not reply.endswith(b"\n"):
                 piece = connection.recv(CHUNK)
                 if not piece:
-                    raise Broken(f"{server} closed the connection before its reply was whole")
+                    raise Broken(f"{server} closed the connection before the end of its reply")
                 reply += piece
         except socket.timeout:
-            raise Broken(f"{server} gave no whole reply in {seconds:g} seconds") from None
+            raise Broken(f"{server} gave no complete reply in {seconds:g} seconds") from None
         except OSError as error:
             raise Broken(f"the connection to {server} failed: {error}") from None
     return reply[:-1]

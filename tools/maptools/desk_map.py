@@ -67,10 +67,10 @@ def parsed_line(line: bytes) -> Parsed:
     """What a line says."""
     member = read_line(line)
     if member is None or member[0] not in (*EDITS, COMMIT):
-        return Parsed("", None, Fault(1, "this is no desk line"))
+        return Parsed("", None, Fault(1, "this is not a desk line"))
     kind, value = member
     if kind == COMMIT:
-        return Parsed(kind, value, None if isinstance(value, dict) else Fault(1, "the value is no object"))
+        return Parsed(kind, value, None if isinstance(value, dict) else Fault(1, "the value is not an object"))
     if kind == "withdraw":
         return Parsed(kind, value, withdrawal_fault(value))
     fault = mapping_fault(value)
@@ -98,7 +98,7 @@ class Reader:
                 parsed = self.known.get(line) or self.known.setdefault(line, parsed_line(line))
                 result.take(number, line, parsed)
         if not result.is_committed:
-            result.complaints.append(f"{path}: its last line is no commit; write one, so that it is seen to be whole")
+            result.complaints.append(f"{path}: its last line is not a commit; add one, to show that the file is whole")
         return result
 
     def read_if_there(self, path: str) -> DeskMap:

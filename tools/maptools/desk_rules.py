@@ -53,33 +53,33 @@ def is_name_list(value: Any) -> bool:
 def kind_fault(value: Any) -> Optional[Fault]:
     """Code 1: a member that is missing or of another kind; null counts as no value."""
     if not isinstance(value, dict):
-        return Fault(1, "the value is no object")
+        return Fault(1, "the value is not an object")
     for name in REQUIRED:
         if not isinstance(value.get(name), str):
-            return Fault(1, f"{name} is no text")
+            return Fault(1, f"{name} is not a text")
     if not is_text_list(value.get("uri")):
-        return Fault(1, "uri is no list of texts")
+        return Fault(1, "uri is not a list of texts")
     kinds = {"serviceNumber": str, "serviceBoundary": list, "default": bool, "key": str}
     for name, kind in kinds.items():
         if value.get(name) is not None and not isinstance(value[name], kind):
             return Fault(1, f"{name} is of another kind")
     if value.get("displayName") is not None and not is_name_list(value["displayName"]):
-        return Fault(1, "displayName is no list of objects with lang and text")
+        return Fault(1, "displayName is not a list of objects with lang and text")
     return None
 
 
 def text_fault(value: Dict[str, Any]) -> Optional[Fault]:
     """Codes 2 to 6: the texts that each mapping has."""
     if not is_source(value["source"]):
-        return Fault(2, f"{value['source']!r} is no source")
+        return Fault(2, f"{value['source']!r} is not a source")
     if not is_id(value["sourceId"]):
-        return Fault(3, f"{value['sourceId']!r} is no sourceId")
+        return Fault(3, f"{value['sourceId']!r} is not a sourceId")
     if moment_of(value["lastUpdated"]) is None:
-        return Fault(4, f"{value['lastUpdated']!r} is no stamp")
+        return Fault(4, f"{value['lastUpdated']!r} is not a stamp")
     if not is_expires(value["expires"]):
-        return Fault(5, f"{value['expires']!r} is no stamp, NO-CACHE or NO-EXPIRATION")
+        return Fault(5, f"{value['expires']!r} is not a stamp, NO-CACHE or NO-EXPIRATION")
     if service_of(value["service"]) is None:
-        return Fault(6, f"{value['service']!r} is no service URN")
+        return Fault(6, f"{value['service']!r} is not a service URN")
     return None
 
 
@@ -87,7 +87,7 @@ def uri_fault(uris: List[str]) -> Optional[Fault]:
     """Code 7: 1 to 16 URIs, no scheme twice."""
     for uri in uris:
         if scheme_of(uri) is None:
-            return Fault(7, f"{uri!r} is no URI")
+            return Fault(7, f"{uri!r} is not a URI")
     if not 1 <= len(uris) <= 16:
         return Fault(7, f"there are {len(uris)} URIs")
     schemes = [scheme_of(uri) for uri in uris]
@@ -146,10 +146,10 @@ def boundary_fault(value: Dict[str, Any]) -> Optional[Fault]:
     number, regions, is_default = value.get("serviceNumber"), regions_of(value), value.get("default") is True
     names, key = value.get("displayName") or [], value.get("key")
     if number is not None and not is_number(number):
-        return Fault(8, f"{number!r} is no service number")
+        return Fault(8, f"{number!r} is not a service number")
     for place, region in enumerate(regions, 1):
         if not is_region(region):
-            return Fault(9, f"region {place} is no region")
+            return Fault(9, f"region {place} is not a region")
     if is_default == bool(regions):
         return Fault(10, "a default has a region" if is_default else "there is no region")
     if len(contents_of(value, GEODETIC)) > MOST_POLYGONS or len(contents_of(value, CIVIC)) > MOST_PATTERNS:
@@ -158,7 +158,7 @@ def boundary_fault(value: Dict[str, Any]) -> Optional[Fault]:
         return Fault(11, "there are too many display names, or one is too long")
     if (key is not None) == is_default:
         return Fault(12, "a default has a key" if is_default else "there is no key")
-    return Fault(12, f"{key!r} is no key") if key is not None and not is_id(key) else None
+    return Fault(12, f"{key!r} is not a key") if key is not None and not is_id(key) else None
 
 
 def mapping_fault(value: Any) -> Optional[Fault]:
@@ -169,7 +169,7 @@ def mapping_fault(value: Any) -> Optional[Fault]:
 def withdrawal_fault(value: Any) -> Optional[Fault]:
     """Codes 1 to 4 for a withdrawal."""
     if not isinstance(value, dict) or not all(isinstance(value.get(name), str) for name in REQUIRED[:3]):
-        return Fault(1, "a member is missing or no text")
+        return Fault(1, "a member is missing or not a text")
     return text_fault({"expires": "NO-CACHE", "service": "urn:service:sos", **{name: value[name] for name in REQUIRED[:3]}})
 
 

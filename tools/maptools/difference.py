@@ -88,7 +88,7 @@ def name_of(value: Dict[str, Any]) -> str:
 def place_of(edit: Edit, wanted: DeskMap) -> str:
     """The mapping that an edit is about, and where the map file has it."""
     if edit.kind == "withdraw":
-        return f"{name_of(edit.value)}, which {wanted.path} has no more"
+        return f"{name_of(edit.value)}, which {wanted.path} no longer has"
     return f"{wanted.path}, line {wanted.given[identity_of(edit.value)].number}: {name_of(edit.value)}"
 
 

@@ -79,7 +79,7 @@ class Patience:
         """Broken where no reply has come for too long, after so many."""
         silent, limit = time.monotonic() - self.since, self.limit()
         if limit is not None and silent > limit:
-            why = f", after {count}" if self.is_served else f": {OTHER_DESK}, and the server serves one at a time"
+            why = f", after {count} replies" if self.is_served else f": {OTHER_DESK}, and the server serves one at a time"
             raise Broken(f"no reply in {limit:g} seconds{why}")
         if silent > NOTICE and not self.is_served and not self.is_said:
             self.is_said = True

@@ -23,7 +23,7 @@ def decimal_of(text: str) -> Decimal:
     try:
         return Decimal(text)
     except InvalidOperation:
-        raise ValueError(f"the number {text} is out of all bounds") from None
+        raise ValueError(f"the number {text} is too large") from None
 
 
 def system_of(document: Dict[str, Any]) -> str:
@@ -38,10 +38,10 @@ def features_of(text: str) -> List[Any]:
     try:
         document = json.loads(text, parse_float=decimal_of, parse_constant=refuse_constant)
     except (ValueError, RecursionError) as error:
-        raise NoGeojson(f"the input is no JSON: {error}") from None
+        raise NoGeojson(f"the input is not JSON: {error}") from None
     kind = document.get("type") if isinstance(document, dict) else None
     if kind not in ("Feature", "FeatureCollection"):
-        raise NoGeojson("the input is no Feature and no FeatureCollection")
+        raise NoGeojson("the input is neither a Feature nor a FeatureCollection")
     system = system_of(document)
     if system and not any(system.endswith(known) for known in KNOWN_SYSTEMS):
         raise NoGeojson(f"the input is in the reference system {system}: convert it to WGS 84 (EPSG:4326) first")
@@ -55,10 +55,10 @@ def features_of(text: str) -> List[Any]:
 def position_of(value: Any) -> Any:
     """A position in units, latitude first; an altitude is left out."""
     if not isinstance(value, list) or len(value) < 2:
-        raise Unfit("is no position")
+        raise Unfit("is not a position")
     longitude, latitude = value[:2]
     if not all(type(number) in (int, Decimal) for number in (longitude, latitude)):
-        raise Unfit("has a coordinate that is no number")
+        raise Unfit("has a coordinate that is not a number")
     if not -90 <= latitude <= 90:
         may_be_swapped = -90 <= longitude <= 90 and -180 <= latitude <= 180
         swapped = ": is it swapped? GeoJSON has longitude first" if may_be_swapped else ""
@@ -79,7 +79,7 @@ def named(where: str, call: Any, *arguments: Any) -> Any:
 def ring_of(value: Any, is_flat: bool) -> Ring:
     """A ring in one piece."""
     if not isinstance(value, list):
-        raise Unfit("is no list of positions")
+        raise Unfit("is not a list of positions")
     if len(value) < 4:
         raise Unfit("has fewer than 4 positions")
     ring = [named(f"position {place}", position_of, position) for place, position in enumerate(value, 1)]

@@ -56,7 +56,7 @@ def is_deeper(value: Any, levels: int) -> bool:
 
 def refuse_constant(name: str) -> Any:
     """NaN and Infinity are no JSON."""
-    raise ValueError(f"{name} is no JSON")
+    raise ValueError(f"{name} is not JSON")
 
 
 def line_of(value: Any) -> str:

@@ -13,18 +13,18 @@ class Refusal(NamedTuple):
 
 
 REFUSALS: Dict[int, Refusal] = {
-    1: Refusal("BadLine", "a required member is missing or a member is of another kind, or this is no desk line", "mend the line"),
-    2: Refusal("BadSource", "source is no source", "write it as labels joined by single dots"),
+    1: Refusal("BadLine", "a required member is missing, a member is of another kind, or this is not a desk line", "mend the line"),
+    2: Refusal("BadSource", "source is not a source name", "write it as labels joined by single dots"),
     3: Refusal("BadSourceId", "sourceId is empty, over 128 bytes, or has a control byte", "give another one"),
-    4: Refusal("BadStamp", "lastUpdated is no stamp, or its day does not exist", "write it in UTC, with T and Z"),
-    5: Refusal("BadExpires", "expires is neither a stamp nor NO-CACHE nor NO-EXPIRATION", "write one of these"),
-    6: Refusal("BadService", "service is no service URN", "write it with urn:service:"),
+    4: Refusal("BadStamp", "lastUpdated is not a stamp, or its day does not exist", "write it in UTC, with T and Z"),
+    5: Refusal("BadExpires", "expires is not a stamp, NO-CACHE or NO-EXPIRATION", "write one of these"),
+    6: Refusal("BadService", "service is not a service URN", "write it with urn:service:"),
     7: Refusal("BadUri", "no URI, more than 16, a text that is not a URI, or two of one scheme", "give one for each scheme"),
-    8: Refusal("BadNumber", "serviceNumber is empty, over 64 characters, or has another character", "give digits, * and # alone"),
-    9: Refusal("BadRegion", "an item of serviceBoundary is no region", "mend the region; close the ring"),
-    10: Refusal("RegionMissing", "a mapping that is no default has no region, or a default has one", "add a region, or leave it out"),
+    8: Refusal("BadNumber", "serviceNumber is empty, over 64 characters, or has another character", "give only digits, * and #"),
+    9: Refusal("BadRegion", "an item of serviceBoundary is not a region", "mend the region; close the ring"),
+    10: Refusal("RegionMissing", "a mapping that is not a default has no region, or a default has one", "add a region, or leave it out"),
     11: Refusal("TooLarge", "over 64 polygons, 256 patterns or 16 names, or a name over 1,024 bytes", "split the mapping in two"),
-    12: Refusal("BadKey", "no key, a malformed key, or a key at a default", "give a key; leave it out at a default"),
+    12: Refusal("BadKey", "no key, a malformed key, or a key on a default", "give a key, or none on a default"),
     13: Refusal("IdentityHeld", "a mapping with this source and sourceId is held", "send it as replace"),
     14: Refusal("IdentityUnknown", "no mapping with this source and sourceId is held", "send it as publish"),
     15: Refusal("NotNewer", "lastUpdated is not after that of the mapping held", "give a later stamp, or drop the edit"),
@@ -33,7 +33,7 @@ REFUSALS: Dict[int, Refusal] = {
     18: Refusal("Full", "65,536 mappings are held", "withdraw one first, or join mappings"),
     19: Refusal("EditsSpent", "4,294,967,295 edits were accepted", "start the server again, and publish the map again"),
     20: Refusal("Memory", "the server has no memory for it; nothing changed", "send the line again later"),
-    21: Refusal("Withdrawn", "it was withdrawn, at this lastUpdated or later", "drop the line; if it shall come back, give a later stamp"),
+    21: Refusal("Withdrawn", "it was withdrawn, at this lastUpdated or later", "drop the line; to bring the mapping back, give a later stamp"),
     22: Refusal("TracesFull", "65,536 withdrawn mappings are remembered", "publish one of them again, with a later stamp"),
 }
 

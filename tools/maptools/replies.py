@@ -17,7 +17,7 @@ def reply_of(line: bytes) -> Tuple[str, Dict[str, Any]]:
         ((name, value),) = json.loads(line).items()
         return name, dict(value)
     except (ValueError, AttributeError, TypeError):
-        raise Broken(f"the server's reply is none of LoST: {line[:80]!r}") from None
+        raise Broken(f"the server's reply is not a LoST reply: {line[:80]!r}") from None
 
 
 def refused_text(name: str, reply: Dict[str, Any]) -> str:

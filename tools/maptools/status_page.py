@@ -10,7 +10,7 @@ from maptools.connection import Broken, connect
 
 OK, UNAVAILABLE = 200, 503
 LONGEST_BODY = 1_048_576
-HINT = "is it the address that the server has as --status?"
+HINT = "is it the server's --status address?"
 
 
 class Page(NamedTuple):
@@ -68,5 +68,5 @@ def status_object(server: Server, body: str) -> Dict[str, Any]:
     except (ValueError, RecursionError):
         value = None
     if not isinstance(value, dict):
-        raise Broken(f"{server} has a status that is no JSON object: {body[:80]!r}")
+        raise Broken(f"the status of {server} is not a JSON object: {body[:80]!r}")
     return value

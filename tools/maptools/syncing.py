@@ -53,7 +53,7 @@ def complaints_of(options: argparse.Namespace, sent: DeskMap, wanted: DeskMap) -
     server = str(options.server)
     if options.anew or not options.server or sent.server in ("", server):
         return wanted.complaints + ([] if options.anew else sent.complaints)
-    return [f"{sent.path} says what {sent.server} was sent, and not {server}: give each server a file of its own by --sent"]
+    return [f"{sent.path} is for {sent.server}, not for {server}: give each server a file of its own with --sent"]
 
 
 def task_of(options: argparse.Namespace) -> Task:
@@ -108,7 +108,7 @@ def say_refused(task: Task, outcome: Outcome) -> int:
     text = f"{len(outcome.refused)} of {len(task.difference.edits)} edits were refused, so nothing was published"
     if not is_anew and any(one.code() in OF_WHAT_IS_HELD for one in outcome.refused):
         text += f": the server holds other mappings than {task.sent_path} says"
-        text += f", since it was started anew or another desk changed its map; {AGAIN}"
+        text += f", because it was restarted or another desk changed its map; {AGAIN}"
     say(text)
     return 3
 
@@ -126,7 +126,7 @@ def commit(talk: Talk) -> Reply:
     try:
         return talk.ask([COMMIT_LINE])[0]
     except (Broken, KeyboardInterrupt) as error:
-        raise Broken(f"{str(error) or 'interrupted'}; whether the edits were published is not known: {AGAIN}") from None
+        raise Broken(f"{str(error) or 'interrupted'}; the edits may have been published or not: {AGAIN}") from None
 
 
 def publish(task: Task, talk: Talk, outcome: Outcome) -> int:
@@ -149,7 +149,7 @@ def publish(task: Task, talk: Talk, outcome: Outcome) -> int:
 def fitting_text(edits: List[Edit]) -> str:
     """How many edits were refused because the server was as it should be, by all that its refusal says."""
     count = Counter(edit.kind for edit in edits)
-    return f", {count['replace']} held before with the same stamp or a later one, {count['withdraw']} gone before"
+    return f", {count['replace']} already held with the same stamp or a later one, {count['withdraw']} already gone"
 
 
 def keep(part: str, path: str) -> None:
@@ -171,7 +171,7 @@ def sync_desk(options: argparse.Namespace) -> int:
     if options.dry_run:
         return show(task)
     if not task.difference.edits:
-        print(f"nothing to send: by {task.sent_path} the server holds what {options.file} says", file=channel(options.json))
+        print(f"nothing to send: according to {task.sent_path}, the server holds what {options.file} says", file=channel(options.json))
         return 0
     with connect(options.server, options.timeout or USUAL) as connection:
         talk = Talk(connection, options)

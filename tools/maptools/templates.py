@@ -34,9 +34,9 @@ def text_of(name: str, value: Any) -> Optional[str]:
     if isinstance(value, Decimal):
         return format(value, "f") if -50 < value.adjusted() < 50 else str(value)
     if not isinstance(value, (str, int)):
-        raise Unfit(f"has a property {name!r} that is no text and no number")
+        raise Unfit(f"has a property {name!r} that is neither text nor a number")
     if not is_unicode(str(value)):
-        raise Unfit(f"has a property {name!r} that is no Unicode text")
+        raise Unfit(f"has a property {name!r} that is not Unicode text")
     return str(value)
 
 

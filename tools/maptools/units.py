@@ -21,9 +21,9 @@ def units_of(text: str) -> int:
     try:
         degrees = Decimal(text.strip())
     except InvalidOperation:
-        raise ValueError(f"{text!r} is no number of degrees") from None
+        raise ValueError(f"{text!r} is not a number of degrees") from None
     if not degrees.is_finite() or not -1000 < degrees < 1000:
-        raise ValueError(f"{text!r} is out of range; whole units are taken with --units")
+        raise ValueError(f"{text!r} is out of range; for whole units give --units")
     return rounded_units(degrees)
 
 

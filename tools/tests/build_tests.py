@@ -18,7 +18,7 @@ from tests.checkout import CRATES, Checkout
 from tests.running import CASES
 
 ALL = ["lost_left", "lost_low", "lost_right", "lostd"]
-FULL = "the disk is full: free some of it, and begin again"
+FULL = "the disk is full: free some space, and run this again"
 NO_KIT = f"there is no kit to build with: put one of logic {LOGIC} at "
 
 
@@ -52,7 +52,7 @@ class Build(Checkout):
         self.assertEqual(self.names(), ALL)
         self.is_clean()
         self.assertTrue(os.path.isfile(f"{self.top}/crates/lost_low/out/rlib/stamp"))
-        self.assertEqual(self.run_script("build")[:2], (0, "build: nothing is to be done: crates/lostd/out/lostd was built from these sources\n"))
+        self.assertEqual(self.run_script("build")[:2], (0, "build: nothing to do: crates/lostd/out/lostd was built from these sources\n"))
         self.assertEqual(self.run_script("lostd", "--version")[:2], (0, "lostd 0.0.7\n"))
         self.assertEqual(self.proved(), [])
 
@@ -68,7 +68,7 @@ class Build(Checkout):
         self.build()
         self.assertEqual([line.split(" over ")[1] for line in self.proved() if line.startswith("lost_left")], ["lost_left"])
         self.change("crates/lost_bench/src/lib.rt", "lost_bench", "lost_bank")
-        self.assertIn("nothing is to be done", self.run_script("build")[1])
+        self.assertIn("nothing to do", self.run_script("build")[1])
 
     def test_an_interrupted_build_goes_on_where_it_was(self) -> None:
         for by, status in ((signal.SIGINT, 130), (signal.SIGTERM, 130), (signal.SIGKILL, -9)):
@@ -76,7 +76,7 @@ class Build(Checkout):
                 ended, said = self.stopped(by, 1.5, "build", "--jobs", "2")
                 self.assertEqual(ended, status)
                 if by != signal.SIGKILL:
-                    self.assertEqual(said.splitlines()[-1], "build: stopped; begun again, it goes on where it was")
+                    self.assertEqual(said.splitlines()[-1], "build: stopped; run it again to go on from here")
                     self.is_clean()
                 self.assertIn("lost_low", self.names())
                 self.build()
@@ -87,7 +87,7 @@ class Build(Checkout):
 
     def test_lostd_interrupted_while_it_builds_goes_on_where_it_was(self) -> None:
         ended, said = self.stopped(signal.SIGINT, 0.5, "lostd", "--version")
-        self.assertEqual((ended, said.splitlines()[-1]), (130, "lostd: stopped; begun again, it goes on where it was"))
+        self.assertEqual((ended, said.splitlines()[-1]), (130, "lostd: stopped; run it again to go on from here"))
         self.is_clean()
         self.assertIn("lost_low", self.names())
         self.assertEqual(self.run_script("lostd", "--version")[:2], (0, "lostd 0.0.7\n"))
@@ -97,7 +97,7 @@ class Build(Checkout):
         self.change("crates/lost_right/src/lib.rt", "{}", "{ WRONG }")
         status, _, said = self.run_script("build", "--jobs", "1")
         self.assertEqual(status, 1)
-        self.assertIn(f"build: lost_right was not proved and built; the log is {self.top}/out/build.log, and ends on it:\n", said)
+        self.assertIn(f"build: lost_right was not proved and built; its last lines in the log {self.top}/out/build.log are:\n", said)
         self.assertIn("fn lost_right::f: not proved\n", said)
         self.assertNotIn("lostd", self.names())
         self.assertEqual(self.run_script("lostd", "--version")[0], 1)
@@ -116,7 +116,7 @@ class Build(Checkout):
     def test_a_kit_of_another_logic(self) -> None:
         self.write(f"{self.kit}/KIT-ID", "rattle-kit-99 logic 0123456789abcdef")
         kit = f"the kit of {self.kit}/rt is 'rattle-kit-99 logic 0123456789abcdef'"
-        wanted = f"{kit}, and these sources are proved in logic {LOGIC}: take a kit of that logic"
+        wanted = f"{kit}, but these sources are proved in logic {LOGIC}: use a kit of that logic"
         self.assertEqual(self.fault(), f"build: {wanted}")
         self.assertEqual(self.fault("lostd"), f"lostd: there is no packaged program, and {wanted}")
 
@@ -125,7 +125,7 @@ class Build(Checkout):
         shutil.copy(f"{CASES}/building/rt", path)
         self.write(f"{path}/KIT-ID", "rattle-kit-99 logic 0123456789abcdef")
         kit = f"the kit of {path}/rt is 'rattle-kit-99 logic 0123456789abcdef'"
-        self.assertEqual(self.fault(), f"build: {kit}, and these sources are proved in logic {LOGIC}: take a kit of that logic")
+        self.assertEqual(self.fault(), f"build: {kit}, but these sources are proved in logic {LOGIC}: use a kit of that logic")
 
     def test_a_kit_that_does_not_run(self) -> None:
         for text in ("#!/bin/sh\nexit 3\n", "#!/nowhere\n"):
@@ -134,12 +134,12 @@ class Build(Checkout):
 
     def test_too_little_memory(self) -> None:
         self.change("tools/building/schedule.py", " = 1, 0.8, 0.1", " = 900_000_000, 0, 0")
-        wanted = r"^build: [\d,]+ MB of memory are free, and a proof takes up to 900,000,000: end other programs, or take a larger machine$"
+        wanted = r"^build: [\d,]+ MB of memory are free, but a proof takes up to 900,000,000: end other programs, or use a larger machine$"
         self.assertRegex(self.fault(), wanted)
 
     def test_too_little_disk(self) -> None:
         self.change("tools/building/machine.py", "DISK = 1", "DISK = 900_000_000")
-        wanted = r"^build: [\d,]+ MB of disk are free at .*, and a build takes up to 900,000,000: free some, or clone onto a larger disk$"
+        wanted = r"^build: [\d,]+ MB of disk are free at .*, but a build takes up to 900,000,000: free some, or clone onto a larger disk$"
         self.assertRegex(self.fault(), wanted)
 
     def failed(self, word: str) -> str:
@@ -156,9 +156,9 @@ class Build(Checkout):
         self.is_clean()
 
     def test_a_proof_that_is_killed(self) -> None:
-        wanted = "the proof of lost_right was killed, most likely for want of memory: run ./build --jobs 1"
+        wanted = "the proof of lost_right was killed, most likely because memory ran out: run ./build --jobs 1"
         self.assertEqual(self.failed("KILLED"), f"build: {wanted}")
-        wanted = "the proof of lost_right was ended by signal 15: begin again, and it goes on where it was"
+        wanted = "signal 15 ended the proof of lost_right: run this again to go on from here"
         self.assertEqual(self.failed("ENDED"), f"build: {wanted}")
         self.build()
 

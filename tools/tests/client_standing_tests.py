@@ -78,7 +78,7 @@ class Standing(unittest.TestCase):
     def test_syncs(self) -> None:
         self.write(*published(A, B))
         self.begin_usual()
-        held = "2 held before with the same stamp or a later one, 0 gone before; no commit was needed\n"
+        held = "2 already held with the same stamp or a later one, 0 already gone; no commit was needed\n"
         self.assertEqual(self.sync("--anew")[:2], (0, f"0 published, 0 replaced, 0 withdrawn, {held}"))
         self.assertEqual(self.sync()[1][:15], "nothing to send")
         self.write(*published(mapping("B", 2, place=100, uri=["sip:other@map.example"]), C))
@@ -98,7 +98,7 @@ class Standing(unittest.TestCase):
         status, _, said = self.sync()
         self.assertEqual((status, "line 1: map.example A: refused with code 14, IdentityUnknown" in said), (3, True))
         self.assertEqual(self.found("205,5"), [])
-        held = "1 held before with the same stamp or a later one, 0 gone before; edition 5\n"
+        held = "1 already held with the same stamp or a later one, 0 already gone; edition 5\n"
         self.assertEqual(self.sync("--anew")[:2], (0, f"2 published, 0 replaced, 0 withdrawn, {held}"))
         self.assertEqual([self.found("5,5"), self.found("205,5")], [["A"], ["C"]])
 

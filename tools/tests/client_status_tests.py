@@ -69,7 +69,7 @@ class Status(unittest.TestCase):
     def test_the_address_of_queries_and_of_nobody(self) -> None:
         server, _ = serve_once(lambda line: b'{"errors":{"error":"badRequest"}}\n')
         status, _, said = run_tool("lost-client", ["status", "--server", server, "--timeout", "5"])
-        cause = '({"errors":{"error":"badRequest"}}): is it the address that the server has as --status?'
+        cause = """({"errors":{"error":"badRequest"}}): is it the server's --status address?"""
         self.assertEqual((status, said), (1, f"lost-client: {server} gave no answer over HTTP {cause}\n"))
         nobody = free_address()
         status, _, said = run_tool("lost-client", ["status", "--server", nobody])

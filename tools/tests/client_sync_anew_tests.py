@@ -7,7 +7,7 @@ from maptools.desk_map import Reader
 from tests.map_file import A, B, C, D, MapFile, mapping, published
 
 UNKNOWN = "refused with code 14, IdentityUnknown: no mapping with this source and sourceId is held"
-COUNTS = "{} published, {} replaced, {} withdrawn, {} held before with the same stamp or a later one, {} gone before; {}\n"
+COUNTS = "{} published, {} replaced, {} withdrawn, {} already held with the same stamp or a later one, {} already gone; {}\n"
 
 
 class Anew(MapFile):
@@ -28,9 +28,9 @@ class Anew(MapFile):
         status, output, said = self.sync()
         self.assertEqual((status, output, self.sent_text()), (3, "", before))
         gone, changed, last = said.splitlines()
-        self.assertEqual(gone, f"lost-client: map.example B, which {self.file} has no more: {UNKNOWN}")
+        self.assertEqual(gone, f"lost-client: map.example B, which {self.file} no longer has: {UNKNOWN}")
         self.assertEqual(changed, f"lost-client: {self.file}, line 1: map.example A: {UNKNOWN}")
-        why = f"the server holds other mappings than {self.sent} says, since it was started anew or another desk changed its map"
+        why = f"the server holds other mappings than {self.sent} says, because it was restarted or another desk changed its map"
         self.assertEqual(last, f"lost-client: 2 of 2 edits were refused, so nothing was published: {why}; try again with --anew")
         self.assertEqual([list(line)[0] for line in self.heard()], ["withdraw", "replace"])
         self.assertEqual(self.sync("--anew"), (0, COUNTS.format(1, 0, 0, 0, 1, "edition 1"), ""))
@@ -87,8 +87,8 @@ class Anew(MapFile):
         self.write(*published(A))
         self.sync()
         status, _, said = self.sync(server=other)
-        mistaken = f"lost-client: {self.sent} says what {self.server.address} was sent, and not {other.address}"
-        remedy = "give each server a file of its own by --sent"
+        mistaken = f"lost-client: {self.sent} is for {self.server.address}, not for {other.address}"
+        remedy = "give each server a file of its own with --sent"
         self.assertEqual((status, said), (3, f"{mistaken}: {remedy}\nlost-client: nothing was sent\n"))
         self.assertEqual(self.sync("--sent", f"{self.folder}/other", server=other)[0], 0)
         self.assertEqual(list(other.book.held), [("map.example", "A")])
@@ -108,7 +108,7 @@ class Failing(MapFile):
         self.write(*published(A))
         self.sync()
         before = self.sent_text()
-        unknown = "whether the edits were published is not known: try again with --anew"
+        unknown = "the edits may have been published or not: try again with --anew"
         for interrupt, end in ((b'"publish"', "nothing was published"), (b'"commit"', unknown)):
             self.server.interrupt = interrupt
             self.write(*published(A, B))
@@ -132,6 +132,6 @@ class Failing(MapFile):
         self.write(*published(A, B))
         status, _, said = self.sync()
         self.assertEqual(status, 3)
-        self.assertIn(f"lost-client: {self.sent}, line 3: refused with code 1, BadLine: this is no desk line\n", said)
+        self.assertIn(f"lost-client: {self.sent}, line 3: refused with code 1, BadLine: this is not a desk line\n", said)
         self.assertEqual(self.sync("--anew")[0], 0)
         self.check_sent()

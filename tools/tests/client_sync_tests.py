@@ -22,7 +22,7 @@ class Sending(MapFile):
         self.assertEqual(self.sync(), (0, "2 published, 0 replaced, 0 withdrawn; edition 2\n", ""))
         self.assertEqual(self.heard(), published(A, B))
         self.check_sent()
-        nothing = f"nothing to send: by {self.sent} the server holds what {self.file} says\n"
+        nothing = f"nothing to send: according to {self.sent}, the server holds what {self.file} says\n"
         self.assertEqual(self.sync(), (0, nothing, ""))
         self.assertEqual(len(self.server.heard), 1)
 
@@ -187,7 +187,7 @@ class Refusing(MapFile):
     def test_a_mapping_of_the_end_of_time_stays(self) -> None:
         self.write(*published(A, {**B, "lastUpdated": "9999-12-31T23:59:59.999999999Z"}))
         self.sync()
-        gone = f"map.example B, which {self.file} has no more: its withdrawal would be refused with code 15, NotNewer"
+        gone = f"map.example B, which {self.file} no longer has: its withdrawal would be refused with code 15, NotNewer"
         self.assertIn(gone, self.refused(*published(A)))
 
     def test_keys_that_are_exchanged(self) -> None:
@@ -203,14 +203,14 @@ class Refusing(MapFile):
         self.sync()
         twice = f"lost-client: {self.file}, line 2: refused with code 13, IdentityHeld: map.example A is held"
         self.assertEqual(self.refused({"publish": A}, {"publish": A}, COMMIT), twice)
-        no_desk_line = "line 2: refused with code 1, BadLine: this is no desk line"
+        no_desk_line = "line 2: refused with code 1, BadLine: this is not a desk line"
         self.assertIn(no_desk_line, self.refused(COMMIT, {"findService": {}}, COMMIT))
         self.assertIn("line 1: refused with code 7, BadUri", self.refused(*published({**A, "uri": []})))
 
     def test_a_file_that_was_cut_off(self) -> None:
         self.write(*published(A))
         self.sync()
-        no_commit = f"lost-client: {self.file}: its last line is no commit; write one, so that it is seen to be whole"
+        no_commit = f"lost-client: {self.file}: its last line is not a commit; add one, to show that the file is whole"
         self.assertEqual(self.refused({"publish": A}, COMMIT, {"publish": B}), no_commit)
         self.assertEqual(self.refused(), no_commit)
 

@@ -236,7 +236,7 @@ class Processes(unittest.TestCase):
             self.assertIn(counted, gateway.ask("GET", "/metrics").body)
             status, said = gateway.end()
             self.assertEqual(status, 0)
-            self.assertEqual(said.decode(), f"lost-gateway: process {children[1]} ended, and another takes its place\n")
+            self.assertEqual(said.decode(), f"lost-gateway: process {children[1]} ended; another takes its place\n")
 
     def test_where_the_first_process_is_killed_the_others_end(self) -> None:
         with StandIn(echo) as server, Gateway(server.address, "--processes", "2") as gateway:
@@ -271,7 +271,7 @@ class CommandLine(unittest.TestCase):
         command = [PYTHON, "-S", f"{TOOLS}/lost-gateway", "--listen", "127.0.0.1:0", "--lostd", "127.0.0.1:1"]
         ran = subprocess.run(command, capture_output=True, timeout=60)
         install = "apt-get install python3-lxml python3-aiohttp python3-prometheus-client"
-        said = f"lost-gateway: the module lxml is missing for /usr/bin/python3: {install}\n"
+        said = f"lost-gateway: /usr/bin/python3 lacks the module lxml: {install}\n"
         self.assertEqual((ran.returncode, ran.stdout, ran.stderr.decode()), (1, b"", said))
 
     @unittest.skipUnless(has_packages(), NEEDS)

@@ -12,7 +12,7 @@ from building.kit import LOGIC
 from tests.checkout import Checkout
 from tests.running import CASES, read
 
-NO_PROGRAM = "install: no program of these sources is at hand: `./install --from-source` proves and builds them, which takes up to half an hour\n"
+NO_PROGRAM = "install: there is no program of these sources yet: `./install --from-source` proves and builds it, which takes up to half an hour\n"
 
 
 class Install(Checkout):
@@ -91,7 +91,7 @@ class Install(Checkout):
         wanted = f"install: {self.folder}/file cannot be written (Not a directory): {user}, or name another PREFIX\n"
         self.assertEqual(self.install(f"{self.folder}/file"), (1, wanted))
         os.makedirs(f"{self.folder}/other/bin/lostd")
-        wanted = f"install: {self.folder}/other/bin/lostd cannot be taken away (Is a directory): {user}\n"
+        wanted = f"install: {self.folder}/other/bin/lostd cannot be removed (Is a directory): {user}\n"
         self.assertEqual(self.install("--uninstall", f"{self.folder}/other"), (1, wanted))
 
     def test_a_program_that_this_machine_cannot_run(self) -> None:
@@ -111,7 +111,7 @@ class Install(Checkout):
 
     def test_from_source_interrupted_goes_on_where_it_was(self) -> None:
         ended, said = self.stopped(signal.SIGTERM, 0.5, "install", "--from-source", self.prefix)
-        self.assertEqual((ended, said.splitlines()[-1]), (130, "install: stopped; begun again, it goes on where it was"))
+        self.assertEqual((ended, said.splitlines()[-1]), (130, "install: stopped; run it again to go on from here"))
         self.assertFalse(os.path.exists(self.prefix))
         self.assertIn("lost_low", "".join(self.proved()))
         self.assertEqual(self.install("--from-source", self.prefix)[0], 0)

@@ -201,7 +201,7 @@ class Desk(unittest.TestCase):
         patience.since -= 9
         patience.look(3)
         patience.since -= 2
-        with self.assertRaisesRegex(Broken, r"\Ano reply in 10 seconds, after 3\Z"):
+        with self.assertRaisesRegex(Broken, r"\Ano reply in 10 seconds, after 3 replies\Z"):
             patience.look(3)
         self.assertEqual(len(said), 1)
 

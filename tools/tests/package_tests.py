@@ -104,7 +104,7 @@ class Package(Checkout):
 
     def test_a_package_of_another_checksum_is_never_run(self) -> None:
         self.change(MANIFEST, "sha256: ", "sha256: 0")
-        wanted = f"lostd: {FILE} is damaged, since its checksum is not that of {MANIFEST}: {AGAIN}\n"
+        wanted = f"lostd: {FILE} is damaged (its checksum is not the one in {MANIFEST}): {AGAIN}\n"
         self.assertEqual(self.said("lostd", 1), wanted)
         self.change(MANIFEST, "sha256: ", "sum: ")
         self.assertEqual(self.said("lostd", 1), f"lostd: {MANIFEST} cannot be read: {AGAIN}\n")
@@ -115,14 +115,14 @@ class Package(Checkout):
         self.assertEqual(self.run_script("lostd", "--version"), (0, "lostd 0.0.7\n", ""))
 
     def test_the_gate_is_told_of_it(self) -> None:
-        wanted = "release/check: the packaged program is of these sources, and answers all 1 sessions of examples/ as stored\n"
+        wanted = "release/check: the packaged program is of these sources, and gives the stored replies in all 1 sessions of examples/\n"
         self.assertEqual(self.said("release/check"), wanted)
         self.write(f"{self.top}/examples/one.expected", "another\n")
-        differs = "and answers 1 of 1 sessions of examples/ otherwise than stored; release/make makes a new one"
-        wanted = f"release/check: the packaged program was built from other sources than these, {differs}\n"
+        differs = "and its replies differ from the stored ones in 1 of 1 sessions of examples/; release/make makes a new one"
+        wanted = f"release/check: the packaged program was not built from these sources, {differs}\n"
         self.assertEqual(self.said("release/check"), wanted)
         self.pack()
-        wanted = "release/check: the packaged program answers otherwise than stored: one; make it anew by release/make\n"
+        wanted = "release/check: the packaged program's replies differ from the stored ones: one; release/make makes a new one\n"
         self.assertEqual(self.said("release/check", 1), wanted)
         shutil.rmtree(f"{self.top}/release/out")
         os.remove(f"{self.top}/{MANIFEST}")

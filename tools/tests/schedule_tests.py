@@ -71,6 +71,6 @@ class Progress(unittest.TestCase):
 
     def test_the_line(self) -> None:
         line = Line({"low": 10, "top": 30})
-        said = "build: 1 of 2 crates, 22 of some 40 functions; some 2 minutes left; at top 1:01"
+        said = "build: 1 of 2 crates, 22 of about 40 functions; about 2 minutes left; now at top 1:01"
         self.assertEqual(line.text(["low"], {"top": 61.9}, {"top": 12}, 130.0), said)
-        self.assertEqual(line.text([], {"low": 5.0}, {"low": 0}, 3.0), "build: 0 of 2 crates, 0 of some 40 functions; some 1 minute left; at low 0:05")
+        self.assertEqual(line.text([], {"low": 5.0}, {"low": 0}, 3.0), "build: 0 of 2 crates, 0 of about 40 functions; about 1 minute left; now at low 0:05")

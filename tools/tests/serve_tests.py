@@ -146,7 +146,7 @@ class ServeTests(unittest.TestCase):
         self.assertEqual(status, 3)
         self.assertRegex(said[0], r"^lostd: --map: line 2: 13 IdentityHeld")
         self.assertRegex(said[1], r"^lostd: --map: line 3: 1 BadLine")
-        self.assertRegex(said[2], r"^lostd: --map '.*map\.jsonl': 2 lines refused, 0 edits behind the last commit")
+        self.assertRegex(said[2], r"^lostd: --map '.*map\.jsonl': 2 lines refused, 0 edits after the last commit")
         self.assertEqual(len(said), 3)
         self.assertFalse(os.path.exists(queries))
 
@@ -274,7 +274,7 @@ class LimitTests(unittest.TestCase):
             begun = time.monotonic()
             self.assertTrue(ended(half))
             self.assertLess(time.monotonic() - begun, 10)
-            self.assertRegex(self.said(server), r"^lostd: query connection 1 of a unix socket: a line of it was not whole in time$")
+            self.assertRegex(self.said(server), r"^lostd: query connection 1 from a unix socket: it did not finish a line in time$")
             self.assertEqual(ask(whole, LIST), NOTHING)
 
     def test_no_line_time(self) -> None:
@@ -306,7 +306,7 @@ class LimitTests(unittest.TestCase):
             self.assertEqual([ask(first, LIST), ask(second, LIST)], [NOTHING] * 2)
             with unix(self.queries) as third:
                 self.assertTrue(ended(third))
-            self.assertRegex(self.said(server), r"^lostd: query connection 3 of .*: refused: too many connections are open$")
+            self.assertRegex(self.said(server), r"^lostd: query connection 3 from .*: refused: too many connections are open$")
             first.shutdown(socket.SHUT_WR)
             self.assertTrue(ended(first))
             with unix(self.queries) as fourth:
@@ -322,7 +322,7 @@ class LimitTests(unittest.TestCase):
                 self.assertEqual(ask(first, LIST), NOTHING)
                 with socket.create_connection(("127.0.0.1", port)) as second:
                     self.assertTrue(ended(second))
-                self.assertRegex(self.said(server), r": refused: too many connections of its address are open$")
+                self.assertRegex(self.said(server), r": refused: too many connections from its address are open$")
                 with socket.create_connection(("127.0.0.1", port), PATIENCE, ("127.0.0.2", 0)) as other:
                     self.assertEqual(ask(other, LIST), NOTHING)
         with self.server("--per-address", "1"), unix(self.queries) as first, unix(self.queries) as second:
@@ -344,7 +344,7 @@ class LimitTests(unittest.TestCase):
                 with unix(self.desk) as stranger:
                     stranger.sendall(text)
                     self.assertTrue(ended(stranger))
-                self.assertEqual(self.said(server), f"lostd: desk connection of a unix socket: it speaks {name}, and no desk does\n")
+                self.assertEqual(self.said(server), f"lostd: desk connection from a unix socket: it speaks {name}, not desk lines\n")
             with unix(self.desk) as desk:
                 self.assertEqual(ask(desk, '{"commit":{}}\n'), '{"committed":{"edition":0}}\n')
 

@@ -1,4 +1,4 @@
-//! What answers the lines: a reader, one that keeps places, or a book alone.
+//! Answers to the lines: by a reader, by a reader that keeps places, or by a book alone.
 
 use crate::questions::Questions;
 use lost_desk::Reader;
@@ -12,13 +12,13 @@ use std::rt::Clock;
 use std::time::Instant;
 use test_districts::{Setting, nanoseconds};
 
-/// How a reply that has found a mapping begins.
+/// The beginning of a reply that has found a mapping.
 const FOUND: &[u8] = b"{\"findServiceResponse\":";
 
 /// The reply to a line.
 type Replied = Result<Vec<u8>, AllocError>;
 
-/// What answers lines.
+/// Answers lines.
 pub(crate) trait Answering {
     /// The reply to a line.
     fn reply(&mut self, alloc: Global, setting: &Setting, line: &[u8]) -> Replied;
@@ -36,7 +36,7 @@ impl Answering for CachedReader {
     }
 }
 
-/// A book alone, whose requests are read by their tokens as a reader's are.
+/// A book alone. Requests are read by their tokens, as a reader does.
 #[derive(Drop)]
 pub(crate) struct ByTokens<'a> {
     book: &'a Routing,
@@ -68,7 +68,7 @@ impl Answering for ByTokens<'_> {
     }
 }
 
-/// A book alone, whose requests are read by their trees.
+/// A book alone. Requests are read by their trees.
 #[derive(Clone, Copy)]
 pub(crate) struct ByTree<'a> {
     pub(crate) book: &'a Routing,
@@ -88,7 +88,7 @@ pub(crate) struct Answered {
 }
 
 impl Answered {
-    /// The one that took less time.
+    /// The answers that took less time.
     pub(crate) fn quicker(self, other: Answered) -> Answered {
         if other.spent < self.spent {
             other
@@ -98,7 +98,7 @@ impl Answered {
     }
 }
 
-/// Asks so many questions, from one on.
+/// Asks so many questions, from a number on.
 pub(crate) fn ask<A: Answering, R: Clock>(
     rt: &R,
     alloc: Global,

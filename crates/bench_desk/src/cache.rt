@@ -1,4 +1,4 @@
-//! What a cache of places saves and costs a reader.
+//! The savings and costs of a cache of places for a reader.
 
 use crate::answering::ask;
 use crate::layout::Layout;
@@ -16,16 +16,16 @@ use test_districts::{Spans, share};
 /// How many places a cache keeps.
 const PLACES: u32 = 1_024;
 
-/// How often all places of a plan are asked for, as often as the plan says each time.
+/// How many rounds a plan has. In each, every place is asked for as often as the plan says.
 const ROUNDS: u32 = 5;
 
-/// How many lines are timed at once, by the one reader and then by the other.
+/// How many lines are timed at once, by one reader and then by the other.
 const TIMED: u32 = 1_000;
 
-/// How many places are asked for once, for a tool that counts instructions.
+/// How many locations are asked for once, for a tool that counts instructions.
 const COUNTED: u32 = 20_000;
 
-/// The map that is only counted in.
+/// The map of the counts.
 const FEW: Stacks = Stacks {
     spots: 4,
     height: 3,
@@ -46,7 +46,7 @@ const TALL: Stacks = Stacks {
     positions: 200,
 };
 
-/// What is asked over a map.
+/// The questions over a map.
 #[derive(Clone, Copy, Drop)]
 struct Plan {
     what: &'static str,
@@ -57,7 +57,7 @@ struct Plan {
     times: u32,
 }
 
-/// What is measured.
+/// The measured plans.
 const PLANS: [Plan; 4] = [
     Plan {
         what: "1,000 hot places, stacks of 10 boundaries of 400 positions",
@@ -91,12 +91,12 @@ const PLANS: [Plan; 4] = [
     },
 ];
 
-/// Asks a small map twice, and prints how many mappings were found, and how often the cache had the place.
+/// Asks a small map twice. Prints how many mappings were found, and how often the cache had the place.
 pub(crate) fn print_counts<R: Print + Clock + Wait + AllocGlobal>(rt: &R) -> io::Result<()> {
     with_readers(rt, Layout::Stacks(FEW), &Counting)
 }
 
-/// Asks places that never repeat, by a reader that keeps places or by a plain one, and prints how many mappings were
+/// Asks for locations that never repeat, by a reader that keeps places or by a plain one. Prints how many mappings were
 /// found.
 pub(crate) fn print_found<R: Print + Clock + Wait + AllocGlobal>(
     rt: &R,
@@ -120,7 +120,7 @@ fn keeping(alloc: Global, readers: &mut Readers) -> io::Result<CachedReader> {
     ))
 }
 
-/// Counts what both readers find.
+/// Counts the mappings that both readers find.
 #[derive(Clone, Copy, Drop)]
 struct Counting;
 
@@ -142,7 +142,7 @@ impl Work for Counting {
     }
 }
 
-/// Counts what one of the readers finds.
+/// Counts the mappings that one of the readers finds.
 #[derive(Clone, Copy, Drop)]
 struct Finding {
     keeps: bool,
@@ -200,9 +200,9 @@ impl Work for Plan {
     }
 }
 
-/// What a reader, and one with a cache, take for so many lines that are timed at once, in nanoseconds: the mean of all but
-/// the tenth that took longest, since what else the machine does falls on few of them. Both are timed in turn, and each is
-/// first as often as the other.
+/// The time of a reader, and of one with a cache, for the lines that are timed at once, in nanoseconds: the mean
+/// without the longest tenth, since other work of the machine falls on few of them. Both are timed in turn, and each
+/// comes first as often as the other.
 fn measured<R: Clock + AllocGlobal>(
     rt: &R,
     reader: &mut Reader,

@@ -1,4 +1,4 @@
-//! What it takes to stage one edit and commit it, and how that grows with the map.
+//! The time to stage one edit and commit it, and how that grows with the map.
 
 use crate::layout::Place;
 use crate::map::Map;
@@ -45,15 +45,15 @@ impl Spent {
     }
 }
 
-/// How many rounds there are of a small map and a large one in turn, and how many edits of each kind in a round.
+/// How many rounds a small map and a large one have in turn, and how many edits of each kind a round has.
 #[derive(Clone, Copy)]
 pub(crate) struct Rounds {
     pub(crate) rounds: u32,
     pub(crate) edits: u32,
 }
 
-/// Publishes a district beside the map, replaces one in it, and withdraws the first, so many times, each with a commit of
-/// its own. Where there is a flood, it empties the caches before each. Gives the median of each list.
+/// Publishes a district beside the map, replaces one in it, and withdraws the first, so many times, each with a commit
+/// of its own. A flood, if given, empties the caches before each. Gives the median of each list.
 pub(crate) fn change<R: Wait + Clock + AllocGlobal>(
     rt: &R,
     map: &mut Map,
@@ -102,7 +102,7 @@ fn medians(alloc: Global, spent: &Spent) -> io::Result<Vec<u64>> {
     Ok(medians)
 }
 
-/// The medians of both maps, round by round, and what those of the large map are of a hundred of those of the small one.
+/// The medians of both maps, round by round, and those of the large map in percent of those of the small one.
 #[derive(Drop)]
 struct Growth {
     few: Spent,
@@ -130,7 +130,7 @@ impl Growth {
         Ok(())
     }
 
-    /// Prints the middle of the rounds of a list, and between what their ratios lie.
+    /// Prints the median of a list's rounds, and the range of their ratios.
     fn print<R: Print + AllocGlobal>(&self, rt: &R, list: usize, kind: &str) -> io::Result<()> {
         let alloc = rt.alloc();
         let few = Spans::copied(alloc, self.few.list(list))?.at(50);
@@ -150,7 +150,7 @@ impl Growth {
     }
 }
 
-/// Edits both maps in turn, and prints what that takes at each.
+/// Edits both maps in turn, and prints the time at each.
 pub(crate) fn print_growth<R: Print + Wait + Clock + AllocGlobal>(
     rt: &R,
     small: &mut Map,

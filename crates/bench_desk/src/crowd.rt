@@ -17,7 +17,7 @@ use std::{io, thread};
 /// How many readers there are.
 const READERS: u32 = 4;
 
-/// A reader with its questions, and what came of them.
+/// A reader with its questions and its results.
 #[derive(Drop)]
 struct Asker {
     alloc: Global,
@@ -27,12 +27,12 @@ struct Asker {
     first: usize,
     /// How many questions it asks.
     count: u32,
-    /// What came of them. None before it has asked, or where it could not.
+    /// The results. `None` before it has asked, or where it could not.
     answered: Option<Answered>,
 }
 
 impl Asker {
-    /// A reader, by its number in the crowd, which has not asked yet.
+    /// A reader, by its number in the crowd, that has not asked yet.
     fn new(
         alloc: Global,
         reader: Reader,
@@ -83,8 +83,8 @@ impl Crowd {
         Ok(Crowd { askers })
     }
 
-    /// Has so many of the readers ask so many questions each, in a thread of its own, while the desk commits so many
-    /// edits, 100 a second. Gives what all found, and the time of the one that took longest.
+    /// Has so many of the readers ask so many questions, each in a thread of its own, while the desk commits so many
+    /// edits, 100 a second. Gives how many mappings all found, and the time of the slowest reader.
     pub(crate) fn ask<R: Threads + Wait + Clock + Sync + AllocGlobal>(
         &mut self,
         rt: &R,
@@ -112,7 +112,7 @@ impl Crowd {
         );
     }
 
-    /// What all of them were answered.
+    /// The sum of the found mappings, and the longest time.
     fn answered(&self) -> io::Result<Answered> {
         let mut all = Answered { found: 0, spent: 0 };
         for asker in &self.askers {
@@ -144,7 +144,7 @@ fn beside<R: Threads + Wait + Clock + Sync + AllocGlobal>(
     committed
 }
 
-/// Replaces the mapping of one district and commits it as often as the map is to commit, 100 times a second.
+/// Replaces the mapping of one district and commits it, as often as the map says, 100 times a second.
 fn commit_often<R: Wait + Clock + AllocGlobal>(rt: &R, map: &mut Map) -> io::Result<()> {
     for _ in 0..map.commits {
         let time = map.next_time();

@@ -1,4 +1,4 @@
-//! What a desk and its readers cost.
+//! The costs of a desk and its readers.
 
 use crate::answering::{Answered, ByTokens, ByTree, ask};
 use crate::changes::{Rounds, change, print_growth};
@@ -14,8 +14,8 @@ use std::sync::{Arc, Wait};
 use std::thread::Threads;
 use test_districts::{Flood, mean, share};
 
-/// The rows and the columns of the map that is only counted in, of the small map and of the large one: 16, 1,024 and
-/// 60,025 districts.
+/// The rows and the columns of the map of the counts, of the small map and of the large one: 16, 1,024 and 60,025
+/// districts.
 const TINY: u32 = 4;
 
 const SMALL: u32 = 32;
@@ -28,7 +28,7 @@ const POINTS: u32 = 20_000;
 /// How many questions each reader asks in a round.
 const ASKED: u32 = 400_000;
 
-/// How many rounds of questions there are. What else the machine does makes a round longer, never shorter.
+/// How many rounds of questions there are. Other work of the machine makes a round longer, never shorter.
 const ROUNDS: u32 = 5;
 
 /// The rounds of edits, one after another, and with the caches emptied before each.
@@ -119,7 +119,7 @@ fn measure_all<R: Print + Clock + Threads + Wait + Sync + AllocGlobal>(
     result
 }
 
-/// What came of the same questions by a reader, and by a book alone that reads them by tokens or by trees.
+/// The results of the same questions by a reader, and by a book alone that reads them by tokens or by trees.
 #[derive(Clone, Copy, Drop)]
 struct Alone {
     by_reader: Answered,
@@ -167,7 +167,7 @@ fn ask_once<R: Clock + AllocGlobal>(
     })
 }
 
-/// Prints what a reader takes beside the book alone, by one thread.
+/// Prints the time of a reader beside that of the book alone, in one thread.
 fn print_alone<R: Print + AllocGlobal>(rt: &R, alone: Alone) -> io::Result<()> {
     let by_reader = mean(alone.by_reader.spent, ASKED);
     let by_tokens = mean(alone.by_tokens.spent, ASKED);
@@ -202,8 +202,8 @@ fn print_crowd<R: Print + Clock + Threads + Wait + Sync + AllocGlobal>(
     )
 }
 
-/// Measures what it takes to stage an edit and commit it, in rounds of both maps in turn: as the caches are, and emptied
-/// before each edit.
+/// Measures the time to stage an edit and commit it, in rounds of both maps in turn: with the caches as they are, and
+/// emptied before each edit.
 fn print_changes<R: Print + Clock + Wait + AllocGlobal>(
     rt: &R,
     small: &mut Map,

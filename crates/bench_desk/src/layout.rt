@@ -1,4 +1,4 @@
-//! What lies where, and the edits that put it there: one mapping for each boundary.
+//! The boundaries of a map, and the edits that put them there: one mapping for each boundary.
 
 use crate::stacks::Stacks;
 use lost_book::Edit;
@@ -7,7 +7,7 @@ use std::alloc::{AllocError, Global};
 use std::io;
 use test_districts::{edit_line, ring, straight_ring, withdraw_line};
 
-/// What lies where.
+/// The boundaries of a map.
 #[derive(Clone, Copy)]
 pub(crate) enum Layout {
     /// So many rows and columns of districts.
@@ -17,7 +17,7 @@ pub(crate) enum Layout {
 }
 
 impl Layout {
-    /// The rows and the columns of its districts, of which stacks have none.
+    /// The rows and the columns of its districts; none for stacks.
     pub(crate) fn rows(self) -> u32 {
         match self {
             Layout::Districts(rows) => rows,
@@ -86,7 +86,7 @@ impl Place {
         edit(alloc, line.as_str())
     }
 
-    /// What names the district.
+    /// The name of the district.
     fn name(self, alloc: Global) -> Result<String, AllocError> {
         format!(in alloc; "D-{}-{}", self.row, self.column)
     }

@@ -1,15 +1,15 @@
-//! What a desk, its readers and the caches of its readers cost.
+//! The costs of a desk, its readers and their caches.
 //!
-//!     bench_desk                  all that follows in a small way, as the gate runs it: how much was found
+//!     bench_desk                  all of these on a small scale, as the gate runs it: how much was found
 //!     bench_desk desk             how many questions readers find an answer to, alone, in threads and beside commits
-//!     bench_desk measure          what a reader takes beside a book alone, and four beside one; and what an edit and its
-//!                                 commit take at 1,024 and 60,025 mappings
+//!     bench_desk measure          the time of a reader beside a book alone, and of four beside one; and of an edit and
+//!                                 its commit at 1,024 and 60,025 mappings
 //!     bench_desk cache            how many questions find an answer by a reader, and by one that keeps places
-//!     bench_desk cache measure    what such a reader takes beside a plain one
-//!     bench_desk cache with       asks 20,000 places that never come again by a reader that keeps places,
+//!     bench_desk cache measure    the time of such a reader beside a plain one
+//!     bench_desk cache with       asks for 20,000 locations once each by a reader that keeps places,
 //!     bench_desk cache without    and by a plain one, for a tool that counts instructions
 //!
-//! It ends with status 2 at any other word.
+//! The exit status is 2 at any other word.
 #![tactic(auto)]
 
 mod answering;
@@ -29,7 +29,7 @@ use std::sync::Wait;
 use std::thread::Threads;
 use test_districts::{mistaken, words};
 
-/// What the words may be.
+/// The words that are allowed.
 const USAGE: &str =
     "bench_desk\nbench_desk desk | measure\nbench_desk cache [measure | with | without]";
 

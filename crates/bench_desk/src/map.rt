@@ -19,15 +19,15 @@ pub(crate) struct Map {
     desk: Desk,
     /// The rows and the columns of its districts.
     pub(crate) rows: u32,
-    /// How many edits came after the map, which is the time of the last of them.
+    /// How many edits came after the map: the time of the last one.
     time: u32,
     /// How often it commits while readers ask.
     pub(crate) commits: u32,
 }
 
-/// What is done with the readers of a map.
+/// Work with the readers of a map.
 pub(crate) trait Work {
-    /// Does it.
+    /// Does the work.
     fn run<R: Print + Clock + Wait + AllocGlobal>(
         &self,
         rt: &R,
@@ -35,7 +35,7 @@ pub(crate) trait Work {
     ) -> io::Result<()>;
 }
 
-/// Opens a map, does what is to be done with its readers, and ends it.
+/// Opens a map, does the work with its readers, and ends it.
 pub(crate) fn with_readers<W: Work, R: Print + Clock + Wait + AllocGlobal>(
     rt: &R,
     layout: Layout,

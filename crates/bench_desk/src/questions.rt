@@ -1,4 +1,4 @@
-//! The lines that are asked, with the server's name and the moment of the answers.
+//! The lines of the questions, with the server's name and the moment of the answers.
 
 use crate::stacks::Stacks;
 use std::alloc::Global;
@@ -62,7 +62,7 @@ impl Questions {
         self.lines.len()
     }
 
-    /// A line by its number, and the first one again after the last.
+    /// A line by its number. After the last, the first one comes again.
     pub(crate) fn line(&self, number: usize) -> &[u8] {
         let place = number.checked_rem(self.lines.len()).unwrap_or(0);
         match self.lines.get(place) {

@@ -1,4 +1,4 @@
-//! What the index of a map costs alone, without lines.
+//! The cost of a map's index alone, without lines.
 
 mod map;
 mod shapes;
@@ -17,15 +17,15 @@ const SMALL: u32 = 32;
 
 const LARGE: u32 = 245;
 
-/// How many points are asked for one after another, and how many after the caches were emptied before each.
+/// How many points are asked for one after another, and how many with the caches emptied before each.
 const ASKED: u32 = 400_000;
 
 const ASKED_COLD: u32 = 1_000;
 
-/// How many rounds there are. What else the machine does makes a round longer, never shorter.
+/// How many rounds there are. Other work of the machine makes a round longer, never shorter.
 const ROUNDS: u32 = 3;
 
-/// Asks a small map, a pile and a sliver, and prints how many rings contain what is asked.
+/// Asks a small map, a pile and two slivers, and prints how many rings contain each point.
 pub(crate) fn print_counts<R: Print + AllocGlobal>(rt: &R) -> io::Result<()> {
     let alloc = rt.alloc();
     let map = map_of(alloc, 4)?;
@@ -101,7 +101,7 @@ fn print_questions<R: Print + Clock + AllocGlobal>(
     print_ratio(rt, how, "all over", few, many)
 }
 
-/// Prints what a question costs at both maps.
+/// Prints the cost of a question at both maps.
 fn print_ratio<R: Print + AllocGlobal>(
     rt: &R,
     how: &str,
@@ -126,7 +126,7 @@ fn map_of(alloc: Global, rows: u32) -> io::Result<Map> {
     Ok(map)
 }
 
-/// What a point costs, over points all over so many rows and columns of districts, in nanoseconds.
+/// The mean cost of a point, over points all over so many rows and columns of districts, in nanoseconds.
 fn asked<F: Finding, R: Clock + AllocGlobal>(rt: &R, finding: &F, rows: u32) -> io::Result<u64> {
     let points = points(rt.alloc(), rows, ASKED)?;
     let start = Instant::now(rt)?;
@@ -141,8 +141,8 @@ fn asked<F: Finding, R: Clock + AllocGlobal>(rt: &R, finding: &F, rows: u32) -> 
     Ok(mean(nanoseconds(spent), ASKED))
 }
 
-/// The median of what points all over so many rows and columns of districts cost, in nanoseconds, where the caches are
-/// emptied before each.
+/// The median cost of points all over so many rows and columns of districts, in nanoseconds. The caches are emptied
+/// before each point.
 fn asked_cold<R: Clock + AllocGlobal>(
     rt: &R,
     flood: &mut Flood,

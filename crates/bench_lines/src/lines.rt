@@ -1,5 +1,5 @@
-//! The lines that are replayed, each without its byte 10. A district's mapping is of the police; one default of the fire
-//! brigade stands beside all.
+//! The lines that are replayed, each without its byte 10. A district's mapping is of the police; the fire brigade has
+//! one default.
 
 use crate::maps::Map;
 use lost_lines::MAX_LINE;
@@ -12,7 +12,7 @@ fn name(alloc: Global, number: u32) -> Result<String, AllocError> {
     format!(in alloc; "M-{number}")
 }
 
-/// The line that publishes the mapping of a district, or the one that replaces it with the same regions.
+/// The line that publishes the mapping of a district, or replaces it with the same regions.
 pub(crate) fn district(
     alloc: Global,
     map: Map,
@@ -37,7 +37,7 @@ pub(crate) fn standby(alloc: Global) -> Result<String, AllocError> {
     default_line(alloc, "standby", "2025-12-01T00:00:00Z")
 }
 
-/// The line that publishes one of several defaults, which is withdrawn again.
+/// The line that publishes one of several defaults that are withdrawn again.
 pub(crate) fn passing(alloc: Global, number: u32, updated: &str) -> Result<String, AllocError> {
     default_line(alloc, name(alloc, number)?.as_str(), updated)
 }
@@ -49,7 +49,8 @@ fn default_line(alloc: Global, name: &str, updated: &str) -> Result<String, Allo
     )
 }
 
-/// The line that publishes a mapping of two civic patterns: a road of a town, which two mappings share, and its house 5.
+/// The line that publishes a mapping of two civic patterns: a road of a town, which two mappings share, and its house
+/// 5.
 pub(crate) fn road(alloc: Global, number: u32) -> Result<String, AllocError> {
     let road = number / 2;
     let town = number / 100;
@@ -109,7 +110,7 @@ pub(crate) fn validate(alloc: Global, map: Map, number: u32) -> Result<String, A
     )
 }
 
-/// A line that is filled with spaces to the greatest length of a line.
+/// A line filled with spaces to the greatest length of a line.
 pub(crate) fn filled(mut line: String) -> Result<String, AllocError> {
     for _ in line.len()..MAX_LINE {
         line.push(' ')?;
@@ -137,7 +138,7 @@ pub(crate) fn many_locations(alloc: Global) -> Result<String, AllocError> {
     )
 }
 
-/// A line of 1 MiB that is crowded with things, each with a number between its two parts.
+/// A line of 1 MiB with many things, each with a number between its two parts.
 fn crowded(
     alloc: Global,
     begin: &str,
@@ -156,5 +157,5 @@ fn crowded(
     filled(line)
 }
 
-/// How long a crowded line is at least before its last thing: no thing, and no end of a line, has as many as 64 bytes.
+/// The least length of a crowded line before its last thing: each thing, and each end of a line, has under 64 bytes.
 const ENOUGH: usize = MAX_LINE - 128;

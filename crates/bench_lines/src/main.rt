@@ -1,17 +1,17 @@
-//! What lines cost: through `replay`, by what they ask and how large the map is, and in the index of a map alone.
+//! The cost of lines: through `replay`, by question and size of the map, and in the index of a map alone.
 //!
-//!     bench_lines                    all that follows in a small way, as the gate runs it: what was replied and found
+//!     bench_lines                    all of these on a small scale, as the gate runs it: the replies and the finds
 //!     bench_lines replay             how many replies maps of 10, 100 and 1,000 squares get, and lines of 1 MiB
 //!     bench_lines replay measure     how many lines a second are answered there
 //!     bench_lines routing            the kinds of the replies over small maps
-//!     bench_lines routing measure    what a line of each kind costs at 1,000 and 60,000 mappings, and what loading them does;
-//!                                    and what edits cost at 10 and 65,536 withdrawn identities
-//!     bench_lines routing load       loads 60,000 boundaries and says how many bytes their lines have, for a script that
-//!                                    looks at the memory
+//!     bench_lines routing measure    the cost of a line of each kind at 1,000 and 60,000 mappings, and of loading
+//!                                    them; and of edits at 10 and 65,536 withdrawn identities
+//!     bench_lines routing load       loads 60,000 boundaries and prints how many bytes their lines have, for a script
+//!                                    that looks at the memory
 //!     bench_lines index              how many boundaries an index finds at some points
-//!     bench_lines index measure      what a question costs in an index of 1,024 and of 60,025 boundaries, as ratios
+//!     bench_lines index measure      the cost of a question in an index of 1,024 and of 60,025 boundaries, as ratios
 //!
-//! It ends with status 1 where a reply is not as it should be, and with status 2 at any other word.
+//! The exit status is 1 where a reply is wrong, and 2 at any other word.
 #![tactic(auto)]
 
 mod index;
@@ -31,7 +31,7 @@ use std::process::ExitCode;
 use std::rt::{Clock, Env};
 use test_districts::{mistaken, words};
 
-/// What the words may be.
+/// The words that are allowed.
 const USAGE: &str =
     "bench_lines\nbench_lines replay [measure]\nbench_lines routing [measure | load]\nbench_lines index [measure]";
 

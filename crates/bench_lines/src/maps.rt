@@ -1,4 +1,4 @@
-//! The maps that are replayed: so many mappings in a square of rows and columns.
+//! The maps to replay: so many mappings in a square of rows and columns.
 
 use std::alloc::{AllocError, Global};
 use test_districts::{SIDE, STRAY, below, ring, straight_ring};
@@ -39,7 +39,7 @@ impl Map {
         below(self.mappings, number, 1)
     }
 
-    /// The latitude and the longitude that a number draws in the mapping that it draws, however the sides stray.
+    /// The latitude and the longitude that a number draws, inside the mapping that it draws, however the sides stray.
     pub(crate) fn point(self, number: u32) -> (i64, i64) {
         let mapping = self.drawn(number);
         (

@@ -10,17 +10,17 @@ use test_districts::{Spans, mean, nanoseconds};
 /// A part of a stream.
 #[derive(Drop)]
 pub(crate) struct Part {
-    /// What its lines do.
+    /// The task of its lines.
     pub(crate) task: Task,
-    /// The number of its first line among those that do so, and how many it has.
+    /// The number of its first line among those of the task, and how many lines it has.
     first: u32,
     pub(crate) lines: u32,
     /// How many lines were handed out, and their bytes, each with its byte 10.
     given: u32,
     pub(crate) bytes: u64,
-    /// How long it took to answer them.
+    /// How long the answers took.
     pub(crate) spent: Duration,
-    /// Whether each is answered alone, after the caches were emptied, and how many nanoseconds each then took.
+    /// Whether each line is answered alone, after the caches are emptied, and how many nanoseconds each then took.
     pub(crate) is_cold: bool,
     spans: Vec<u64>,
     /// The kind of each reply.
@@ -28,8 +28,8 @@ pub(crate) struct Part {
 }
 
 impl Part {
-    /// A part with so many lines, from the one of a number on. Where it is cold, each is answered alone, after the caches
-    /// were emptied.
+    /// A part with so many lines, from a number on. If it is cold, each is answered alone, after the caches are
+    /// emptied.
     pub(crate) fn new(alloc: Global, task: Task, first: u32, lines: u32, is_cold: bool) -> Part {
         Part {
             task,
@@ -62,7 +62,7 @@ impl Part {
         Ok(Some(line))
     }
 
-    /// Takes down how long it took to answer some of its lines.
+    /// Notes how long it took to answer some of its lines.
     pub(crate) fn add(&mut self, spent: Duration) -> Result<(), AllocError> {
         self.spent = self.spent.saturating_add(spent);
         if self.is_cold {
@@ -76,14 +76,14 @@ impl Part {
         self.replies.iter().filter(|reply| **reply == kind).count()
     }
 
-    /// Whether each line got one reply, and each as it should be.
+    /// Whether each line got one reply, and a right one.
     pub(crate) fn is_answered(&self) -> bool {
         self.replies.len() as u64 == u64::from(self.lines)
             && self.replies.iter().all(|reply| self.task.allows(*reply))
     }
 
-    /// What a line costs, in nanoseconds: the mean of all, or, where each was answered alone, of all but the tenth that
-    /// took longest, since what else the machine does falls on few of them.
+    /// The cost of a line, in nanoseconds: the mean of all lines. If each was answered alone, the longest tenth is left
+    /// out, since other work of the machine falls on few of them.
     pub(crate) fn cost(&self, alloc: Global) -> Result<u64, AllocError> {
         if self.is_cold {
             Ok(Spans::copied(alloc, self.spans.as_slice())?.trimmed_mean())
@@ -93,7 +93,7 @@ impl Part {
     }
 }
 
-/// What a line of a task costs at least, in nanoseconds, over the parts that have it.
+/// The least cost of a line of a task, in nanoseconds, over the parts that have it.
 pub(crate) fn least(alloc: Global, parts: &[Part], task: Task) -> Result<u64, AllocError> {
     let mut least = u64::MAX;
     for part in parts {

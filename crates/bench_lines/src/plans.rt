@@ -1,4 +1,4 @@
-//! The parts that are replayed, in order.
+//! The parts to replay, in order.
 use crate::maps::Map;
 use crate::parts::Part;
 use crate::tasks::{AGAIN_LINES, Task};
@@ -7,20 +7,20 @@ use std::alloc::{AllocError, Global};
 /// How often something is done.
 #[derive(Clone, Copy)]
 pub(crate) struct Scale {
-    /// How many rounds there are. What else the machine does makes a round longer, never shorter.
+    /// How many rounds there are. Other work of the machine makes a round longer, never shorter.
     pub(crate) rounds: u32,
     /// How many questions of a kind a round has.
     pub(crate) asked: u32,
-    /// How many of them where each reply is long, and where each looks at the whole map.
+    /// How many of them if each reply is long, and if each looks at the whole map.
     pub(crate) boundaries: u32,
     pub(crate) services: u32,
     /// How many lines of edits and commits a round has.
     pub(crate) edits: u32,
-    /// Whether each line is answered alone, after the caches were emptied.
+    /// Whether each line is answered alone, after the caches are emptied.
     pub(crate) is_cold: bool,
 }
 
-/// The scale at which only the kinds of the replies are looked at.
+/// The scale for a look at the kinds of the replies alone.
 pub(crate) const FEW: Scale = Scale {
     rounds: 1,
     asked: 5,
@@ -51,7 +51,7 @@ pub(crate) const COLD: Scale = Scale {
 };
 
 impl Scale {
-    /// A part with so many lines, from those of a round on.
+    /// A part with so many lines, from those of this round on.
     fn part(self, alloc: Global, task: Task, round: u32, lines: u32) -> Part {
         Part::new(
             alloc,
@@ -68,17 +68,17 @@ pub(crate) fn warm(alloc: Global, task: Task, lines: u32) -> Part {
     Part::new(alloc, task, 0, lines, false)
 }
 
-/// What is done at a scale.
+/// The plan of a run at a scale.
 #[derive(Clone, Copy)]
 pub(crate) enum Plan {
-    /// All that is done with districts.
+    /// All tasks over districts.
     Districts,
-    /// All that is done with roads.
+    /// All tasks over roads.
     Roads,
 }
 
 impl Plan {
-    /// The parts of it, over a map.
+    /// The parts of the plan, over a map.
     pub(crate) fn parts(
         self,
         alloc: Global,
@@ -108,7 +108,7 @@ pub(crate) fn settled(alloc: Global, map: Map) -> Result<Vec<Part>, AllocError> 
     Ok(parts)
 }
 
-/// So many withdrawn identities, and then so many rounds in which ten of them are published again and withdrawn again.
+/// So many withdrawn identities, and then so many rounds that publish and withdraw ten of them again.
 pub(crate) fn withdrawn(alloc: Global, traces: u32, rounds: u32) -> Result<Vec<Part>, AllocError> {
     let mut parts = Vec::new(alloc);
     parts.push(warm(alloc, Task::Passing, traces.saturating_mul(2)))?;

@@ -13,7 +13,7 @@ use test_districts::{a_second, share};
 /// The numbers of squares.
 const SQUARES: [u32; 3] = [10, 100, 1_000];
 
-/// The longest lines, and how many of each kind are replayed to be counted.
+/// The longest lines, and how many of each kind are replayed for the counts.
 const LONGEST: [(Task, u32); 3] = [
     (Task::Filled, 2),
     (Task::ManyUris, 1),
@@ -40,7 +40,7 @@ pub(crate) fn print_counts<R: Print + Clock + AllocGlobal + Drop>(rt: &R) -> io:
     Ok(())
 }
 
-/// Measures, and prints how many lines a second there are.
+/// Measures, and prints how many lines a second are answered.
 pub(crate) fn print_speeds<R: Print + Clock + AllocGlobal + Drop>(rt: &R) -> io::Result<()> {
     let few = cost(rt, 10, Task::Hits, ASKED)?;
     for squares in SQUARES {
@@ -82,7 +82,7 @@ fn count<R: Print + Clock + AllocGlobal + Drop>(
     Ok(count)
 }
 
-/// What a line costs over so many squares, in nanoseconds: the least of all rounds.
+/// The cost of a line over so many squares, in nanoseconds: the least of all rounds.
 fn cost<R: Print + Clock + AllocGlobal + Drop>(
     rt: &R,
     squares: u32,
@@ -106,7 +106,7 @@ fn map(squares: u32) -> Map {
     }
 }
 
-/// The publishes of so many squares and their commit, where there are any, and so many rounds of lines.
+/// The publishes of so many squares and their commit, if there are any, and so many rounds of lines.
 fn parts(
     alloc: Global,
     squares: u32,

@@ -1,4 +1,4 @@
-//! A replay of parts, and whether the replies to them are as they should be.
+//! A replay of parts, and whether the replies are right.
 
 use crate::maps::Map;
 use crate::parts::Part;
@@ -11,8 +11,8 @@ use std::io;
 use std::rt::Clock;
 use test_districts::{Flood, Setting};
 
-/// Replays parts over a map, and gives them back with their times and replies. Where a reply is not as it should be, the
-/// kinds of its part's replies are printed, and the error is `InvalidData`.
+/// Replays parts over a map, and gives them back with their times and replies. If a reply is wrong, prints the kinds of
+/// its part's replies, and the error is `InvalidData`.
 pub(crate) fn replayed<R: Print + Clock + AllocGlobal + Drop>(
     rt: &R,
     map: Map,

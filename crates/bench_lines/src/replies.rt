@@ -1,15 +1,15 @@
 //! The kinds of replies.
 
-/// What a reply is.
+/// The kind of a reply.
 #[derive(Clone, Copy, PartialEq, Eq)]
 pub(crate) enum Reply {
     /// An edit was staged.
     Staged,
-    /// What was staged was published.
+    /// The staged edits were published.
     Committed,
     /// An edit was refused.
     Refused,
-    /// A mapping was found, and the house number is invalid, and all else valid.
+    /// A mapping was found. The house number is invalid, all else is valid.
     Validated,
     /// A default stands in.
     Default,
@@ -31,7 +31,7 @@ pub(crate) enum Reply {
     Other,
 }
 
-/// Each kind, the words for it, and what stands in such a reply and in none of a kind further down.
+/// Each kind, its words, and a text that such a reply has and no reply of a later kind has.
 pub(crate) const KINDS: [(Reply, &str, &str); 13] = [
     (Reply::Staged, "staged", "{\"staged\":"),
     (Reply::Committed, "committed", "{\"committed\":"),

@@ -1,4 +1,4 @@
-//! What a query and an edit cost through `replay`, by what they ask, over a small map and a large one.
+//! The cost of a query and an edit through `replay`, by their kind, over a small map and a large one.
 
 use crate::maps::Map;
 use crate::parts::{Part, least};
@@ -9,7 +9,7 @@ use std::io;
 use std::rt::Clock;
 use test_districts::{nanoseconds, share};
 
-/// The map of which only the kinds of the replies are looked at.
+/// The map for a look at the kinds of the replies alone.
 const TINY: Map = Map {
     mappings: 20,
     rows: 5,
@@ -34,14 +34,14 @@ const SMALL_LOADS: u32 = 5;
 
 const LARGE_LOADS: u32 = 2;
 
-/// The map of no mapping but those that are withdrawn.
+/// The map without mappings but those that are withdrawn.
 const NONE: Map = Map {
     mappings: 0,
     rows: 0,
     is_square: false,
 };
 
-/// How many withdrawn identities are remembered, of which only the kinds of the replies are looked at, and in a measurement.
+/// How many withdrawn identities are remembered: for a look at the kinds of the replies, and in a measurement.
 const TINY_TRACES: u32 = 20;
 
 const FEW_TRACES: u32 = 10;
@@ -51,7 +51,7 @@ const MANY_TRACES: u32 = 65_536;
 /// How often ten of them are published again and withdrawn again.
 const TRACE_ROUNDS: u32 = 1_000;
 
-/// What is compared at the two maps, in the order in which it is printed.
+/// The tasks that are compared at the two maps, in the order of the output.
 const COMPARED: [Task; 10] = [
     Task::Hits,
     Task::Misses,
@@ -91,7 +91,7 @@ pub(crate) fn print_load<R: Print + Clock + AllocGlobal + Drop>(rt: &R) -> io::R
     Ok(())
 }
 
-/// Measures, and prints the ratios: of lines one after another, and of lines before each of which the caches are emptied.
+/// Measures, and prints the ratios: of lines one after another, and with the caches emptied before each.
 pub(crate) fn print_ratios<R: Print + Clock + AllocGlobal + Drop>(rt: &R) -> io::Result<()> {
     print_loads(rt)?;
     for (how, scale) in [
@@ -105,8 +105,8 @@ pub(crate) fn print_ratios<R: Print + Clock + AllocGlobal + Drop>(rt: &R) -> io:
     print_traces(rt)
 }
 
-/// Measures edits of the same ten identities where they alone are remembered as withdrawn, and where as many are as may be,
-/// and prints what a line of them costs.
+/// Measures edits of the same ten identities, with these alone remembered as withdrawn and with as many as may be.
+/// Prints the cost of a line.
 fn print_traces<R: Print + Clock + AllocGlobal + Drop>(rt: &R) -> io::Result<()> {
     let few = replayed(rt, NONE, withdrawn(rt.alloc(), FEW_TRACES, TRACE_ROUNDS)?)?;
     let many = replayed(rt, NONE, withdrawn(rt.alloc(), MANY_TRACES, TRACE_ROUNDS)?)?;
@@ -120,7 +120,7 @@ fn print_traces<R: Print + Clock + AllocGlobal + Drop>(rt: &R) -> io::Result<()>
     )
 }
 
-/// Measures what a plan takes at a scale, and prints what a line of each task costs.
+/// Measures a plan at a scale, and prints the cost of a line of each task.
 fn print_scale<R: Print + Clock + AllocGlobal + Drop>(
     rt: &R,
     plan: Plan,
@@ -138,7 +138,7 @@ fn print_scale<R: Print + Clock + AllocGlobal + Drop>(
     )
 }
 
-/// Measures the loads of both maps, and prints the least of each.
+/// Measures the loads of both maps, and prints the least time of each.
 fn print_loads<R: Print + Clock + AllocGlobal + Drop>(rt: &R) -> io::Result<()> {
     let (few, _bytes) = least_load(rt, SMALL, SMALL_LOADS)?;
     let (many, bytes) = least_load(rt, LARGE, LARGE_LOADS)?;
@@ -171,7 +171,7 @@ fn least_load<R: Print + Clock + AllocGlobal + Drop>(
     Ok((least, bytes))
 }
 
-/// Prints what a line of each task costs at least at both sizes.
+/// Prints the least cost of a line of each task at both sizes.
 fn print_costs<R: Print + AllocGlobal>(
     rt: &R,
     sizes: &str,

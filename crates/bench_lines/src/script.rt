@@ -1,5 +1,5 @@
-//! A reader that makes the lines of one part after another. It hands out lines only of one part at once, so all of them
-//! are answered when it is asked for more: what it does between two answers is not timed.
+//! A reader that makes the lines of one part after another. It hands out lines of only one part at once, so all of them
+//! are answered when it is asked for more. Its own work between two answers is not timed.
 use crate::maps::Map;
 use crate::parts::Part;
 use crate::replies::Reply;
@@ -11,10 +11,10 @@ use std::rt::Clock;
 use std::time::Instant;
 use test_districts::Flood;
 
-/// How many bytes are made at once, but for the end of a line; where each line is answered alone, one line.
+/// How many bytes are made at once, up to the end of a line. If each line is answered alone, one line is made.
 const CHUNK: usize = 262_144;
 
-/// What was written since it was last looked at.
+/// The text written since the last look.
 pub(crate) type Page = Cell<Vec<u8>>;
 
 /// The reader.
@@ -23,21 +23,21 @@ pub(crate) struct Script<'a, R> {
     rt: &'a R,
     alloc: Global,
     map: Map,
-    /// The parts, and the place of the one that lines are handed out of.
+    /// The parts, and the place of the one whose lines are handed out.
     parts: Vec<Part>,
     place: usize,
     /// The lines that were made, and how many of their bytes were handed out.
     chunk: Vec<u8>,
     given: usize,
-    /// Since when they are answered.
+    /// When their answers began.
     since: Option<Instant>,
     page: &'a Page,
-    /// What empties the caches before a line that is answered alone.
+    /// Empties the caches before a line that is answered alone.
     flood: Option<Flood>,
 }
 
 impl<'a, R: Clock> Script<'a, R> {
-    /// A reader of these parts over a map. What is written comes to the page.
+    /// A reader of these parts over a map. The replies come to the page.
     pub(crate) fn new(
         rt: &'a R,
         alloc: Global,
@@ -65,7 +65,7 @@ impl<'a, R: Clock> Script<'a, R> {
         self.parts
     }
 
-    /// Takes down how long the chunk took, and the replies to it; then makes the next one.
+    /// Notes how long the chunk took, and the replies to it. Then makes the next one.
     fn turn(&mut self) -> io::Result<()> {
         let now = Instant::now(self.rt)?;
         let mut page = self.page.replace(Vec::new(self.alloc));
@@ -85,7 +85,7 @@ impl<'a, R: Clock> Script<'a, R> {
         Ok(())
     }
 
-    /// Empties the caches where the lines that were made are to be answered so.
+    /// Empties the caches if the part is cold.
     fn empty_caches(&mut self) {
         if let (Some(part), Some(flood)) = (self.parts.get(self.place), &mut self.flood)
             && part.is_cold
@@ -138,7 +138,7 @@ fn fill(chunk: &mut Vec<u8>, part: &mut Part, alloc: Global, map: Map) -> io::Re
     Ok(())
 }
 
-/// Takes down the kinds of replies to lines of a part.
+/// Notes the kinds of the replies to lines of a part.
 fn take_down(part: &mut Part, page: &[u8]) -> io::Result<()> {
     let Ok(text) = str::from_utf8(page) else {
         return Err(io::Error::from(io::ErrorKind::InvalidData));

@@ -1,4 +1,4 @@
-//! What lines do.
+//! The tasks of lines.
 
 use crate::lines;
 use crate::maps::Map;
@@ -9,10 +9,10 @@ use test_districts::{COMMIT, SERVICE};
 /// How many defaults are published again, and then withdrawn again.
 const AGAIN: u32 = 10;
 
-/// How many lines that takes, the commit behind them too.
+/// How many lines that takes, with the commit after them.
 pub(crate) const AGAIN_LINES: u32 = AGAIN + 1;
 
-/// What the lines of a part do.
+/// The task of the lines of a part.
 #[derive(Clone, Copy, PartialEq, Eq)]
 pub(crate) enum Task {
     /// Publish the districts, one after another.
@@ -21,15 +21,15 @@ pub(crate) enum Task {
     LoadRoads,
     /// Publish the default.
     Standby,
-    /// Publish what is staged.
+    /// Publish the staged edits.
     Commit,
-    /// Ask for a service at a point that a mapping of it holds.
+    /// Ask for a service at a point that one of its mappings holds.
     Hits,
     /// Ask at a point that no mapping holds.
     Misses,
     /// Ask for a service that nobody holds.
     Unheld,
-    /// Ask for a service that has a default alone.
+    /// Ask for a service that has only a default.
     Defaults,
     /// Ask for all services.
     Services,
@@ -39,7 +39,7 @@ pub(crate) enum Task {
     Boundaries,
     /// Ask for an address, and for its validation.
     Validations,
-    /// Replace a district's mapping and commit, for the first time: what was loaded is then applied to the other book too.
+    /// Replace a district's mapping and commit, for the first time: the load is then applied to the other book too.
     Settle,
     /// Replace a drawn district's mapping and commit, in turn.
     Replacements,
@@ -53,14 +53,14 @@ pub(crate) enum Task {
     WithdrawAgain,
     /// Ask for a service that nobody holds, in a line of 1 MiB.
     Filled,
-    /// Publish a mapping that is crowded with URIs, in a line of 1 MiB: there are too many.
+    /// Publish a mapping with too many URIs, in a line of 1 MiB.
     ManyUris,
-    /// Ask with a crowd of locations, in a line of 1 MiB: there are too many.
+    /// Ask with too many locations, in a line of 1 MiB.
     ManyLocations,
 }
 
 impl Task {
-    /// The words for it.
+    /// The words for the task.
     pub(crate) fn words(self) -> &'static str {
         match self {
             Task::Load => "load",
@@ -87,7 +87,7 @@ impl Task {
         }
     }
 
-    /// Whether a reply to such a line is as it should be.
+    /// Whether a reply to such a line is right.
     pub(crate) fn allows(self, reply: Reply) -> bool {
         match self {
             Task::Load | Task::LoadRoads | Task::Standby | Task::Passing => reply == Reply::Staged,
@@ -110,7 +110,7 @@ impl Task {
         }
     }
 
-    /// The line of a number, over a map.
+    /// The line with a number, over a map.
     pub(crate) fn line(self, alloc: Global, map: Map, number: u32) -> Result<String, AllocError> {
         match self {
             Task::Load => lines::district(alloc, map, "publish", number, "2025-12-01T00:00:00Z"),
@@ -150,7 +150,7 @@ fn replacement(alloc: Global, map: Map, number: u32) -> Result<String, AllocErro
     lines::district(alloc, map, "replace", map.drawn(number), updated.as_str())
 }
 
-/// A publish behind all, a withdrawal of the first that is held, or a commit after each.
+/// A publish after all others, a withdrawal of the first that is held, or a commit after each.
 fn turn(alloc: Global, map: Map, number: u32) -> Result<String, AllocError> {
     let turn = number / 4;
     match number % 4 {

@@ -8,10 +8,10 @@ use std::time::Duration;
 /// How long a client waits for replies, in seconds.
 const PATIENCE: u64 = 60;
 
-/// The most reads for the replies to what was sent at once.
+/// The most reads for the replies to the lines sent at once.
 const MAX_READS: u32 = 1_000_000;
 
-/// How a reply begins that has found a mapping.
+/// The beginning of a reply that has found a mapping.
 const FOUND: &[u8] = b"{\"findServiceResponse\":";
 
 /// A client's end of a connection.
@@ -34,7 +34,8 @@ impl Client {
         Ok(Client { stream, alloc })
     }
 
-    /// Sends bytes with so many lines at once, and reads as many replies. Gives them where `keeps` holds, and else no byte.
+    /// Sends bytes with so many lines at once, and reads as many replies. Gives the replies if `keeps`, and no byte
+    /// otherwise.
     pub(crate) fn ask(&mut self, bytes: &[u8], lines: u32, keeps: bool) -> io::Result<Vec<u8>> {
         self.stream.write_all(bytes)?;
         let mut kept = Vec::new(self.alloc);

@@ -1,4 +1,4 @@
-//! What servers and their clients need of the machine.
+//! The machine that servers and their clients need.
 
 use std::net::{Net, TcpListener, TcpStream};
 use std::random::RandomSource;
@@ -6,7 +6,7 @@ use std::sync::Wait;
 use std::thread::Threads;
 use std::time::Clock;
 
-/// What servers and their clients need of the machine.
+/// The parts of the machine that servers and their clients need.
 pub(crate) trait Machine: Net<Listener = TcpListener, Stream = TcpStream>
     + Threads
     + Wait

@@ -1,9 +1,9 @@
-//! What connections cost, beside a server that sends each line back, which runs the same loop.
+//! The cost of connections, beside a server that runs the same loop and sends each line back.
 //!
 //!     bench_serve            a few lines over each server, as the gate runs it: how many mappings were found
 //!     bench_serve measure    replies a second of one connection and of four, and how long a line and a commit take
 //!
-//! It ends with status 2 at any other word.
+//! The exit status is 2 at any other word.
 #![tactic(auto)]
 
 mod client;

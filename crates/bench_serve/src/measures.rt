@@ -1,4 +1,4 @@
-//! What is measured, and how it is printed.
+//! The measurements, and how they are printed.
 
 use crate::machine::Machine;
 use crate::scenes::{Outcome, Plan, echoed, served};
@@ -10,19 +10,18 @@ const SMALL: u32 = 1_000;
 
 const LARGE: u32 = 60_000;
 
-/// How often each figure is taken; the best of them counts. What else the machine does makes a round longer, never
-/// shorter.
+/// How often each figure is taken. The best one counts: other work of the machine makes a round longer, never shorter.
 const TIMES: u32 = 3;
 
 /// How many lines are sent before their replies are read, and how often.
 const DEPTHS: [(u32, u32); 3] = [(1, 50_000), (16, 20_000), (64, 10_000)];
 
-/// Who answers.
+/// The server that answers.
 #[derive(Clone, Copy)]
 enum Server {
-    /// One that sends each line back.
+    /// A server that sends each line back.
     Echo,
-    /// One that serves a map.
+    /// A server with a map.
     Lost,
 }
 
@@ -48,7 +47,7 @@ pub(crate) fn print_counts<R: Machine>(rt: &R) -> io::Result<()> {
     println!(rt; "four clients beside commits: {found} of 64 found")
 }
 
-/// What comes of a plan at a server.
+/// The outcome of a plan at a server.
 fn asked<R: Machine>(rt: &R, server: Server, plan: Plan) -> io::Result<Outcome> {
     match server {
         Server::Echo => echoed(rt, plan),
@@ -56,7 +55,7 @@ fn asked<R: Machine>(rt: &R, server: Server, plan: Plan) -> io::Result<Outcome> 
     }
 }
 
-/// The best of several rounds of a plan: that of the least time.
+/// The outcome of a plan's best round: the one that takes the least time.
 fn best<R: Machine>(rt: &R, server: Server, plan: Plan) -> io::Result<Outcome> {
     let mut best = asked(rt, server, plan)?;
     for _ in 1..TIMES {

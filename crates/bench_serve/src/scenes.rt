@@ -1,4 +1,4 @@
-//! A server in one thread, and those that it serves in others.
+//! A server in one thread, and its clients and desk in others.
 
 use crate::client::{Client, found_in};
 use crate::districts::{push_commit, push_publish, push_question};
@@ -23,7 +23,7 @@ const AT_ONCE: u32 = 100;
 /// The most commits beside the clients.
 const MAX_COMMITS: u32 = 5_000;
 
-/// What is asked, and over what.
+/// The questions, and the server's map.
 #[derive(Clone, Copy)]
 pub(crate) struct Plan {
     /// How many mappings are held.
@@ -34,11 +34,11 @@ pub(crate) struct Plan {
     pub(crate) depth: u32,
     /// How often it does so.
     pub(crate) rounds: u32,
-    /// Whether the desk publishes and commits 100 times a second meanwhile, and as often as given at least.
+    /// The desk publishes and commits 100 times a second meanwhile, at least this often; never where this is 0.
     pub(crate) commits: u32,
 }
 
-/// What came of it.
+/// The outcome of a plan.
 #[derive(Drop)]
 pub(crate) struct Outcome {
     /// How many mappings were found in the first rounds of all clients.
@@ -51,7 +51,7 @@ pub(crate) struct Outcome {
 }
 
 impl Outcome {
-    /// Nothing yet.
+    /// An outcome without rounds.
     fn none(alloc: Global) -> Outcome {
         Outcome {
             found: 0,
@@ -61,7 +61,7 @@ impl Outcome {
         }
     }
 
-    /// The one that took less time.
+    /// The outcome that took less time.
     pub(crate) fn better(self, other: Outcome) -> Outcome {
         if other.spent < self.spent {
             other
@@ -70,7 +70,7 @@ impl Outcome {
         }
     }
 
-    /// Adds what came of another client.
+    /// Adds the outcome of another client.
     fn add(&mut self, other: &Outcome) -> io::Result<()> {
         self.found = self.found.saturating_add(other.found);
         self.spent = self.spent.max(other.spent);
@@ -112,7 +112,7 @@ pub(crate) fn served<R: Machine>(rt: &R, name: &Source, plan: Plan) -> io::Resul
     }
 }
 
-/// Has one client ask a server that sends each line back. Gives what came of it, in which nothing is found.
+/// Has one client ask a server that sends each line back. Gives the outcome, in which nothing is found.
 pub(crate) fn echoed<R: Machine>(rt: &R, plan: Plan) -> io::Result<Outcome> {
     let alloc = rt.alloc();
     let listener = TcpListener::bind(rt, "127.0.0.1:0")?;
@@ -150,8 +150,8 @@ fn with_desk<R: Machine>(
     Ok(outcome)
 }
 
-/// Publishes so many districts and commits them, and then one more twice: each copy of the map catches up with what the
-/// other has at the commit after it, and a large commit makes that one long.
+/// Publishes so many districts and commits them, and then one more, twice. Each copy of the map catches up with the
+/// other at the next commit, so the commit after a large one takes long.
 fn load(alloc: Global, desk: &mut Client, districts: u32) -> io::Result<()> {
     let mut lines = Vec::new(alloc);
     for first in (0..districts).step_by(AT_ONCE as usize) {
@@ -179,8 +179,8 @@ fn publish_one(alloc: Global, desk: &mut Client, number: u32) -> io::Result<()> 
     Ok(())
 }
 
-/// Publishes one more district and commits it, 100 times a second, until the clients are done. Gives how long each commit
-/// took.
+/// Publishes one more district and commits it, 100 times a second, until the clients are done. Gives how long each
+/// commit took.
 fn commit_often<R: Machine>(
     rt: &R,
     desk: &mut Client,
@@ -220,8 +220,8 @@ fn all_clients<R: Machine>(rt: &R, address: SocketAddr, plan: Plan) -> io::Resul
     Ok(sum)
 }
 
-/// A client: it sends some lines at a time, and reads their replies. Those of the first round are looked at; those of the
-/// others are counted.
+/// A client. It sends some lines at a time, and reads their replies. It looks at those of the first round, and counts
+/// the others.
 fn client<R: Machine>(
     rt: &R,
     address: SocketAddr,

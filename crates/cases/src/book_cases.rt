@@ -13,7 +13,7 @@ use lost_query::{Holdings, Place};
 use lost_spec::Coded;
 use std::alloc::Global;
 
-/// The book that the cases of a table change and ask, and a copy that was made of it.
+/// The book that the cases of a table change and ask, and its copy.
 #[derive(Drop)]
 pub(crate) struct Shelf {
     book: Option<Book>,
@@ -37,7 +37,7 @@ impl Shelf {
         }
     }
 
-    /// What a call gives that makes, changes or copies the book.
+    /// The result of a call that makes, changes or copies the book.
     pub(crate) fn said(
         &mut self,
         alloc: Global,
@@ -110,18 +110,18 @@ impl Shelf {
     }
 }
 
-/// The mapping of a description behind a number.
+/// The mapping of a description with a number in front.
 fn numbered(alloc: Global, number: u64, description: &str) -> Result<Mapping, Trouble> {
     let described = format!(in alloc; "{number}{description}")?;
     mapping(alloc, described.as_str())
 }
 
-/// The limits of two numbers, which stand in the first two fields.
+/// The limits in the first two fields.
 fn limits(fields: &Fields) -> Result<Option<Limits>, Trouble> {
     Ok(Limits::new(limit(fields, 1)?, limit(fields, 2)?))
 }
 
-/// The limits of three numbers, which stand in the first three fields.
+/// The limits in the first three fields.
 fn limits_with_traces(fields: &Fields) -> Result<Option<Limits>, Trouble> {
     match limits(fields)? {
         Some(limits) => Ok(limits.with_traces(limit(fields, 3)?)),
@@ -157,8 +157,8 @@ fn edit(alloc: Global, call: &str, fields: &Fields) -> Result<Edit, Trouble> {
     }
 }
 
-/// Applies a copy of an edit, and the edit itself where memory ran out. What is refused leaves the book as it was, and
-/// `check` says the same.
+/// Applies a copy of an edit, and the edit itself if memory ran out. A refusal must leave the book as it was, and
+/// `check` must agree.
 fn apply(alloc: Global, book: &mut Book, edit: Edit) -> Result<String, Trouble> {
     let before = kept(alloc, book, &edit)?;
     let copy = edit.clone()?;
@@ -178,7 +178,7 @@ fn apply(alloc: Global, book: &mut Book, edit: Edit) -> Result<String, Trouble> 
     }
 }
 
-/// What is held, how many withdrawn identities are remembered, and the stamp of the withdrawal of that of an edit.
+/// The mappings held, how many withdrawn identities are remembered, and the withdrawal stamp of an edit's identity.
 fn kept(alloc: Global, book: &Book, edit: &Edit) -> Result<String, Trouble> {
     let held = held(alloc, book)?;
     let count = Register::trace_count(book);
@@ -194,7 +194,7 @@ fn edited(edit: &Edit) -> &Identity {
     }
 }
 
-/// The stamp of the withdrawal that is remembered of an identity.
+/// The remembered stamp of an identity's withdrawal.
 fn withdrawn(alloc: Global, book: &Book, identity: &Identity) -> Result<String, Trouble> {
     match Register::withdrawn(book, identity) {
         Some(stamp) => owned(alloc, stamp.text()),
@@ -222,7 +222,7 @@ fn push_held(text: &mut String, mapping: &Mapping) -> Result<(), Trouble> {
     Ok(())
 }
 
-/// What the book answers.
+/// The answer of the book.
 fn asked(alloc: Global, book: &Book, call: &str, fields: &Fields) -> Result<String, Trouble> {
     match call {
         "book held" => return held(alloc, book),

@@ -7,7 +7,7 @@ use crate::{
 };
 use std::alloc::Global;
 
-/// What the call of a case gives, or `None` where it gives what is wanted.
+/// The result of a case's call, or `None` where it is as wanted.
 pub(crate) fn judge(
     alloc: Global,
     shelf: &mut Shelf,
@@ -19,7 +19,7 @@ pub(crate) fn judge(
     Ok(if is_wanted { None } else { Some(said) })
 }
 
-/// What the call of a case gives. The first word of a call says whose it is.
+/// The result of a case's call. The first word of a call chooses the file of its crate.
 fn said(alloc: Global, shelf: &mut Shelf, fields: &Fields) -> Result<String, Trouble> {
     let call = fields.text(0)?;
     match call.split_once(' ').unwrap_or((call, "")).0 {

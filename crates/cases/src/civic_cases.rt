@@ -6,7 +6,7 @@ use lost_civic::{CivicAddress, CivicError, CivicPattern, Element};
 use lost_spec::Coded;
 use std::alloc::Global;
 
-/// What a call gives.
+/// The result of a call.
 pub(crate) fn said(alloc: Global, call: &str, fields: &Fields) -> Result<String, Trouble> {
     let text = fields.text(1)?;
     match call {
@@ -57,7 +57,7 @@ fn matches(alloc: Global, text: &str, address_text: &str) -> Result<String, Trou
     )
 }
 
-/// The address of pairs that make one.
+/// The address that pairs make.
 pub(crate) fn address(alloc: Global, text: &str) -> Result<CivicAddress, Trouble> {
     match CivicAddress::from_pairs(alloc, text_pairs(alloc, text, ';')?) {
         Ok(address) => Ok(address),
@@ -66,7 +66,7 @@ pub(crate) fn address(alloc: Global, text: &str) -> Result<CivicAddress, Trouble
     }
 }
 
-/// The pattern of pairs that make one.
+/// The pattern that pairs make.
 fn pattern(alloc: Global, text: &str) -> Result<CivicPattern, Trouble> {
     match CivicPattern::from_pairs(alloc, text_pairs(alloc, text, ';')?) {
         Ok(pattern) => Ok(pattern),
@@ -75,7 +75,7 @@ fn pattern(alloc: Global, text: &str) -> Result<CivicPattern, Trouble> {
     }
 }
 
-/// The names of all elements, each behind a space, as far as each stands at its index.
+/// The names of all elements that stand at their index, each behind a space.
 fn elements(alloc: Global) -> Result<String, Trouble> {
     let mut text = String::new(alloc);
     for (position, element) in Element::ALL.iter().enumerate() {
@@ -101,7 +101,7 @@ fn element(name: &str) -> Result<Element, Trouble> {
     Element::by_name(name).ok_or(Trouble::NoCase)
 }
 
-/// How one element lies to another.
+/// How one element compares with another.
 fn order(one: Element, other: Element) -> &'static str {
     match compared(&one, &other) {
         "same" => "same",

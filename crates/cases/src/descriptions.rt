@@ -1,11 +1,11 @@
-//! Mappings as cases describe them: a sourceId, and then changes, each behind a `;`. What is not changed is the police of
-//! `map.example`, of 2025-12-01 and without end, at a URI and under a key of the sourceId, and of no region.
+//! Mappings as cases describe them: a sourceId, and then changes, each after a `;`. Without changes, a mapping is the
+//! police of `map.example`, of 2025-12-01, without end and without a region. Its URI and key come from the sourceId.
 use crate::trouble::Trouble;
 use crate::words::{number_pair, number_pairs, owned, text_pairs};
 use lost_mapping::{DisplayName, Mapping, MappingError, Parts, Region};
 use std::alloc::Global;
 
-/// The mapping of a description that makes one.
+/// The mapping that a description makes.
 pub(crate) fn mapping(alloc: Global, description: &str) -> Result<Mapping, Trouble> {
     match Mapping::build(alloc, parts(alloc, description)?) {
         Ok(mapping) => Ok(mapping),
@@ -14,7 +14,7 @@ pub(crate) fn mapping(alloc: Global, description: &str) -> Result<Mapping, Troub
     }
 }
 
-/// The parts that a description says.
+/// The parts of a description.
 pub(crate) fn parts(alloc: Global, description: &str) -> Result<Parts, Trouble> {
     let mut changes = description.split(';');
     let Some(source_id) = changes.next() else {

@@ -1,4 +1,4 @@
-//! The fields of a case: what stands between its bars, without the spaces round it.
+//! The fields of a case: the texts between its bars, without the spaces around them.
 use crate::spelling::spelled;
 use crate::trouble::Trouble;
 use std::alloc::Global;
@@ -19,7 +19,7 @@ impl Fields {
         Ok(Fields { fields })
     }
 
-    /// What is wanted: the last field.
+    /// The wanted result: the last field.
     pub(crate) fn wanted(&self) -> Result<&[u8], Trouble> {
         match self.fields.last() {
             Some(field) => Ok(field.as_slice()),

@@ -6,7 +6,7 @@ use lost_geo::{GeoPoint, Polygon, is_ring};
 use lost_spec::Coded;
 use std::alloc::Global;
 
-/// What a call gives.
+/// The result of a call.
 pub(crate) fn said(alloc: Global, call: &str, fields: &Fields) -> Result<String, Trouble> {
     let text = fields.text(1)?;
     match call {
@@ -27,13 +27,13 @@ pub(crate) fn said(alloc: Global, call: &str, fields: &Fields) -> Result<String,
     }
 }
 
-/// The point of two numbers that make one.
+/// The point that two numbers make.
 pub(crate) fn point(text: &str) -> Result<GeoPoint, Trouble> {
     let (lat, lon) = number_pair(text)?;
     GeoPoint::new(lat, lon).map_err(|_| Trouble::NoCase)
 }
 
-/// The polygon of a ring that is one.
+/// The polygon that a ring makes.
 fn polygon(alloc: Global, text: &str) -> Result<Polygon, Trouble> {
     Polygon::new(points(alloc, text)?).map_err(|_| Trouble::NoCase)
 }

@@ -15,7 +15,7 @@ use lost_spec::Coded;
 use std::alloc::Global;
 use std::borrow::CowStr;
 
-/// What a call gives.
+/// The result of a call.
 pub(crate) fn said(alloc: Global, call: &str, fields: &Fields) -> Result<String, Trouble> {
     match call {
         "line request" => request(alloc, fields.bytes(1)?),
@@ -89,7 +89,7 @@ fn error(name: &str) -> Result<AnswerError, Trouble> {
     }
 }
 
-/// Where a line may be cut short and is read all the same.
+/// The least length at which a line that is cut short is still read.
 fn cut_short(alloc: Global, line: &[u8]) -> Result<String, Trouble> {
     for end in 0..line.len() {
         match read_request(alloc, &line[..end]).err() {
@@ -110,7 +110,7 @@ fn request(alloc: Global, line: &[u8]) -> Result<String, Trouble> {
     }
 }
 
-/// What a request asks.
+/// A request as a text.
 pub(crate) fn shown_request(alloc: Global, request: &Request<'_>) -> Result<String, Trouble> {
     match request {
         Request::FindService {
@@ -183,7 +183,7 @@ fn shown_location(alloc: Global, location: &Location<'_>) -> Result<String, Trou
     Ok(text)
 }
 
-/// What a desk line orders, or the number of its refusal, or `other`.
+/// The order of a desk line, or the number of its refusal, or `other`.
 fn order(alloc: Global, line: &[u8]) -> Result<String, Trouble> {
     match read_desk(alloc, line) {
         Ok(Some(line)) => shown_order(alloc, &line),
@@ -193,7 +193,7 @@ fn order(alloc: Global, line: &[u8]) -> Result<String, Trouble> {
     }
 }
 
-/// What a desk line orders.
+/// The order of a desk line as a text.
 pub(crate) fn shown_order(alloc: Global, line: &DeskLine) -> Result<String, Trouble> {
     match line {
         DeskLine::Commit => owned(alloc, "commit"),

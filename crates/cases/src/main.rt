@@ -1,8 +1,8 @@
-//! Runs tables of cases of public calls, which lie in the folder that it is run in, and says which give something else
-//! than they should. It ends with status 1 where some do. Arguments name the tables to run; without any it runs all.
+//! Runs tables of cases of public calls from the current folder, and prints each case that gives something else than it
+//! should. The exit status is then 1. Arguments name the tables to run; without any it runs all.
 //!
-//! A table is a file `NAME.cases`. Each line is a case: a call, its arguments and what it gives, with `|` between each
-//! two. Empty lines and lines that begin with `#` are passed over.
+//! A table is a file `NAME.cases`. Each line is a case: a call, its arguments and its result, with `|` between each
+//! two. Empty lines and lines that begin with `#` are skipped.
 #![tactic(auto)]
 
 mod book_cases;

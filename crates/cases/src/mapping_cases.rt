@@ -9,7 +9,7 @@ use lost_mapping::{Expires, Mapping, MappingError, Moment, Parts};
 use lost_spec::Coded;
 use std::alloc::Global;
 
-/// What a call gives.
+/// The result of a call.
 pub(crate) fn said(alloc: Global, call: &str, fields: &Fields) -> Result<String, Trouble> {
     let text = fields.text(1)?;
     match call {
@@ -39,12 +39,12 @@ fn build(alloc: Global, text: &str) -> Result<String, Trouble> {
     }
 }
 
-/// The first refusal of parts, where they lie.
+/// The first refusal of parts, checked where they are.
 fn parts_fault(parts: &Parts) -> Option<MappingError> {
     Mapping::check::<Parts>(&parts.borrowed()).err()
 }
 
-/// Whether a mapping is live at an instant, and when a copy of its end says so.
+/// Whether a mapping is live at an instant; `at odds` where a copy of its end says otherwise.
 fn is_live(mapping: &Mapping, moment: &Moment) -> Result<&'static str, Trouble> {
     let end = mapping.expires().clone()?;
     let live = mapping.is_live(moment);
@@ -55,7 +55,7 @@ fn is_live(mapping: &Mapping, moment: &Moment) -> Result<&'static str, Trouble> 
     })
 }
 
-/// What each reader of a mapping gives.
+/// The result of each reader of a mapping.
 pub(crate) fn shown(alloc: Global, mapping: &Mapping) -> Result<String, Trouble> {
     let mut text = shown_head(alloc, mapping)?;
     for uri in mapping.uris() {

@@ -1,5 +1,5 @@
-//! How a field is spelled: `%{4:ab}` is `abababab`, where `%#` is the number of the turn, from 0, and such repetitions
-//! may stand in one another; `%` with two hexadecimal digits is the byte of that number.
+//! How a field is spelled. `%{4:ab}` is `abababab`; in it, `%#` is the number of the turn, from 0. Repetitions may
+//! nest. `%` with two hexadecimal digits is the byte of that number.
 use crate::trouble::Trouble;
 use percent_encoding::percent_decode;
 use std::alloc::Global;
@@ -27,7 +27,7 @@ fn repeated(alloc: Global, field: &str) -> Result<String, Trouble> {
     Err(Trouble::NoCase)
 }
 
-/// The text with its last repetition written out, in which no other one stands, or `None` where it has none.
+/// The text with its last repetition, which holds no other one, written out; `None` where it has none.
 fn with_the_last_repeated(alloc: Global, text: &str) -> Result<Option<String>, Trouble> {
     let Some((front, rest)) = text.rsplit_once("%{") else {
         return Ok(None);

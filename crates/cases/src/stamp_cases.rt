@@ -6,7 +6,7 @@ use lost_mapping::{Identity, MappingError, Moment, Source, SourceError, Stamp, S
 use lost_spec::Coded;
 use std::alloc::Global;
 
-/// What a call gives.
+/// The result of a call.
 pub(crate) fn said(alloc: Global, call: &str, fields: &Fields) -> Result<String, Trouble> {
     match call {
         "stamp" => new_stamp(alloc, fields.bytes(1)?),
@@ -52,7 +52,7 @@ fn two_moments(alloc: Global, fields: &Fields) -> Result<String, Trouble> {
     }
 }
 
-/// The stamp of a text that is one.
+/// The stamp that a text spells.
 pub(crate) fn stamp(alloc: Global, text: &[u8]) -> Result<Stamp, Trouble> {
     match Stamp::parse(alloc, text) {
         Ok(stamp) => Ok(stamp),
@@ -61,7 +61,7 @@ pub(crate) fn stamp(alloc: Global, text: &[u8]) -> Result<Stamp, Trouble> {
     }
 }
 
-/// The source of a text that is one.
+/// The source that a text spells.
 pub(crate) fn source(alloc: Global, text: &[u8]) -> Result<Source, Trouble> {
     match Source::parse(alloc, text) {
         Ok(source) => Ok(source),
@@ -70,7 +70,7 @@ pub(crate) fn source(alloc: Global, text: &[u8]) -> Result<Source, Trouble> {
     }
 }
 
-/// The identity of two texts that make one.
+/// The identity that two texts make.
 pub(crate) fn identity(alloc: Global, source: &str, id: &str) -> Result<Identity, Trouble> {
     match Identity::parse(alloc, source, id) {
         Ok(identity) => Ok(identity),
@@ -123,14 +123,14 @@ fn shown_identity(alloc: Global, identity: &Identity) -> Result<String, Trouble>
     Ok(format!(in alloc; "{source} {id} {same}")?)
 }
 
-/// The instant of a day and a nanosecond, which stand from a position on.
+/// The instant of the day and the nanosecond in the fields from a position on.
 fn moment(fields: &Fields, position: usize) -> Result<Option<Moment>, Trouble> {
     let day = i32::try_from(fields.number(position)?).map_err(|_| Trouble::NoCase)?;
     let nanosecond = fields.count(position.saturating_add(1))?;
     Ok(Moment::new(day, nanosecond))
 }
 
-/// How one instant lies to another by each way of comparing.
+/// How one instant compares with another; `at odds` where two ways of comparing differ.
 fn order(one: &Moment, other: &Moment) -> &'static str {
     match (one.is_earlier(other), other.is_earlier(one)) {
         (true, false) if one < other && one != other => "before",

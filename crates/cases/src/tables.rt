@@ -1,13 +1,13 @@
-//! The tables of the folder that the program is run in.
+//! The tables of the current folder.
 use crate::book_cases::Shelf;
 use crate::case::judge;
 use std::rt::{Env, Files};
 use std::{env, fs, io};
 
-/// What ends the name of a table's file.
+/// The ending of a table's file name.
 const ENDING: &str = ".cases";
 
-/// The names of the tables that are run: those of the arguments, or each of the folder, in order.
+/// The names of the tables to run: those of the arguments, or each of the folder, in order.
 pub(crate) fn names<R: Env + Files + AllocGlobal + Clone + Drop>(
     rt: &R,
 ) -> io::Result<Vec<String>> {
@@ -28,13 +28,14 @@ pub(crate) fn names<R: Env + Files + AllocGlobal + Clone + Drop>(
     Ok(names)
 }
 
-/// Runs a table, prints each case that is wrong or no case and how many are as wanted, and says whether all are.
+/// Runs a table. Prints each wrong case, the first line that is no case, and how many cases are right. Says whether all
+/// are.
 pub(crate) fn is_as_wanted<R: Files + Print + AllocGlobal>(rt: &R, name: &str) -> io::Result<bool> {
     let table = fs::read_to_string(rt, format!(in rt.alloc(); "{name}{ENDING}")?.as_str())?;
     judge_lines(rt, name, table.as_str(), &mut Shelf::new())
 }
 
-/// Runs the lines of a table, and prints what they come to.
+/// Runs the lines of a table, and prints the results.
 fn judge_lines<R: Print + AllocGlobal>(
     rt: &R,
     name: &str,

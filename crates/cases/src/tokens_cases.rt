@@ -10,7 +10,7 @@ use lost_spec::Coded;
 use lost_tape::{Scratch, read_common, read_line, read_request};
 use std::alloc::Global;
 
-/// What a call gives.
+/// The result of a call.
 pub(crate) fn said(alloc: Global, call: &str, fields: &Fields) -> Result<String, Trouble> {
     match call {
         "tokens common" => common(alloc, fields.bytes(1)?),
@@ -20,7 +20,7 @@ pub(crate) fn said(alloc: Global, call: &str, fields: &Fields) -> Result<String,
     }
 }
 
-/// What a request line of a common shape is read as, or `none`. Nothing is said of a line for want of memory too, so it is
+/// What a request line of a common shape is read as, or `none`. Refused memory reads as nothing too, so the line is
 /// then read once more.
 fn common(alloc: Global, line: &[u8]) -> Result<String, Trouble> {
     if let Some(text) = read_once(alloc, line)? {

@@ -9,7 +9,7 @@ use lost_urn::{ServiceUrn, UrnError};
 use std::alloc::Global;
 use std::cmp::Ordering;
 
-/// What a call gives.
+/// The result of a call.
 pub(crate) fn said(alloc: Global, call: &str, fields: &Fields) -> Result<String, Trouble> {
     let text = fields.bytes(1)?;
     match call {
@@ -36,7 +36,7 @@ fn two_services(alloc: Global, text: &[u8], other: &[u8]) -> Result<String, Trou
     owned(alloc, order(&one, &service(alloc, other)?))
 }
 
-/// The service of a text that is one.
+/// The service that a text spells.
 pub(crate) fn service(alloc: Global, text: &[u8]) -> Result<ServiceUrn, Trouble> {
     match ServiceUrn::parse(alloc, text) {
         Ok(service) => Ok(service),
@@ -61,7 +61,7 @@ fn shown(alloc: Global, service: &ServiceUrn) -> Result<String, Trouble> {
     Ok(format!(in alloc; "{text} {depth} {same}")?)
 }
 
-/// A number of labels that the service has, of which there is at least one.
+/// A number of labels: at least 1, and at most those of the service.
 fn some_labels(service: &ServiceUrn, labels: u64) -> Result<usize, Trouble>
     ensures { IfOk result (λ n. (1 ≤ n) × (n ≤ length service.now)) }
 {
@@ -83,7 +83,7 @@ fn cut(alloc: Global, service: &ServiceUrn, labels: u64) -> Result<String, Troub
     Ok(format!(in alloc; "{text} {depth}")?)
 }
 
-/// How one service lies to another by each way of comparing.
+/// How one service compares with another; `at odds` where two ways of comparing differ.
 fn order(one: &ServiceUrn, other: &ServiceUrn) -> &'static str {
     let same = compared(one, other);
     let order = one.cmp(other);

@@ -1,4 +1,4 @@
-//! Words and lists in the fields of cases, and words that say what a call gives.
+//! Words and lists in the fields of cases, and words for the results of calls.
 use crate::trouble::Trouble;
 use std::alloc::Global;
 use std::hash::{DefaultHasher, Hash, Hasher};
@@ -11,17 +11,17 @@ pub(crate) fn checked(alloc: Global, refusal: Option<u8>) -> Result<String, Trou
     }
 }
 
-/// A text of its own.
+/// An owned copy of a text.
 pub(crate) fn owned(alloc: Global, text: &str) -> Result<String, Trouble> {
     Ok(String::from_str(alloc, text)?)
 }
 
-/// How a refusal is said.
+/// The text of a refusal.
 pub(crate) fn refused(alloc: Global, code: u8) -> Result<String, Trouble> {
     Ok(format!(in alloc; "refused {code}")?)
 }
 
-/// How an answer is said.
+/// The text of an answer.
 pub(crate) fn yes_or_no(answer: bool) -> &'static str {
     if answer { "yes" } else { "no" }
 }
@@ -63,7 +63,7 @@ pub(crate) fn number_pairs(alloc: Global, text: &str) -> Result<Vec<(i64, i64)>,
     Ok(pairs)
 }
 
-/// Pairs `NAME=VALUE`, with this mark between each two or behind each.
+/// Pairs `NAME=VALUE`, with this mark between each two or after each.
 pub(crate) fn text_pairs(
     alloc: Global,
     text: &str,

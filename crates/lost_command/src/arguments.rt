@@ -12,66 +12,68 @@ lostd serve --name lost.example --queries 127.0.0.1:5222 --desk 127.0.0.1:5223 -
 `lostd replay --help`, `lostd check --help` and `lostd serve --help` explain the arguments and the exit status.";
 
 const REPLAY_HELP: &str =
-    "Each line of standard input is one JSON object. Desk lines (`publish`, `replace`, `withdraw`, \
-`commit`) change the mappings; any other line is a request (`findService`, `listServicesByLocation`, `listServices`, \
+    "Each line of standard input is one JSON object. Desk lines (`publish`, `replace`, `withdraw`, `commit`) change \
+the mappings; all other lines are requests (`findService`, `listServicesByLocation`, `listServices`, \
 `getServiceBoundary`). Each line gets one line of reply on standard output, as soon as it is answered.\n\n\
 Example:\n  lostd replay --name lost.example --now 2026-01-01T00:00:00Z < examples/one-mapping.jsonl\n\n\
-With --summary, or where standard error is a terminal, it says there at the end how many lines were answered, how many \
-of them were refused, and how many edits are published.\n\n\
-Exit status: 0 at the end of the input; 1 where standard input or output failed, the input was too long (more lines \
-than --lines allows) or memory ran out at the start; 2 for a mistake on the command line.";
+With --summary, or if standard error is a terminal, it ends with a line on standard error: how many lines it answered, \
+how many it refused, and how many edits are published.\n\n\
+Exit status: 0 at the end of the input; 1 if standard input or output fails, the input has more lines than --lines \
+allows, or memory runs out at the start; 2 for a mistake on the command line.";
 
 const CHECK_HELP: &str =
-    "Each line of standard input is read as by `lostd replay`. For each line that would be refused or answered \
-`badRequest` it prints a line: the number of the line, from 1, the code and name of the refusal, and the cause with the \
-place in the line, where items of a list are counted from 0:\n  \
+    "It reads the same lines as `lostd replay`. For each line that would be refused or answered `badRequest`, it \
+prints the line's number, the code and name of the refusal, and the cause with its place in the line. Lines count \
+from 1, and items of a list from 0:\n  \
 line 12: 9 BadRegion: serviceBoundary[2].polygon: the last position is not the first\n\
-Of any other line nothing is printed. At the end it prints `done lines=L refused=R badRequest=B internalError=I \
-edition=E`: the lines, those of them that are refused, answered `badRequest`, and not judged since memory ran out, and \
-how many edits are published. Where standard error is a terminal, it says there after each 100,000 lines how far it is.\n\n\
+It prints nothing about other lines. At the end it prints `done lines=L refused=R badRequest=B internalError=I \
+edition=E`: how many lines it read, how many of them would be refused or answered `badRequest`, how many it could not \
+check because memory ran out, and how many edits would be published. If standard error is a terminal, it shows its \
+progress there, every 100,000 lines.\n\n\
 Example:\n  lostd check --name lost.example --now 2026-01-01T00:00:00Z < examples/one-mapping.jsonl\n\n\
-Exit status: 0 where nothing is said of a line; 1 where standard input or output failed, the input was too long (more \
-lines than --lines allows) or memory ran out at the start; 2 for a mistake on the command line; 3 where something is \
-said of a line.";
+Exit status: 0 if all lines are good; 1 if standard input or output fails, the input has more lines than --lines \
+allows, or memory runs out at the start; 2 for a mistake on the command line; 3 if a line would be refused or answered \
+`badRequest`, or could not be checked.";
 
 const SERVE_HELP: &str =
-    "It reads the map, if there is one, listens, and prints `ready`. From then on each connection to the address of queries \
-gives requests (`findService`, `listServicesByLocation`, `listServices`, `getServiceBoundary`), and a connection to the \
-desk's address gives desk lines (`publish`, `replace`, `withdraw`, `commit`). Each line is one JSON object and gets one line \
-of reply.\n\n\
-The map is a file of desk lines; `-` is standard input. A line that is refused is said on standard error with its number, \
-code and cause, as by `lostd check`. Then the server ends with status 3 and listens nowhere, as it does where no commit \
-stands behind the last edit; with --keep-going it starts with what was accepted and committed. Nothing is kept once a \
-server has ended: give it its map at each start.\n\n\
-A server has no end of its own, and desks are served one after another: a second one waits until the first has ended. A desk \
-that sends no whole line within 10 seconds of its start is ended, as is one that sends none for 10 seconds while another \
-waits, and one that speaks HTTP or TLS. What a desk leaves without a commit is dropped. With --connections it serves one desk connection and so many query connections; \
-when all have ended it prints `done lines=L faults=F`: the lines that were answered and the query connections that ended in \
-a fault.\n\n\
-Each worker watches many connections, and answers the lines that have come; it waits for no client alone. A client may have \
-a mebibyte of replies waiting, and then is not read until it takes some. A connection ends where its input ends, where it \
-fails, and where it passes a limit: --line-time, since whoever sends a line byte by byte keeps its room; --reply-time, since \
-whoever takes no reply keeps the replies; --idle, since a client that is gone may never say so. One that is too many, by \
---most-connections or --per-address, is closed at once, so that no client takes the room of all. Ended and refused ones are \
-said on standard error, ten a second at most.\n\n\
-With --connections a worker answers one connection at a time, from its first line to its end; further ones wait. A connection \
-then ends where its input ends, where it fails, after --idle or after 1,000,000 lines, and the other limits are not there.\n\n\
-An address is HOST:PORT, as 127.0.0.1:5222, [::1]:5222 or localhost:5222, or unix:PATH, a Unix socket, whose file only its \
-owner may use unless --socket-mode says more.\n\n\
---status answers HTTP: GET /health is 200 once the server is ready, and 503 before; GET /metrics is for Prometheus; GET \
-/status is one JSON object.\n\n\
+    "The server reads its map, if it has one, then listens and prints `ready`. Query connections send requests \
+(`findService`, `listServicesByLocation`, `listServices`, `getServiceBoundary`); desk connections send desk lines \
+(`publish`, `replace`, `withdraw`, `commit`). Each line is one JSON object and gets one line of reply.\n\n\
+The map is a file of desk lines; `-` is standard input. For each refused line, standard error gives the number, the \
+code and the cause, as `lostd check` does. If a line is refused, or no commit follows the last edit, the server ends \
+with status 3 before it listens. With --keep-going it starts with the edits that were accepted and committed. The \
+server saves nothing: give it its map at each start.\n\n\
+Without --connections the server runs until a signal ends it. Desks are served one after another: a second desk waits \
+until the first has ended. A desk is disconnected if it sends no whole line in the first 10 seconds of its turn, or \
+for 10 seconds while another waits, or if it speaks HTTP or TLS. Edits without a commit are dropped when the desk's \
+connection ends. With --connections N the server serves one desk connection and N query connections. When all have \
+ended, it prints `done lines=L faults=F`: how many lines it answered, and how many query connections ended in a \
+fault.\n\n\
+Each worker watches many connections and answers lines as they come; a slow client keeps nobody waiting. A client \
+with 1 MiB of replies waiting is not read until it takes some. A connection ends when its input ends, when it fails, \
+or when it passes a limit: --line-time stops clients that send a line byte by byte, --reply-time those that do not \
+take their replies, --idle those that are gone. A connection over --most-connections or --per-address is closed at \
+once, so that no client keeps the others out. Standard error names connections that fail or pass a limit, at most ten \
+a second.\n\n\
+With --connections each worker answers one connection at a time, from its first line to its last; other connections \
+wait. A connection then ends when its input ends, when it fails, after --idle or after 1,000,000 lines; the other \
+limits do not apply.\n\n\
+An address is HOST:PORT, such as 127.0.0.1:5222, [::1]:5222 or localhost:5222, or unix:PATH for a Unix socket. Only \
+its owner may use the socket's file, unless --socket-mode allows more.\n\n\
+--status answers HTTP: GET /health gives 200 once the server is ready, and 503 before; GET /metrics is for Prometheus; \
+GET /status gives one JSON object.\n\n\
 Example, with a query from another shell:\n  \
 lostd serve --name lost.example --map examples/maps/two-districts.jsonl --queries 127.0.0.1:5222 --workers 4\n  \
 echo '{\"listServices\":{}}' | nc -N 127.0.0.1 5222\n\n\
-Exit status: 0 when all connections have ended; 1 where the map cannot be read, an address cannot be used, no connection \
-can be accepted, standard output failed or memory ran out outside the connections; 2 for a mistake on the command line; 3 \
-where a line of the map is refused or not committed. SIGINT, SIGTERM and SIGHUP end it at once.";
+Exit status: 0 when all connections have ended; 1 if the map cannot be read, an address cannot be used, no connection \
+can be accepted, standard output fails, or memory runs out outside the connections; 2 for a mistake on the command \
+line; 3 if a line of the map is refused or not committed. SIGINT, SIGTERM and SIGHUP end the server at once.";
 
 /// The whole command line.
 pub(crate) fn command<'a>(alloc: Global) -> Result<Command<'a>, Error> {
     let command = Command::new(alloc, "lostd")
         .about(
-            "A LoST server (RFC 5222) of JSON lines: it tells which emergency centre serves a place",
+            "A LoST server (RFC 5222) over JSON lines: it finds the emergency centre that serves a location",
         )
         .version(VERSION)
         .after_help(HELP)
@@ -86,7 +88,7 @@ pub(crate) fn command<'a>(alloc: Global) -> Result<Command<'a>, Error> {
 fn replay_command<'a>(alloc: Global) -> Result<Command<'a>, Error> {
     let command = Command::new(alloc, "replay")
         .about(
-            "Answers the desk lines and request lines of standard input, in order, from an empty book",
+            "Answers the desk lines and requests on standard input, in order, starting without mappings",
         )
         .after_help(REPLAY_HELP)
         .arg(name_argument(alloc))?
@@ -95,7 +97,7 @@ fn replay_command<'a>(alloc: Global) -> Result<Command<'a>, Error> {
         .arg(flag_argument(
             alloc,
             "summary",
-            "Says at the end on standard error how many lines were answered and refused",
+            "Prints at the end, on standard error, how many lines were answered and refused",
         ))?;
     Ok(command)
 }
@@ -104,7 +106,7 @@ fn replay_command<'a>(alloc: Global) -> Result<Command<'a>, Error> {
 fn check_command<'a>(alloc: Global) -> Result<Command<'a>, Error> {
     let command = Command::new(alloc, "check")
         .about(
-            "Says which desk lines and request lines of standard input would be refused, and why",
+            "Checks the desk lines and requests on standard input, and prints which would be refused and why",
         )
         .after_help(CHECK_HELP)
         .arg(name_argument(alloc))?
@@ -113,7 +115,7 @@ fn check_command<'a>(alloc: Global) -> Result<Command<'a>, Error> {
         .arg(flag_argument(
             alloc,
             "quiet",
-            "Says nothing of the lines, and prints the counts alone",
+            "Prints only the counts, without the lines that would be refused",
         ))?;
     Ok(command)
 }
@@ -121,25 +123,25 @@ fn check_command<'a>(alloc: Global) -> Result<Command<'a>, Error> {
 /// `lostd serve`.
 fn serve_command<'a>(alloc: Global) -> Result<Command<'a>, Error> {
     let command = Command::new(alloc, "serve")
-        .about("Answers requests of many clients, while a map desk edits the boundaries")
+        .about("Answers requests from many clients, while a map desk edits the boundaries")
         .after_help(SERVE_HELP)
         .arg(name_argument(alloc))?
         .arg(map_argument(alloc))?
         .arg(flag_argument(
             alloc,
             "keep-going",
-            "Starts though lines of the map are refused or not committed",
+            "Starts even if lines of the map are refused or not committed",
         ))?
         .arg(queries_argument(alloc))?
         .arg(address_argument(
             alloc,
             "desk",
-            "Where desk lines are taken, from one desk at a time; it may be left out where there is a map",
+            "The address for desk lines, from one desk at a time; with --map you may leave it out",
         ))?
         .arg(address_argument(
             alloc,
             "status",
-            "Where an operator asks how the server is, over HTTP",
+            "The address for health checks and metrics, over HTTP",
         ))?
         .arg(socket_mode_argument(alloc))?
         .arg(workers_argument(alloc))?
@@ -147,37 +149,37 @@ fn serve_command<'a>(alloc: Global) -> Result<Command<'a>, Error> {
         .arg(seconds_argument(
             alloc,
             "idle",
-            "After how many seconds without a byte a query connection is ended: 0 to 86400, 0 for never",
+            "Ends a query connection after this many seconds without a byte: 0 to 86400, 0 for no limit",
             "300",
         ))?
         .arg(seconds_argument(
             alloc,
             "desk-idle",
-            "The same of a desk's connection, which keeps all other desks out",
+            "The same for a desk's connection, which keeps all other desks waiting",
             "0",
         ))?
         .arg(flag_argument(
             alloc,
             "quiet",
-            "Says nothing of connections that end in a fault",
+            "Prints nothing about connections on standard error",
         ))?;
     limited(alloc, command)
 }
 
-/// The limits of the connections of a server that has no number of them.
+/// The limits on connections of a server without a fixed number of them.
 fn limited<'a>(alloc: Global, command: Command<'a>) -> Result<Command<'a>, Error> {
     let line_time = seconds_argument(
         alloc,
         "line-time",
-        "In how many seconds a line must be whole after its first byte, so that nobody keeps room by sending slowly: 0 to 86400, \
-0 for any; not with --connections",
+        "Ends a connection if a line takes more than this many seconds from its first byte to its end: 0 to 86400, 0 \
+for no limit; not with --connections",
         "10",
     );
     let reply_time = seconds_argument(
         alloc,
         "reply-time",
-        "For how many seconds a client may take no byte of its waiting replies, which keep room: 0 to 86400, 0 for ever; not \
-with --connections",
+        "Ends a connection if its client takes none of its waiting replies for this many seconds: 0 to 86400, 0 for \
+no limit; not with --connections",
         "30",
     );
     let command = command
@@ -194,7 +196,7 @@ fn map_argument<'a>(alloc: Global) -> Arg<'a> {
         .value_name("FILE")
         .action(ArgAction::Set)
         .help(
-            "The desk lines that are read before the server listens, however many; - is standard input",
+            "The file of desk lines that the server reads before it listens, of any length; - is standard input",
         )
 }
 
@@ -202,7 +204,7 @@ fn queries_argument<'a>(alloc: Global) -> Arg<'a> {
     address_argument(
         alloc,
         "queries",
-        "Where requests are taken: HOST:PORT, as 127.0.0.1:5222, or unix:PATH",
+        "The address for requests: HOST:PORT, such as 127.0.0.1:5222, or unix:PATH",
     )
     .required(true)
 }
@@ -220,7 +222,7 @@ fn socket_mode_argument<'a>(alloc: Global) -> Arg<'a> {
         .long("socket-mode")
         .value_name("MODE")
         .action(ArgAction::Set)
-        .help("The mode of the files of Unix sockets, in octal digits, as 0660")
+        .help("The file mode of Unix sockets, in octal digits, such as 0660")
         .default_value("0600")
 }
 
@@ -246,7 +248,7 @@ fn connections_argument<'a>(alloc: Global) -> Arg<'a> {
     number_argument(
         alloc,
         "connections",
-        "How many query connections are served before it ends: 1 to 1000000; without it there is no end",
+        "Serves this many query connections and then ends: 1 to 1000000; without it the server does not end",
     )
     .value_parser(value_parser!(u32).range(1..=1_000_000))
 }
@@ -255,7 +257,7 @@ fn most_connections_argument<'a>(alloc: Global) -> Arg<'a> {
     number_argument(
         alloc,
         "most-connections",
-        "How many query connections may be open, since each takes room and a file: 1 to 1000000; not with --connections",
+        "How many query connections may be open at once: 1 to 1000000; not with --connections",
     )
     .value_parser(value_parser!(u32).range(1..=1_000_000))
     .default_value("65536")
@@ -265,7 +267,7 @@ fn per_address_argument<'a>(alloc: Global) -> Arg<'a> {
     number_argument(
         alloc,
         "per-address",
-        "How many of one address may be, so that no client keeps the others out: 0 to 1000000, 0 for any; not with --connections",
+        "How many query connections one address may have open: 0 to 1000000, 0 for no limit; not with --connections",
     )
     .value_parser(value_parser!(u32).range(0..=1_000_000))
     .default_value("1024")
@@ -294,7 +296,7 @@ fn lines_argument<'a>(alloc: Global) -> Arg<'a> {
     number_argument(
         alloc,
         "lines",
-        "How many lines are read at most: 1 to 4294967295",
+        "Reads at most this many lines: 1 to 4294967295",
     )
     .value_parser(value_parser!(u32).range(1..))
     .default_value("1000000")
@@ -307,7 +309,7 @@ fn name_argument<'a>(alloc: Global) -> Arg<'a> {
         .required(true)
         .action(ArgAction::Set)
         .help(
-            "The server's name, as in a path: labels of letters, digits and hyphens, joined by single dots",
+            "The server's name in LoST paths: labels of letters, digits and hyphens, joined by single dots",
         )
 }
 
@@ -317,5 +319,5 @@ fn now_argument<'a>(alloc: Global) -> Arg<'a> {
         .value_name("TIME")
         .required(true)
         .action(ArgAction::Set)
-        .help("The moment of every answer, in UTC, such as 2026-01-01T00:00:00Z")
+        .help("The time that every answer uses, in UTC, such as 2026-01-01T00:00:00Z")
 }

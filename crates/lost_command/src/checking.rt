@@ -1,4 +1,4 @@
-//! `lostd check`: what a replay of standard input would refuse is said on standard output.
+//! `lostd check`: reports on standard output the lines that `replay` would refuse.
 use crate::exit_reason::ExitReason;
 use crate::outcome::check_outcome;
 use crate::progress::Progress;
@@ -10,8 +10,8 @@ use lost_replay::{Counts, ServeError, Turns, Watched};
 use std::io;
 use std::io::Write;
 
-/// Checks standard input, as the arguments say: what is found of each line goes to standard output, and then one line of
-/// counts. Where `is_terminal` says that standard error is one, it is said there how far a long input is.
+/// Checks standard input as the arguments say. What is found goes to standard output line by line, and then one line of
+/// counts. If standard error is a terminal, as `is_terminal` says, the progress of a long input is written there.
 pub(crate) fn check_standard_input<R: Print + Eprint + Input + AllocGlobal>(
     rt: &R,
     given: &ArgMatches<'_>,
@@ -43,7 +43,7 @@ pub(crate) fn check_standard_input<R: Print + Eprint + Input + AllocGlobal>(
     check_outcome(checked, found.is_nothing())
 }
 
-/// Checks standard input, and writes what is said of its lines to `output`.
+/// Checks standard input, and writes the reports on its lines to `output`.
 fn check_to<R: Eprint + Input + AllocGlobal, W: Write + Drop>(
     rt: &R,
     output: W,
@@ -67,7 +67,7 @@ fn check_to<R: Eprint + Input + AllocGlobal, W: Write + Drop>(
     )
 }
 
-/// Prints what was counted and found.
+/// Prints the counts.
 fn say_counts<R: Print>(rt: &R, lines: u64, found: &Findings) -> Result<(), ExitReason> {
     println!(rt;
         "done lines={lines} refused={} badRequest={} internalError={} edition={}",

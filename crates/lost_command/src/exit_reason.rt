@@ -1,4 +1,4 @@
-//! What ends the program early: one line on standard error, and the exit status.
+//! Why the program ends early: one line on standard error, and the exit status.
 ghost use Rattle.std.specs.Prelude.{◌≡◌, ◌≢◌};
 ghost use Rattle.std.specs.IoError.{error_kind};
 ghost use Rattle.std.specs.Process.{exit_status};
@@ -9,13 +9,13 @@ use std::io;
 use std::io::ErrorKind;
 use std::process::ExitCode;
 
-/// The status of a run that could not be begun or ended.
+/// The status of a run that could not begin or end.
 const RUN_FAULT: u8 = 1;
 
 /// The status of a mistake on the command line.
 const COMMAND_LINE: u8 = 2;
 
-/// The status of a check that said something of a line, and of a server whose map has such a line.
+/// The status of a check that reported a line, and of a server whose map has such a line.
 const FOUND: u8 = 3;
 
 /// Why the program ends early (own rule).
@@ -23,36 +23,36 @@ const FOUND: u8 = 3;
 pub enum ExitReason {
     /// The words of the command line could not be read.
     Words,
-    /// The command line has a mistake, which was said already.
+    /// The command line has a mistake, which was reported already.
     CommandLine,
-    /// `--name` is no name of a server.
+    /// `--name` is not a server's name.
     Name,
-    /// `--now` is no time.
+    /// `--now` is not a time.
     Now,
-    /// An address cannot be listened on, which was said already.
+    /// An address cannot be listened on, which was reported already.
     Address,
-    /// Standard input or output ended in a fault, or memory ran out.
+    /// Standard input or output ended in a fault, or memory was refused.
     Run(ServeError),
-    /// The number of workers is not one that a server may have.
+    /// The number of workers is not allowed.
     Workers,
     /// No more connections could be accepted.
     Accept,
-    /// A check found lines that would be refused or not answered, which was said already.
+    /// A check found lines that would be refused or not answered, which was reported already.
     Found,
     /// A server is given neither a desk nor a map.
     NoEdits,
-    /// A map could not be read, which was said already.
+    /// A map could not be read, which was reported already.
     Map,
-    /// Lines of a map were refused or not committed, which was said already.
+    /// Lines of a map were refused or not committed, which was reported already.
     MapRefused,
 }
 
 impl ExitReason {
-    /// Memory ran out.
+    /// Memory was refused.
     pub const MEMORY: ExitReason = ExitReason::Run(ServeError::Memory);
 
-    /// Why the words of the command line could not be read: memory ran out, or it was another error, as where they are not
-    /// UTF-8 (own rule).
+    /// Why the words of the command line could not be read: memory was refused, or there was another error, as when
+    /// they are not UTF-8 (own rule).
     pub fn of_words(error: &io::Error) -> ExitReason
         ensures memory { error_kind error.now ≡ ErrorKind.OutOfMemory → result ≡ ExitReason.Run ServeError.Memory }
         ensures words { error_kind error.now ≢ ErrorKind.OutOfMemory → result ≡ ExitReason.Words }
@@ -63,7 +63,7 @@ impl ExitReason {
         }
     }
 
-    /// What is said of it; nothing where it was said already. Of a bad word it is what stands behind the word (own rule).
+    /// The error text; empty if it was reported already. For a bad word, the text that follows the word (own rule).
     pub fn text(self) -> &'static str {
         match self {
             ExitReason::Words => "the command line could not be read: is it UTF-8?",
@@ -73,27 +73,27 @@ impl ExitReason {
             | ExitReason::Map
             | ExitReason::MapRefused => "",
             ExitReason::Name => {
-                "is not a server name: it must have 1 to 253 characters, in labels of letters, digits and hyphens joined by single dots, as lost.example"
+                "is not a server name: it must have 1 to 253 characters, in labels of letters, digits and hyphens joined by single dots, such as lost.example"
             }
             ExitReason::Now => {
-                "is not a time: it must be written in UTC as 2026-01-01T00:00:00Z, with up to nine digits of a fraction of a second before the Z"
+                "is not a time: it must be in UTC, such as 2026-01-01T00:00:00Z, with at most nine decimals of a second before the Z"
             }
             ExitReason::Run(ServeError::Read) => "standard input could not be read",
             ExitReason::Run(ServeError::Write) => "standard output could not be written",
             ExitReason::Run(ServeError::TurnsSpent) => {
-                "the input is too long: it has more lines than --lines allows, 1,000,000 where that is left out"
+                "the input is too long: it has more lines than --lines allows (1,000,000 by default)"
             }
             ExitReason::Run(ServeError::Memory) => "memory ran out",
             ExitReason::Workers => "there must be 1 to 64 workers",
             ExitReason::Accept => "no more connections could be accepted",
             ExitReason::NoEdits => {
-                "--desk and --map are both left out: a server has its boundaries from one of them at least; see `lostd serve --help`"
+                "--desk and --map are both missing: a server gets its boundaries from a desk, a map or both; see `lostd serve --help`"
             }
         }
     }
 
-    /// The exit status: 1 for a fault of the run, 2 for a mistake on the command line, 3 for what a check found or what is
-    /// wrong with a map (own rule).
+    /// The exit status: 1 for a fault of the run, 2 for a mistake on the command line, 3 for what a check found or a
+    /// fault in a map's lines (own rule).
     pub fn status(self) -> u8
         ensures { result ≡ reason_status self }
     {
@@ -108,8 +108,8 @@ impl ExitReason {
         }
     }
 
-    /// Says it on standard error, and gives the exit status. Where standard error fails too, the status still tells (own
-    /// rule).
+    /// Writes the error text to standard error, and gives the exit status. If standard error fails too, the status
+    /// still tells (own rule).
     pub fn report<R: Eprint>(self, rt: &R) -> ExitCode
         ensures { exit_status result ≡ reason_status self }
     {

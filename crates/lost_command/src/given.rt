@@ -13,8 +13,8 @@ use std::alloc::Global;
 /// The server's name and the moment of every answer (own rule).
 ///
 /// # Errors
-/// [`ExitReason::Name`] where the name is none, also though memory is short; else [`ExitReason::Now`] where the moment is none;
-/// [`ExitReason::MEMORY`] where memory runs out.
+/// [`ExitReason::Name`] if the name is not one, even if memory is short; else [`ExitReason::Now`] if the moment is not
+/// one; [`ExitReason::MEMORY`] if memory is refused.
 pub fn begin(alloc: Global, name: &str, now: &str) -> Result<(Source, Moment), ExitReason>
     ensures accepted { OnOk result (begin_fault name.now now.now ≡ None) }
     ensures name { IfOk result (λ begun. begun.0 ≡ lowered name.now) }
@@ -31,7 +31,7 @@ pub fn begin(alloc: Global, name: &str, now: &str) -> Result<(Source, Moment), E
 /// The server's name (own rule).
 ///
 /// # Errors
-/// [`ExitReason::Name`] exactly where it is none; [`ExitReason::MEMORY`] where memory runs out.
+/// [`ExitReason::Name`] exactly if it is not one; [`ExitReason::MEMORY`] if memory is refused.
 pub fn server_name(alloc: Global, text: &str) -> Result<Source, ExitReason>
     ensures value { IfOk result (λ name. name ≡ lowered text.now) }
     ensures bad { (result ≡ Err ExitReason.Name) ↔ (is_source text.now ≡ false) }

@@ -1,5 +1,5 @@
-//! The command line of `lostd` (own rules): its words are read and judged, `replay` and `check` are run over standard input
-//! and output, and `serve` is ordered. What ends the program early is one line on standard error, and the exit status.
+//! The command line of `lostd` (own rules): its words are read and judged, `replay` and `check` run over standard input
+//! and output, and `serve` is ordered. An early end is one line on standard error, and the exit status.
 #![tactic(auto)]
 
 mod arguments;

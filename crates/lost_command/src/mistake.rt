@@ -1,12 +1,12 @@
-//! What the reader of the command line says: help, the version, and mistakes.
+//! The output of the command line's parser: help, the version, and mistakes.
 use crate::exit_reason::ExitReason;
 use clap::Error;
 use clap::error::ErrorKind as ClapKind;
 use lost_lines::ServeError;
 use std::alloc::{AllocError, Global};
 
-/// Prints what the reader of the command line says, whose first word is `command`: help and the version on standard
-/// output, which end the program well, and a mistake as one line on standard error.
+/// Prints the output of the command line's parser. `command` is the first word. Help and the version go to standard
+/// output and end the program well. A mistake is one line on standard error.
 pub(crate) fn show<R: Print + Eprint>(
     rt: &R,
     alloc: Global,
@@ -25,7 +25,7 @@ pub(crate) fn show<R: Print + Eprint>(
                 return Err(ExitReason::MEMORY);
             };
             let hint = hint_of(command, error.kind(), line.as_str());
-            // Where standard error fails too, the status still tells.
+            // If standard error fails too, the exit status still tells.
             let _said = eprintln!(rt; "lostd: {line}; {hint}");
             Err(ExitReason::CommandLine)
         }
@@ -38,7 +38,7 @@ fn hint_of(command: Option<&str>, kind: ClapKind, line: &str) -> &'static str {
         (ClapKind::MissingSubcommand | ClapKind::InvalidSubcommand, _) => "see `lostd --help`",
         (_, Some("serve")) => "see `lostd serve --help`",
         (ClapKind::UnknownArgument, _) if !line.starts_with("unexpected argument '-") => {
-            "standard input is read: use `< FILE`"
+            "lines come from standard input: use `< FILE`"
         }
         (_, Some("check")) => "see `lostd check --help`",
         _ => "see `lostd replay --help`",

@@ -1,4 +1,4 @@
-//! What the words of the command line say is done.
+//! Does what the command line says.
 use crate::arguments::command;
 use crate::checking::check_standard_input;
 use crate::exit_reason::ExitReason;
@@ -7,11 +7,11 @@ use crate::order::{ServeOrder, order_of};
 use crate::replaying::replay_standard_streams;
 use clap::ArgMatches;
 
-/// Does what the words of the command line say, but for serving connections: what is ordered of that, it gives (own rule).
+/// Does what the command line says. It does not serve connections, but gives the order to serve them (own rule).
 /// `is_terminal` says whether standard error is a terminal.
 ///
 /// # Errors
-/// What ends the program early. It was said on standard error where its text is empty; else the caller says it.
+/// The reason for an early end. If its text is empty, it was reported on standard error; else the caller reports it.
 pub fn obey<'a, R: Print + Eprint + Input + AllocGlobal>(
     rt: &R,
     words: &'a [String],
@@ -33,7 +33,7 @@ pub fn obey<'a, R: Print + Eprint + Input + AllocGlobal>(
     }
 }
 
-/// Does what the first word and the arguments behind it say.
+/// Does what the first word and its arguments say.
 fn obey_first<'a, R: Print + Eprint + Input + AllocGlobal>(
     rt: &R,
     first: &str,

@@ -1,4 +1,4 @@
-//! `lostd serve`: what is ordered of a server.
+//! `lostd serve`: a server's settings.
 use crate::exit_reason::ExitReason;
 use crate::given::server_name;
 use crate::replaying::said_of;
@@ -6,18 +6,18 @@ use clap::ArgMatches;
 use lost_mapping::Source;
 use lost_sockets::mode_of;
 
-/// What is ordered of a server (own rule).
+/// A server's settings (own rule).
 #[derive(Drop)]
 pub struct ServeOrder<'a> {
     /// The server's name.
     pub name: Source,
     /// The file of desk lines that is read before the server listens, as it was given; `-` is standard input.
     pub map: Option<&'a str>,
-    /// Whether the server starts though lines of its map were refused, or are not committed.
+    /// Whether the server starts even if lines of its map were refused or are not committed.
     pub keeps_going: bool,
     /// The address of queries, as it was given.
     pub queries: &'a str,
-    /// The address of the desk, as it was given. Without it there is a map.
+    /// The address of the desk, as it was given. If there is none, there is a map.
     pub desk: Option<&'a str>,
     /// The address of the status, as it was given.
     pub status: Option<&'a str>,
@@ -27,23 +27,23 @@ pub struct ServeOrder<'a> {
     pub workers: u32,
     /// How many query connections are served: 1 to 1,000,000; `None` for all.
     pub connections: Option<u32>,
-    /// After how many seconds without a byte a query connection is ended: 0 to 86,400, 0 for never.
+    /// After how many seconds without a byte a query connection ends: 0 to 86,400, 0 for never.
     pub idle: u32,
-    /// In how many seconds a line must be whole after its first byte: 0 to 86,400, 0 for any.
+    /// How many seconds a line may take from its first byte to its end: 0 to 86,400, 0 for any.
     pub line_time: u32,
     /// For how many seconds a client may take no byte of its waiting replies: 0 to 86,400, 0 for ever.
     pub reply_time: u32,
     /// How many query connections may be open: 1 to 1,000,000.
     pub most_connections: u32,
-    /// How many of one address may be: 0 to 1,000,000, 0 for any.
+    /// How many of one address may be open: 0 to 1,000,000, 0 for any number.
     pub per_address: u32,
-    /// The same of a desk's connection.
+    /// The same as `idle`, for a desk's connection.
     pub desk_idle: u32,
-    /// Whether nothing is said of connections that end in a fault.
+    /// Whether nothing is reported about connections that end in a fault.
     pub is_quiet: bool,
 }
 
-/// What the arguments order. What is wrong with them is said.
+/// The order in the arguments. Mistakes in them are reported.
 pub(crate) fn order_of<'a, R: Eprint + AllocGlobal>(
     rt: &R,
     given: &ArgMatches<'a>,
@@ -77,15 +77,15 @@ pub(crate) fn order_of<'a, R: Eprint + AllocGlobal>(
     })
 }
 
-/// The mode of the files of Unix sockets that the arguments give. What is wrong with it is said.
+/// The mode for the files of Unix sockets in the arguments. A mistake in it is reported.
 fn socket_mode_of<R: Eprint>(rt: &R, given: &ArgMatches<'_>) -> Result<u32, ExitReason> {
     let text = given.get_str("socket-mode").unwrap_or("");
     match mode_of(text) {
         Some(mode) => Ok(mode),
         None => {
-            // Where standard error fails, the status still tells.
+            // If standard error fails, the exit status still tells.
             let _said = eprintln!(rt;
-                "lostd: --socket-mode '{text}' is not a mode: it must be one to four octal digits up to 0777, as 0660"
+                "lostd: --socket-mode '{text}' is not a mode: it must be one to four octal digits up to 0777, such as 0660"
             );
             Err(ExitReason::CommandLine)
         }

@@ -21,10 +21,10 @@ pub fn replay_outcome(replayed: Result<Counts, ServeError>) -> Result<(), ExitRe
     }
 }
 
-/// How the program ends after a check, of which `is_nothing_found` says whether it said nothing of any line (own rule).
+/// How the program ends after a check. `is_nothing_found` says whether it reported no line (own rule).
 ///
 /// # Errors
-/// [`ExitReason::Run`] with the check's fault; [`ExitReason::Found`] where something was said of a line.
+/// [`ExitReason::Run`] with the check's fault; [`ExitReason::Found`] if a line was reported.
 pub fn check_outcome(
     checked: Result<Counts, ServeError>,
     is_nothing_found: bool,
@@ -40,7 +40,7 @@ pub fn check_outcome(
     }
 }
 
-/// Says what went wrong, if anything did, and gives the exit status: 0 where all went well (own rule).
+/// Reports what went wrong, if anything, and gives the exit status: 0 if all went well (own rule).
 pub fn end<R: Eprint>(rt: &R, outcome: Result<(), ExitReason>) -> ExitCode
     ensures { exit_status result ≡ status_of outcome }
 {

@@ -1,11 +1,10 @@
-//! How far a long input is, on standard error.
+//! The progress through a long input, on standard error.
 use lost_lines::Gate;
 
-/// After how many lines it is said how far the input is.
+/// After how many lines the progress is reported.
 const STEP: u64 = 100_000;
 
-/// The gate that lets every line through at once, and says after each 100,000 lines how many were read, where that is
-/// wanted.
+/// The gate that lets every line through at once and, if wanted, reports after each 100,000 lines how many were read.
 #[derive(Clone, Copy)]
 pub(crate) struct Progress<'a, R> {
     pub(crate) rt: &'a R,
@@ -25,7 +24,7 @@ impl<R: Eprint> Gate for Progress<'_, R> {
 
     fn after_reply(&self, line: u64) {
         if self.is_shown && line % STEP == 0 {
-            // Where standard error fails, the check goes on.
+            // If standard error fails, the check goes on.
             let _said = eprintln!(self.rt; "lostd: {line} lines");
         }
     }

@@ -1,4 +1,4 @@
-//! `lostd replay`: standard input is answered on standard output.
+//! `lostd replay`: answers standard input on standard output.
 use crate::exit_reason::ExitReason;
 use crate::given::begin;
 use crate::outcome::replay_outcome;
@@ -7,8 +7,8 @@ use lost_mapping::{Moment, Source};
 use lost_replay::{Summary, Turns, Watched, replay_summed};
 use std::io;
 
-/// Answers standard input on standard output, as the arguments say. Where it is wanted, or where `is_terminal` says that
-/// standard error is one, what was counted is said there at the end.
+/// Answers standard input on standard output as the arguments say. If asked, or if standard error is a terminal, as
+/// `is_terminal` says, the counts are written there at the end.
 pub(crate) fn replay_standard_streams<R: Print + Eprint + Input + AllocGlobal>(
     rt: &R,
     given: &ArgMatches<'_>,
@@ -36,16 +36,16 @@ pub(crate) fn replay_standard_streams<R: Print + Eprint + Input + AllocGlobal>(
     replay_outcome(replayed)
 }
 
-/// Says on standard error what was counted of a replay.
+/// Writes the counts of a replay to standard error.
 fn say_summary<R: Eprint>(rt: &R, lines: u64, summary: Summary) {
-    // Where standard error fails, the status still tells.
+    // If standard error fails, the exit status still tells.
     let _said = eprintln!(rt;
         "lostd: done lines={lines} refused={} edition={}",
         summary.refused, summary.edition
     );
 }
 
-/// The server's name and the moment of every answer that the arguments give. What is wrong with them is said.
+/// The server's name and the moment of every answer in the arguments. Mistakes in them are reported.
 pub(crate) fn begun<R: Eprint + AllocGlobal>(
     rt: &R,
     given: &ArgMatches<'_>,
@@ -58,8 +58,8 @@ pub(crate) fn begun<R: Eprint + AllocGlobal>(
     }
 }
 
-/// How many lines are read at most, as the arguments say, and how many reads are made: 100 for each of them, as
-/// [`Turns::USUAL`] has, and no fewer than that has.
+/// How many lines are read at most, as the arguments say, and how many reads are made: 100 for each line, as in
+/// [`Turns::USUAL`], and no fewer than there.
 pub(crate) fn turns_of(given: &ArgMatches<'_>) -> Turns {
     match given.get_one::<u32>("lines") {
         Some(lines) => Turns {
@@ -70,11 +70,11 @@ pub(crate) fn turns_of(given: &ArgMatches<'_>) -> Turns {
     }
 }
 
-/// Says of a bad name or a bad moment which word it is, and gives the reason of a mistake that was said already; any
-/// other reason is given as it is.
+/// Reports a bad name or a bad moment with its word, and gives the reason of a mistake that was reported already; any
+/// other reason is given unchanged.
 pub(crate) fn said_of<R: Eprint>(rt: &R, reason: ExitReason, name: &str, now: &str) -> ExitReason {
     let text = reason.text();
-    // Where standard error fails, the status still tells.
+    // If standard error fails, the exit status still tells.
     let _said = match reason {
         ExitReason::Name => eprintln!(rt; "lostd: --name '{name}' {text}"),
         ExitReason::Now => eprintln!(rt; "lostd: --now '{now}' {text}"),

@@ -1,4 +1,4 @@
-//! How the lines of a burst are answered. Rules without a section are this profile's own.
+//! Answers the lines of a burst.
 ghost use Rattle.std.specs.Prelude.{◌≡◌, ◌≢◌, List, ℕ, [], ◌∷◌, ◌++◌, All, OnOk, OnErr};
 ghost use Rattle.lost_lines.specs.Cutting.{newline, lines_of};
 ghost use Rattle.lost_worker.specs.Lines.{HasSeenMore};
@@ -12,13 +12,13 @@ use memchr::memrchr;
 use std::alloc::Global;
 use std::mem::replace;
 
-/// The most bytes that are kept of a line: one more than a line may have.
+/// The most bytes kept of one line: one more than a line may have.
 const MOST_KEPT: usize = 1_048_577;
 
-/// The most bytes of a line whose room is kept for the next.
+/// The most bytes of room that stay for the next line.
 const KEPT_ROOM: usize = 65_536;
 
-/// Answers the lines that bytes end behind a line that was begun, and keeps what stands behind them.
+/// Answers the lines that end in `bytes`, the first with its begun part, and keeps the rest.
 pub(crate) fn answer<P: Replier, M: Moments>(
     alloc: Global,
     begun: &mut Vec<u8>,
@@ -46,7 +46,7 @@ pub(crate) fn answer<P: Replier, M: Moments>(
     begin(begun, rest)
 }
 
-/// Answers the line that was begun, where the input has ended in it.
+/// Answers the line that was begun when the input ended.
 pub(crate) fn answer_last<P: Replier, M: Moments>(
     alloc: Global,
     begun: &mut Vec<u8>,
@@ -71,7 +71,7 @@ pub(crate) fn answer_last<P: Replier, M: Moments>(
     answered
 }
 
-/// Answers the lines of bytes behind a line that was begun, whose end is among them.
+/// Answers the lines in these bytes, the first with its begun part.
 fn answer_lines<P: Replier, M: Moments>(
     alloc: Global,
     begun: &mut Vec<u8>,
@@ -137,12 +137,12 @@ fn answer_text<P: Replier, M: Moments>(
     *unsent = output.into_inner();
     match served {
         Ok(_) => Ok(()),
-        // A write fails only where memory is refused, and no burst has as many lines as the turns allow.
+        // A write fails only if memory is refused, and no burst has as many lines as the turns allow.
         Err(_) => Err(ClientFault::Memory),
     }
 }
 
-/// Keeps further bytes of a line that was begun, as far as it can still be within the limit.
+/// Keeps further bytes of a line that was begun, up to the limit of a line.
 fn begin(begun: &mut Vec<u8>, bytes: &[u8]) -> Result<(), ClientFault>
     requires unbroken { All (λ b. b ≢ newline) bytes.now }
     ensures begun { (piece : List ℕ) → IsBegun begun.old.items piece

@@ -1,4 +1,4 @@
-//! A connection that is served as its bytes come. Rules without a section are this profile's own.
+//! A connection that is served as its bytes come.
 ghost use Rattle.std.specs.Prelude.{◌≡◌, ◌<◌, true, List, ℕ, [], Ok, length, IfOk, OnOk, OnErr};
 ghost use Rattle.std.specs.Io.KnownBytes.{Consumes};
 ghost use Rattle.lost_worker.specs.Lines.{HasSeenMore};
@@ -11,10 +11,10 @@ use lost_worker::{Moments, Replier};
 use std::alloc::{AllocError, Global};
 use std::io::{ErrorKind, Read, Write};
 
-/// The most bytes of replies that wait to be taken before no further lines are read.
+/// Once this many bytes of replies wait, no further lines are read.
 const MOST_UNSENT: usize = 1_048_576;
 
-/// How far a connection is after a burst.
+/// The state of a connection after a burst.
 #[derive(Clone, Copy, PartialEq, Eq, Debug)]
 pub enum Progress {
     /// There may be more to read at once.
@@ -32,12 +32,12 @@ pub enum ClientFault {
     Read,
     /// A write failed.
     Write,
-    /// Memory ran out.
+    /// Memory was refused.
     Memory,
 }
 
-/// A connection of a client: what is read and what is written, the line that was begun, and the replies that wait. Neither a
-/// read nor a write of it may wait: each fails with [`ErrorKind::WouldBlock`] where it would.
+/// A client's connection: its input and output, the line that was begun, and the replies that wait. No read or write
+/// may wait: each fails with [`ErrorKind::WouldBlock`] instead.
 #[derive(Drop)]
 pub struct Client<I, O> {
     input: I,
@@ -49,7 +49,7 @@ pub struct Client<I, O> {
 }
 
 impl<I, O> Client<I, O> {
-    /// A connection of which nothing was read yet.
+    /// A connection from which nothing was read yet.
     pub fn new(alloc: Global, input: I, output: O) -> Client<I, O> {
         Client {
             input,
@@ -70,35 +70,35 @@ impl<I, O> Client<I, O> {
         !self.unsent.is_empty()
     }
 
-    /// Whether so many replies wait to be taken that nothing is read.
+    /// Whether so many replies wait that nothing is read.
     pub fn is_held(&self) -> bool {
         self.unsent.len() >= MOST_UNSENT
     }
 
-    /// What is read.
+    /// The input.
     pub fn input(&self) -> &I {
         &self.input
     }
 
-    /// What is read, to be changed.
+    /// The input, to be changed.
     pub fn input_mut(&mut self) -> &mut I {
         &mut self.input
     }
 
-    /// What is written.
+    /// The output.
     pub fn output(&self) -> &O {
         &self.output
     }
 }
 
-/// What a read gave.
+/// The outcome of a read.
 #[derive(Clone, Copy, PartialEq, Eq, Debug)]
 pub(crate) enum Came {
     /// Nothing, for now.
     Nothing,
     /// Nothing, since too many replies wait.
     Held,
-    /// So many bytes, at the front of the chunk.
+    /// This many bytes, at the front of the chunk.
     Bytes(usize),
     /// The end.
     End,
@@ -107,13 +107,13 @@ pub(crate) enum Came {
 impl<I: Read, O: Write> Client<I, O> {
     ghost use Rattle.lost_connections.specs.Client.{connection_of, came_bytes, IsWithin, MayCome, KeepsRest};
 
-    /// Reads once, has `replier` answer the lines that have come to their end, each at the next moment of `moments`, and
-    /// writes as much of the replies as the output takes. Bytes behind the last line's end are kept until the rest of their
+    /// Reads once, has `replier` answer the lines that are complete, each at the next moment of `moments`, and writes
+    /// as much of the replies as the output takes. Bytes behind the last line's end are kept until the rest of their
     /// line comes. While 1,048,576 bytes of replies or more wait, nothing is read.
     ///
     /// # Errors
     ///
-    /// [`ClientFault`]. The connection is to be closed then: a front of the replies is written.
+    /// [`ClientFault`]. The connection must then be closed: a beginning of the replies is written.
     pub fn serve_burst<P: Replier, M: Moments>(
         &mut self,
         alloc: Global,
@@ -124,8 +124,8 @@ impl<I: Read, O: Write> Client<I, O> {
     ) -> Result<Progress, ClientFault>
         requires room { 0 < length chunk.old }
 
-        // Each line that has come is answered once, in order, from a list that begins with those seen before, and its reply
-        // stands behind those that wait.
+        // Each line that has come is answered once, in order, from a list that begins with those seen before, and its
+        // reply stands behind those that wait.
         ensures steady { OnOk result (Steady name.now
             (record { reader = P.reader replier.old; moments = M.coming moments.old })
             (record { reader = P.reader replier.new; moments = M.coming moments.new })
@@ -146,7 +146,7 @@ impl<I: Read, O: Write> Client<I, O> {
         Ok(self.progress(came))
     }
 
-    /// Reads once, and has the lines answered that have come to their end.
+    /// Reads once, and has the complete lines answered.
     fn take_in<P: Replier, M: Moments>(
         &mut self,
         alloc: Global,
@@ -208,7 +208,7 @@ impl<I: Read, O: Write> Client<I, O> {
         }
     }
 
-    /// How far the connection is after this has come.
+    /// The state of the connection after this outcome of a read.
     fn progress(&self, came: Came) -> Progress
         ensures over { result ≡ Progress.Over → (self.now.has_ended ≡ true) × (self.now.unsent ≡ []) }
     {

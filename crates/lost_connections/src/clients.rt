@@ -1,4 +1,4 @@
-//! The connections of one worker. Rules without a section are this profile's own.
+//! The connections of one worker.
 ghost use Rattle.std.specs.Prelude.{◌≡◌, ◌≢◌, ◌<◌, ℕ, None, length};
 ghost use Rattle.slab.specs.Slab.{get};
 ghost use Rattle.lost_worker.specs.Lines.{HasSeenMore};
@@ -10,16 +10,16 @@ use slab::Slab;
 use std::alloc::{AllocError, Global};
 use std::io::{Read, Write};
 
-/// A connection, and what is noted of it.
+/// A connection, and the worker's note on it.
 #[derive(Drop)]
 pub struct Seat<I, O, T> {
     /// The connection.
     pub client: Client<I, O>,
-    /// What is noted of it.
+    /// The worker's note.
     pub note: T,
 }
 
-/// The connections of one worker, each under a key, with what the worker notes of it.
+/// The connections of one worker, each under a key, with the worker's note on it.
 #[derive(Drop)]
 pub struct Clients<I, O, T> {
     seats: Slab<Seat<I, O, T>>,
@@ -43,17 +43,17 @@ impl<I, O, T> Clients<I, O, T> {
         self.seats.is_empty()
     }
 
-    /// More than each key that is in use.
+    /// Greater than each key in use.
     pub fn bound(&self) -> usize {
         self.seats.capacity()
     }
 
-    /// The connection under a key.
+    /// The connection under a key, with its note.
     pub fn get(&self, key: usize) -> Option<&Seat<I, O, T>> {
         self.seats.get(key)
     }
 
-    /// The connection under a key, and what is noted of it.
+    /// The connection under a key, with its note, to be changed.
     pub fn get_mut(&mut self, key: usize) -> Option<&mut Seat<I, O, T>> {
         self.seats.get_mut(key)
     }
@@ -62,11 +62,7 @@ impl<I, O, T> Clients<I, O, T> {
 impl<I: Read + Drop, O: Write + Drop, T: Drop> Clients<I, O, T> {
     ghost use Rattle.lost_connections.specs.Clients.{seats_of, IsServedAt};
 
-    /// Takes a connection, and gives its key.
-    ///
-    /// # Errors
-    ///
-    /// Want of memory. The connection is closed then.
+    /// Takes a connection, and gives its key. If memory is refused, the connection is closed.
     pub fn insert(&mut self, client: Client<I, O>, note: T) -> Result<usize, AllocError> {
         match self.seats.insert(Seat { client, note }) {
             Ok(key) => Ok(key),
@@ -74,12 +70,12 @@ impl<I: Read + Drop, O: Write + Drop, T: Drop> Clients<I, O, T> {
         }
     }
 
-    /// Gives up the connection under a key.
+    /// Takes out the connection under a key.
     pub fn remove(&mut self, key: usize) -> Option<Seat<I, O, T>> {
         self.seats.try_remove(key)
     }
 
-    /// Serves a burst of the connection under a key by [`Client::serve_burst`], and leaves all others as they are.
+    /// Serves a burst of the connection under a key by [`Client::serve_burst`], and leaves all others unchanged.
     ///
     /// # Errors
     ///

@@ -1,4 +1,4 @@
-//! What the bursts of a connection come to. Rules without a section are this profile's own.
+//! What all bursts of a connection amount to.
 ghost use Rattle.lost_connections.specs.Laws.{BurstIsStream, BurstsAreStream};
 
 /// One burst of a connection is a stream of lines and replies.
@@ -6,9 +6,9 @@ pub fn law_burst_is_stream()
     ensures { BurstIsStream }
 {}
 
-/// Bursts of a connection, one after another, are one stream: its lines are those of all bytes that came, cut wherever they
-/// came apart; each has its reply, in order, from a list that begins with the lists of all replies before it, whatever other
-/// connections its worker served in between; and what was written is a front of the replies.
+/// Bursts of a connection, one after another, are one stream. Its lines are those of all bytes that came, wherever the
+/// bursts cut them. Each line has its reply, in order, from a list that begins with the lists of all replies before it,
+/// whatever other connections its worker served in between. A beginning of the replies was written.
 pub fn law_bursts_are_stream()
     ensures { BurstsAreStream }
 {}

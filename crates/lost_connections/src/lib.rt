@@ -1,4 +1,4 @@
-//! Many connections of one worker (own rules): each is served in bursts, as its bytes come, and none is waited for.
+//! Many connections of one worker (own rules): each is served in bursts, as its bytes come, and no worker waits.
 #![tactic(auto)]
 
 mod answering;

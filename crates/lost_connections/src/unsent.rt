@@ -1,4 +1,4 @@
-//! The replies of a connection that its output did not take yet. Rules without a section are this profile's own.
+//! The replies that a connection's output did not take yet.
 ghost use Rattle.std.specs.Prelude.{◌≡◌, ◌≤◌, ◌==◌, [], Some, length, take, IfOk, OnErr};
 ghost use Rattle.std.specs.Io.{WritesAtMost};
 ghost use Rattle.std.specs.Io.KnownBytes.{Appends, Keeps, WriteAppends};
@@ -9,7 +9,7 @@ use std::io;
 use std::io::{ErrorKind, Write};
 use std::marker::Model;
 
-/// The most bytes whose room is kept once all are taken.
+/// The most bytes of room that stay once all are taken.
 const KEPT_ROOM: usize = 65_536;
 
 /// Replies that an output did not take yet, in order. Contracts see them as the bytes that are left.
@@ -55,8 +55,8 @@ impl Unsent {
         self.len() == 0
     }
 
-    /// Writes what is left, as much of it as the output takes at once. Says whether no write failed: one that would wait did
-    /// not, and one that took nothing did. What was taken before is taken.
+    /// Writes as much of what is left as the output takes at once. Says whether no write failed: one that would wait
+    /// did not fail, and one that took nothing did. What was taken before a failure is taken.
     pub fn send<O: Write>(&mut self, alloc: Global, output: &mut O) -> bool
         ensures sent { Sent (O.contents output.old) (O.contents output.new) self.old self.new }
     {
@@ -66,7 +66,7 @@ impl Unsent {
         is_well
     }
 
-    /// Gives back the room of what was taken, where that is at least as much as what is left.
+    /// Frees the room of the taken bytes, if they are at least as many as those left.
     fn close_up(&mut self, alloc: Global)
         ensures { self.new ≡ self.old }
     {
@@ -86,7 +86,7 @@ impl Unsent {
     }
 }
 
-/// Writes as much of the bytes as the output takes at once. Gives the others, and whether no write failed.
+/// Writes as many of the bytes as the output takes at once. Gives the others, and whether no write failed.
 fn write_some<'b, O: Write>(output: &mut O, bytes: &'b [u8]) -> (&'b [u8], bool)
     ensures sent { Sent (O.contents output.old) (O.contents output.new) bytes.now result.0.now }
 {
@@ -103,7 +103,7 @@ fn write_some<'b, O: Write>(output: &mut O, bytes: &'b [u8]) -> (&'b [u8], bool)
     (rest, true)
 }
 
-/// Writes some of the bytes, and gives how many; none where the output would wait.
+/// Writes some of the bytes, and gives how many; 0 if the output would wait.
 fn write_once<O: Write>(output: &mut O, bytes: &[u8]) -> io::Result<usize>
     ensures within { IfOk result (λ count. count ≤ length bytes.now) }
     ensures taken { IfOk result (λ count. Appends (O.contents output.old) (O.contents output.new) (take count bytes.now)) }

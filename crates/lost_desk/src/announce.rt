@@ -1,4 +1,4 @@
-//! How the history grows to all edits of a desk before they are published.
+//! The history grows to all edits of a desk before they are published.
 ghost use Rattle.std.specs.Prelude.{◌≡◌, length, MatchBool};
 ghost use Rattle.lost_spec.specs.Laws.{BeginsWith};
 ghost use Rattle.lost_history.specs.History.{beginning};
@@ -9,8 +9,8 @@ use lost_book::Edit;
 use lost_history::{Aim, Front, Head};
 use std::collections::VecDeque;
 
-/// Makes the history all edits of a desk, which its front begins, and says whether it did. It takes no memory. The copies
-/// and the queue are handed in for the proof alone: they say which edits those are.
+/// Extends the history from its front to all edits of a desk, and says whether it did. It takes no memory. The copies
+/// and the queue serve the proof alone: they say which edits those are.
 pub(crate) fn announce<A: Aim>(
     front: &mut Front,
     head: &Head,

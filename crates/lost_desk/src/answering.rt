@@ -1,4 +1,4 @@
-//! The reply to a line over a book. A request is read by its tokens where its shape is common.
+//! The reply to a line over a book. A request of a common shape is read by its tokens.
 ghost use Rattle.std.specs.Prelude.{◌≡◌, Some, IfOk};
 ghost use Rattle.lost_json.specs.Line.{line_reply};
 ghost use Rattle.lost_spec.specs.Text.{Text};
@@ -18,7 +18,7 @@ use lost_tape::{Scratch, read_request};
 use std::alloc::{AllocError, Global};
 
 /// The reply to a line over these holdings by the server of this name at an instant, as [`lost_json::reply_line`] gives
-/// it, or want of memory. What `scratch` holds is kept from line to line, and is nothing of them.
+/// it. `scratch` is kept from line to line, but holds nothing of the lines.
 #[tactic(auto, unfolding(lost_json::specs::Line::line_reply))]
 pub(crate) fn reply_over<H: Holdings>(
     alloc: Global,
@@ -37,8 +37,8 @@ pub(crate) fn reply_over<H: Holdings>(
     }
 }
 
-/// The reply to a line over this book, as [`reply_over`] gives it, or want of memory. Where the request is answered at a
-/// place, its set is looked for among those that are kept, and is kept where it was not found.
+/// The reply to a line over this book, as [`reply_over`] gives it. If the request is answered at a place, the place's
+/// set is taken from `sets`, or made and kept there if wanted.
 #[tactic(auto, unfolding(lost_json::specs::Line::line_reply))]
 pub(crate) fn reply_over_sets<S: PlaceSets>(
     alloc: Global,
@@ -60,8 +60,8 @@ pub(crate) fn reply_over_sets<S: PlaceSets>(
     }
 }
 
-/// The reply to a request over this book, or want of memory. Where it is answered at a place, its set is looked for among
-/// those that are kept, and is kept where it was not found.
+/// The reply to a request over this book. If it is answered at a place, the place's set is taken from `sets`, or made
+/// and kept there if wanted.
 fn answer_request<S: PlaceSets>(
     alloc: Global,
     sets: &mut S,
@@ -81,8 +81,8 @@ fn answer_request<S: PlaceSets>(
     }
 }
 
-/// The reply to a request that is answered at this place, or want of memory. The place's set is looked for among those
-/// that are kept, and is kept where it was not found and is wanted.
+/// The reply to a request that is answered at this place. The place's set is taken from `sets`, or made and kept there
+/// if it is wanted.
 fn answer_at_place<S: PlaceSets>(
     alloc: Global,
     sets: &mut S,
@@ -110,7 +110,7 @@ fn answer_at_place<S: PlaceSets>(
     Ok(reply)
 }
 
-/// The reply to a request over this book, or want of memory. What holds this place is known.
+/// The reply to a request over this book, given the set of this place.
 fn answer_from_set(
     alloc: Global,
     book: &Routing,

@@ -1,4 +1,4 @@
-//! The two copies, as the desk holds them.
+//! The desk's two copies of the book.
 ghost use Rattle.std.specs.Prelude.{◌≡◌, drop, MatchResult};
 ghost use Rattle.lost_desk.specs.declared.version.Operation.TheVariants.{Mark};
 ghost use Rattle.lost_desk.specs.States.{MayFollow, next_of, with_published, with_waiting};
@@ -12,10 +12,10 @@ use std::alloc::AllocError;
 use std::marker::Model;
 use std::sync::Wait;
 
-/// What publishes.
+/// The writer that publishes.
 pub(crate) type CopyWriter = Writer<Version, Operation, View, OneList>;
 
-/// The two copies. Contracts see the copy that is published, and the operations that it lacks. It is not `Drop`: end it
+/// The two copies. Contracts see the published copy, and the operations that it lacks. The type is not `Drop`: end it
 /// by `close`.
 pub struct Copies {
     writer: Option<CopyWriter>,
@@ -43,7 +43,7 @@ impl Copies {
         }
     }
 
-    /// The copy that is published.
+    /// The published copy.
     pub(crate) fn shown(&self) -> &Version
         ensures { result.now ≡ self.now.shown }
     {
@@ -53,7 +53,7 @@ impl Copies {
         }
     }
 
-    /// Has the copies take in one more operation at the next publication. It comes back for want of memory.
+    /// Has the copies take in one more operation at the next publication. If memory is refused, it is given back.
     pub(crate) fn append(&mut self, operation: Operation) -> Result<(), Operation>
         ensures { MatchResult result
             (λ _. self.new ≡ with_waiting self.old operation)
@@ -65,7 +65,7 @@ impl Copies {
         }
     }
 
-    /// Marks the end of a publication: whose book the copies are once they took in all that waits.
+    /// Ends a publication with the list of all its edits. If memory is refused, nothing changes.
     pub(crate) fn mark(&mut self, front: Front) -> Result<(), AllocError>
         ensures { MatchResult result (λ _. self.new ≡ with_waiting self.old (Mark front)) (λ _. self.new ≡ self.old) }
     {
@@ -75,7 +75,7 @@ impl Copies {
         }
     }
 
-    /// Publishes all that waits, or nothing for want of memory. It waits for readers that still read the other copy.
+    /// Publishes all that waits. If memory is refused, nothing changes. It waits for readers of the other copy.
     pub(crate) fn publish<R: Wait>(&mut self, rt: &R) -> Result<(), AllocError>
         requires { MayFollow self.old.shown (next_of self.old) }
         ensures { MatchResult result (λ _. self.new ≡ with_published self.old) (λ _. self.new ≡ self.old) }
@@ -92,7 +92,7 @@ impl Copies {
         }
     }
 
-    /// Ends the copies. What waits is dropped.
+    /// Ends the copies. Operations that wait are dropped.
     pub(crate) fn close<R: Wait>(self, rt: &R) {
         let Copies { writer } = self;
         match writer {

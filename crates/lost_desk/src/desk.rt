@@ -21,11 +21,11 @@ use std::collections::VecDeque;
 use std::marker::{Brand, Model};
 use std::sync::Wait;
 
-/// The one publisher. Contracts see its opening and limits, the list of edits that is published, and the edits that are
-/// pending. It is not `Drop`: end it by `close`.
+/// The one publisher. Contracts see its opening and limits, the list of published edits, and the pending edits. The
+/// type is not `Drop`: end it by `close`.
 pub struct Desk {
     copies: Copies,
-    /// Edits that the copies do not have yet, behind those that they have.
+    /// Edits that the copies do not have yet, in order.
     queue: VecDeque<Edit>,
     /// The book of all edits, published and pending.
     ahead: Routing,
@@ -47,12 +47,12 @@ impl Model for Desk {
 
 impl Desk {
     #[tactic(auto, using(crate::proofs::DeskLemmas::staged_is))]
-    /// Stages an edit behind the others that are pending, and gives how many are pending then. It is checked against the
-    /// book of all edits, published and pending.
+    /// Stages an edit behind the other pending ones, and gives the number of pending edits. The edit is checked against
+    /// the book of all edits, published and pending.
     ///
     /// # Errors
     ///
-    /// The refusal of that book, and after it [`EditError::Memory`] for want of memory. The desk is then unchanged.
+    /// That book's refusal and, after it, [`EditError::Memory`]. The desk is then unchanged.
     pub fn stage(&mut self, edit: Edit) -> Result<u64, EditError>
         ensures accepted { OnOk result (refusal (staged_book self.old) (edit_of edit) ≡ None) }
         ensures staged { OnOk result (self.new ≡ with_staged self.old (edit_of edit)) }
@@ -74,12 +74,12 @@ impl Desk {
         Ok(self.ahead.edition() - self.copies.shown().front.len())
     }
 
-    /// Publishes all pending edits at once, and gives the edition: how many edits are published. With nothing pending it
-    /// gives the edition again and takes no memory. It waits for readers that still read the copy before the last.
+    /// Publishes all pending edits at once, and gives the edition: the number of published edits. With nothing
+    /// pending it takes no memory. It waits for readers that still read the copy before the last.
     ///
     /// # Errors
     ///
-    /// [`CommitError::Memory`] for want of memory. Nothing is then published, and all stays pending.
+    /// [`CommitError::Memory`]: nothing is published, and all edits stay pending.
     pub fn commit<R: Wait>(&mut self, rt: &R) -> Result<u64, CommitError>
         ensures committed { OnOk result (self.new ≡ with_committed self.old) }
         ensures edition { IfOk result (λ edition. edition ≡ length self.new.published) }
@@ -103,12 +103,12 @@ impl Desk {
         Ok(edition)
     }
 
-    /// Drops the edits that are pending, as where a desk's connection has ended. What is published stays. With nothing
-    /// pending it takes no memory.
+    /// Drops the pending edits, as when a desk's connection has ended. Published edits stay. If nothing is pending, it
+    /// takes no memory.
     ///
     /// # Errors
     ///
-    /// Want of memory: nothing is dropped then. After a commit that was refused it comes until a commit is done, since
+    /// If memory is refused, nothing is dropped. After a refused commit this fails until a commit succeeds, since
     /// readers may have been promised these edits.
     pub fn drop_pending(&mut self) -> Result<(), AllocError>
         ensures dropped { OnOk result (self.new ≡ with_none_pending self.old) }
@@ -130,7 +130,7 @@ impl Desk {
         Ok(())
     }
 
-    /// How many edits are published.
+    /// The number of published edits.
     pub fn edition(&self) -> u64
         ensures { result ≡ length self.now.published }
     {
@@ -161,8 +161,8 @@ impl Desk {
         }
     }
 
-    /// Whether all that was told is published, as all that this desk told is. What was told begins then what is published.
-    /// Both are of one opening.
+    /// Whether the told list is published in full, as every list that this desk told is. The told list is then the
+    /// beginning of the published one. Both are of one opening.
     pub fn has_published(&self, told: &Told) -> bool
         requires { told.now.opening ≡ self.now.opening }
         ensures begins { MatchBool result
@@ -172,8 +172,8 @@ impl Desk {
         self.copies.shown().front.has(&told.front)
     }
 
-    /// Whether all that a reader has seen is published, as all that a reader of this desk has seen is. What it has seen
-    /// begins then what is published. Both are of one opening.
+    /// Whether all that a reader has seen is published, as for each reader of this desk. The seen list is then the
+    /// beginning of the published one. Both are of one opening.
     pub fn has_seen(&self, reader: &Reader) -> bool
         requires { reader.now.opening ≡ self.now.opening }
         ensures begins { MatchBool result
@@ -183,8 +183,8 @@ impl Desk {
         self.copies.shown().front.has(&reader.latest)
     }
 
-    /// Ends the desk, and drops what is pending. Readers answer want of memory from then on. It waits for readers that
-    /// still read.
+    /// Ends the desk, and drops the pending edits. From then on readers answer [`AllocError`]. It waits for readers
+    /// that still read.
     pub fn close<R: Wait>(self, rt: &R) {
         let Desk {
             copies,

@@ -1,5 +1,5 @@
-//! The desk and its readers: one publisher stages edits and commits them, and readers answer from the copy that was
-//! committed, in threads of their own and without a lock. Rules without a section are this profile's own.
+//! The desk and its readers: one publisher stages edits and commits them. Readers answer from the committed copy, in
+//! threads of their own and without a lock.
 #![tactic(auto)]
 
 mod announce;
@@ -19,8 +19,6 @@ mod told;
 mod version;
 mod view;
 mod with_holders;
-
-/// The book in each copy.
 
 pub use desk::Desk;
 pub use faults::{CommitError, OpenError};

@@ -8,8 +8,8 @@ use lost_query::Positions;
 use lost_routing::Routing;
 use std::alloc::{AllocError, Global};
 
-/// Those of the positions whose mappings are live and are no defaults, in their order, or want of memory. The positions
-/// are below the book's `len`; up to eight of them take no memory.
+/// The positions whose mappings are live and no defaults, in their order. The positions are below the book's `len`; up
+/// to eight of them take no memory.
 pub(crate) fn living_among(
     alloc: Global,
     book: &Routing,

@@ -1,4 +1,4 @@
-//! How a desk is opened with its readers.
+//! Opening a desk with its readers.
 ghost use Rattle.std.specs.Prelude.{◌≡◌, ◌≤◌, ◌<◌, ◌⊎◌, [], drop, IfOk};
 ghost use Rattle.left_right.specs.Sides.{view};
 ghost use Rattle.lost_desk.specs.Seen.{new_desk, new_reader};
@@ -21,15 +21,15 @@ use std::collections::VecDeque;
 use std::snapshot::Snapshot;
 use std::sync::Wait;
 
-/// The most readers that a desk may have.
+/// The most readers of a desk.
 const MAX_WORKERS: u32 = 64;
 
-/// Opens a desk with no edits within these limits, and so many readers, 1 to 64. It may wait where a reader's place is
-/// refused.
+/// Opens a desk with no edits, within these limits, and with `workers` readers, 1 to 64. It may wait if a reader's
+/// place is refused.
 ///
 /// # Errors
 ///
-/// [`OpenError::Workers`] unless there are 1 to 64 workers; [`OpenError::Memory`] for want of memory.
+/// [`OpenError::Workers`] unless `workers` is 1 to 64; after it [`OpenError::Memory`].
 pub fn open_desk<R: Wait>(
     rt: &R,
     alloc: Global,
@@ -53,7 +53,7 @@ pub fn open_desk<R: Wait>(
     Ok((desk, readers))
 }
 
-/// Two copies of an empty book, and so many readers of them.
+/// Two copies of an empty book, and their `workers` readers.
 fn open_copies<R: Wait>(
     rt: &R,
     alloc: Global,
@@ -76,7 +76,7 @@ fn open_copies<R: Wait>(
 }
 
 #[tactic(auto, using(crate::proofs::StepLemmas::opens_first, crate::proofs::StepLemmas::opening_names))]
-/// The writer of two copies of an empty book, whose seat knows their limits and opening.
+/// The writer of two copies of an empty book. Its seat knows the copies' limits and opening.
 fn open_writer<R: Wait>(
     rt: &R,
     alloc: Global,
@@ -112,7 +112,7 @@ fn open_version(alloc: Global, limits: Limits, front: &Front) -> Result<Version,
 }
 
 #[tactic(auto, using(crate::proofs::ListLemmas::replicate_push))]
-/// So many readers, which have seen nothing.
+/// This many readers, which have seen nothing.
 fn make_readers(alloc: Global, writer: &mut CopyWriter, workers: u32) -> Result<Readers, AllocError>
     requires { (0 < workers) × IsNewWriter (writer.old.desk.shown.value) (view writer.old.desk.place) }
     ensures kept { (writer.new.desk.shown ≡ writer.old.desk.shown) × (drop writer.new.behind writer.new.log.items ≡ drop writer.old.behind writer.old.log.items) }

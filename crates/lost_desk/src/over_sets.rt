@@ -1,4 +1,4 @@
-//! A reader that answers over what is kept of places.
+//! A reader that answers over kept sets of places.
 ghost use Rattle.std.specs.Prelude.{◌≡◌, ◌+◌, IsTrue, IfOk, OnOk};
 ghost use Rattle.lost_spec.specs.Laws.{BeginsWith};
 ghost use Rattle.lost_spec.specs.Book.{is_accepted};
@@ -19,14 +19,14 @@ use std::alloc::{AllocError, Global};
 
 impl Reader {
     #[tactic(auto, using(crate::proofs::StepLemmas::enters))]
-    /// Answers a line as [`Reader::reply_line`] does. Where the request is answered at a place, it looks for the place's set
-    /// among those that `sets` keeps, and hands it the set where it had none. Each entry that is kept is right for the
-    /// list that the reader has seen: the edition is no longer than the list, and the set is that of the book of its first
-    /// so many edits. Afterwards each is right for the list that the reader has then seen.
+    /// Answers a line as [`Reader::reply_line`] does. If the request is answered at a place, the place's set is taken
+    /// from `sets`, or made and handed to `sets` if it is wanted. Each kept entry is right for the list that the reader
+    /// has seen: its edition is no longer than the list, and its set is that of the book of the list's first edits, as
+    /// many as the edition. Afterwards each is right for the list that the reader has then seen.
     ///
     /// # Errors
     ///
-    /// Want of memory, also after the desk was closed. The reader may then have entered once and seen a longer list.
+    /// If memory is refused or the desk is closed. The reader may then have entered once and seen a longer list.
     pub fn reply_line_over<S: PlaceSets>(
         &mut self,
         alloc: Global,
@@ -72,8 +72,8 @@ impl Reader {
 }
 
 #[tactic(auto, using(crate::proofs::ListLemmas::begins_whole))]
-/// Answers a line from a copy over what is kept of places, once its list is the longest of those that were seen or told.
-/// What is kept is right for the longest list, before and afterwards.
+/// Answers a line from a copy over kept sets of places, if the copy's list is the longest that the reader has seen or
+/// was told. Kept sets are right for the longest list, before and afterwards.
 fn reply_from_over<S: PlaceSets>(
     alloc: Global,
     sets: &mut S,

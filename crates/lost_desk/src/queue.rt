@@ -1,4 +1,4 @@
-//! How the queue of edits goes into the copies and is published with them.
+//! The queue of edits goes into the copies and is published with them.
 ghost use Rattle.std.specs.Prelude.{◌≡◌, ◌+◌, ◌<◌, [], length, MatchResult, OnOk};
 ghost use Rattle.lost_desk.specs.Copies.{edits_in};
 ghost use Rattle.lost_desk.specs.States.{IsReady, pending_of, published_version};
@@ -11,7 +11,7 @@ use std::alloc::AllocError;
 use std::collections::VecDeque;
 use std::sync::Wait;
 
-/// Publishes all that waits in the copies and in the queue, or nothing for want of memory. The front has all edits.
+/// Publishes the edits in the copies and the queue. The front has all edits. If memory is refused, all of them wait.
 pub(crate) fn publish_all<R: Wait>(
     rt: &R,
     copies: &mut Copies,
@@ -27,7 +27,7 @@ pub(crate) fn publish_all<R: Wait>(
     publish_logged(rt, copies, front)
 }
 
-/// Publishes all that waits in the copies, or nothing for want of memory.
+/// Publishes all that waits in the copies. If memory is refused, nothing is published and the edits still wait.
 fn publish_logged<R: Wait>(rt: &R, copies: &mut Copies, front: &Front) -> Result<(), AllocError>
     requires { IsReady copies.old [] front.now }
     ensures { MatchResult result
@@ -40,7 +40,7 @@ fn publish_logged<R: Wait>(rt: &R, copies: &mut Copies, front: &Front) -> Result
     copies.publish(rt)
 }
 
-/// Has the copies take in the whole queue at the next publication. What they cannot take for want of memory stays queued.
+/// Has the copies take in the whole queue at the next publication. If memory is refused, the rest stays queued.
 pub(crate) fn log_all(copies: &mut Copies, queue: &mut VecDeque<Edit>) -> Result<(), AllocError>
     ensures shown { copies.new.shown ≡ copies.old.shown }
     ensures pending { pending_of copies.new queue.new.items ≡ pending_of copies.old queue.old.items }
@@ -52,7 +52,7 @@ pub(crate) fn log_all(copies: &mut Copies, queue: &mut VecDeque<Edit>) -> Result
     Ok(())
 }
 
-/// Has the copies take in the first edit of the queue.
+/// Has the copies take in the first edit of the queue. If memory is refused, it stays queued.
 fn log_first(copies: &mut Copies, queue: &mut VecDeque<Edit>) -> Result<(), AllocError>
     ensures shown { copies.new.shown ≡ copies.old.shown }
     ensures pending { pending_of copies.new queue.new.items ≡ pending_of copies.old queue.old.items }

@@ -1,4 +1,4 @@
-//! A reader, which answers from the copy that was published last.
+//! A reader, which answers from the copy published last.
 ghost use Rattle.std.specs.Prelude.{◌≡◌, ◌+◌, Some, IsTrue, length, IfOk, OnOk};
 ghost use Rattle.lost_spec.specs.Laws.{BeginsWith};
 ghost use Rattle.lost_spec.specs.Book.{is_accepted};
@@ -22,13 +22,13 @@ use std::marker::Model;
 /// A seat at the copies.
 pub(crate) type Seat = left_right::reader::Reader<Version, View, OneList>;
 
-/// A reader. Contracts see its opening and limits, the list of edits that it has seen or was told of, that of the copy
-/// that it entered last, and how often it entered the copies.
+/// A reader. Contracts see its opening and limits, the list of edits that it has seen or was told, the list of the copy
+/// that it entered last, and how often it entered.
 #[derive(Drop)]
 pub struct Reader {
     pub(crate) seat: Option<Seat>,
     pub(crate) latest: Front,
-    /// What the reader of lines works in. It holds nothing of them.
+    /// Working memory of the request parser. It holds nothing of the lines.
     pub(crate) scratch: Box<Scratch>,
 }
 
@@ -45,7 +45,7 @@ impl Model for Reader {
 }
 
 impl Reader {
-    /// The reader with this seat, which knows the copies and has seen nothing.
+    /// The reader with this seat. It knows the copies and has seen nothing.
     pub(crate) fn of(seat: Seat, latest: Front, scratch: Box<Scratch>) -> Reader
         requires { IsSeated (view seat.place) latest }
         ensures { result ≡ reader_seen (λ w. w) (Some (view seat.place)) latest }
@@ -58,12 +58,12 @@ impl Reader {
     }
 
     #[tactic(auto, using(crate::proofs::StepLemmas::enters))]
-    /// Answers a line from the copy that is published when it enters: reads the request, answers it by the server of
+    /// Answers a line from the copy that is published when it enters: reads the request, answers it as the server of
     /// this name at an instant, and writes the reply's line. It waits for nobody.
     ///
     /// # Errors
     ///
-    /// Want of memory, also after the desk was closed. The reader may then have entered once and seen a longer list.
+    /// If memory is refused or the desk is closed. The reader may then have entered once and seen a longer list.
     pub fn reply_line(
         &mut self,
         alloc: Global,
@@ -114,7 +114,7 @@ impl Reader {
         self.latest.learn(&told.front);
     }
 
-    /// How many edits the list has that the reader has seen or was told of.
+    /// The number of edits that the reader has seen or was told.
     pub fn edition(&self) -> u64
         ensures { result ≡ length self.now.seen }
     {
@@ -123,7 +123,7 @@ impl Reader {
 }
 
 #[tactic(auto, using(crate::proofs::ListLemmas::begins_whole))]
-/// Answers a line from a copy, once its list is the longest of those that were seen or told.
+/// Answers a line from a copy, if the copy's list is the longest that the reader has seen or was told.
 fn reply_from(
     alloc: Global,
     version: &Version,

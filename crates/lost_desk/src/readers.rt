@@ -5,7 +5,7 @@ use crate::reader::Reader;
 use std::marker::Model;
 use std::snapshot::Snapshot;
 
-/// The readers that nobody has taken. Contracts see how many are left, and what each of them is.
+/// The readers that nobody has taken. Contracts see how many are left, and what each one is.
 #[derive(Drop)]
 pub struct Readers {
     readers: Vec<Reader>,
@@ -33,7 +33,7 @@ impl Readers {
         Readers { readers, each }
     }
 
-    /// A reader that nobody has taken, or `None` where all were.
+    /// A reader that nobody has taken; `None` if all were taken.
     pub fn take(&mut self) -> Option<Reader>
         ensures { MatchOption result
             ((self.old.left ≡ 0) × (self.new ≡ self.old))

@@ -1,10 +1,10 @@
-//! What a desk tells a reader.
+//! A list that a desk tells a reader.
 ghost use Rattle.std.specs.Prelude.{◌≡◌, length};
 
 use lost_history::Front;
 use std::marker::Model;
 
-/// The list that was published when the desk told it. Contracts see it as its opening and the list.
+/// The list that was published when the desk told it. Contracts see its opening and the list.
 #[derive(Drop)]
 pub struct Told {
     pub(crate) front: Front,
@@ -19,7 +19,7 @@ impl Model for Told {
 }
 
 impl Told {
-    /// How many edits the list has.
+    /// The number of edits in the list.
     pub fn edition(&self) -> u64
         ensures { result ≡ length self.now.list }
     {

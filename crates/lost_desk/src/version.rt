@@ -1,4 +1,4 @@
-//! A copy of what is held, and how it takes in what is published.
+//! A copy of the book, and how it takes in what is published.
 
 use left_right::Absorb;
 use lost_book::Edit;
@@ -13,7 +13,7 @@ pub struct Version {
     pub(crate) front: Front,
 }
 
-/// What both copies take in, in turn.
+/// An operation, which both copies take in, in turn.
 #[derive(Drop)]
 pub enum Operation {
     /// An edit.

@@ -1,4 +1,4 @@
-//! A book beside the set of one place.
+//! A book with the set of one place.
 ghost use Rattle.std.specs.Prelude.{◌≡◌, ◌<◌, IfOk, length, filter};
 ghost use Rattle.std.specs.List.{All};
 ghost use Rattle.std.specs.Option.{option_copied};
@@ -13,8 +13,8 @@ use lost_routing::Routing;
 use lost_urn::ServiceUrn;
 use std::alloc::{AllocError, Global};
 
-/// A book beside the set of one place. It answers what is held at that place from the set, and asks the book everything
-/// else.
+/// A book with the set of one place. It answers which mappings hold that place from the set, and asks the book
+/// everything else.
 #[derive(Drop)]
 pub(crate) struct WithHolders<'a> {
     pub(crate) alloc: Global,

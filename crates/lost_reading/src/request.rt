@@ -21,7 +21,7 @@ use thiserror::Error;
 #[derive(Clone, Copy, PartialEq, Eq, Debug, Error)]
 pub enum ReadError {
     /// The line is no request.
-    #[error("the line is no request")]
+    #[error("the line is not a request")]
     BadRequest,
     /// Memory ran out.
     #[error("memory ran out")]

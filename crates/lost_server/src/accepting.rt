@@ -1,4 +1,4 @@
-//! How connections are accepted until a server is over. Rules without a section are this profile's own.
+//! Accepting connections until a server is over.
 use lost_sockets::{Listener, Peer, Stream};
 use std::io::ErrorKind;
 use std::sync::Wait;
@@ -6,7 +6,7 @@ use std::sync::atomic::{AtomicBool, Ordering};
 use std::thread::sleep;
 use std::time::{Clock, Duration};
 
-/// How long to wait where no connection is there, in milliseconds.
+/// How long to wait when there is no connection, in milliseconds.
 const PAUSE: u64 = 20;
 
 /// Waits for the next connection, or until `is_over` is set. A listener that fails is asked again after a pause.

@@ -1,4 +1,4 @@
-//! How many connections there may be, in all and of one address. Rules without a section are this profile's own.
+//! The limits on the number of connections, in all and from one address.
 ghost use Rattle.std.specs.Prelude.{◌≡◌, ◌+◌, ◌-◌, ◌<◌, ◌≤◌, true, if◌then◌else◌};
 
 use std::alloc::Global;
@@ -6,7 +6,7 @@ use std::collections::HashMap;
 use std::hash::RandomState;
 use std::net::IpAddr;
 
-/// A number of connections, and the most that it may be.
+/// A number of connections, and its limit.
 #[derive(Drop)]
 pub(crate) struct Tally {
     count: u32,
@@ -17,7 +17,7 @@ pub(crate) struct Tally {
 impl Tally {
     ghost use Rattle.lost_server.specs.Admission.{count_of, most_of};
 
-    /// No connection, of so many at most.
+    /// No connections, with a limit of `most`.
     pub(crate) fn new(most: u32) -> Tally
         ensures count { count_of result ≡ 0 }
         ensures most { most_of result ≡ most }
@@ -30,7 +30,7 @@ impl Tally {
         self.count == 0
     }
 
-    /// Counts one more, unless there are as many as there may be. Says whether it was counted.
+    /// Counts one more, unless the limit is reached. Says whether it was counted.
     pub(crate) fn add(&mut self) -> bool
         ensures room { result ≡ true → count_of self.old < most_of self.old }
         ensures count { count_of self.new ≡ (if result then count_of self.old + 1 else count_of self.old) }
@@ -55,26 +55,26 @@ impl Tally {
 /// Why a connection is not let in.
 #[derive(Clone, Copy, PartialEq, Eq, Debug)]
 pub(crate) enum Refusal {
-    /// There are as many as there may be.
+    /// The limit on all connections is reached.
     Most,
-    /// There are as many of its address as there may be.
+    /// The limit on connections from its address is reached.
     MostOfAddress,
-    /// Memory ran out.
+    /// Memory was refused.
     Memory,
 }
 
 impl Refusal {
-    /// What is said of a connection that is closed for it.
+    /// The cause that is reported when a connection is closed for this refusal.
     pub(crate) fn text(self) -> &'static str {
         match self {
             Refusal::Most => "refused: too many connections are open",
-            Refusal::MostOfAddress => "refused: too many connections of its address are open",
+            Refusal::MostOfAddress => "refused: too many connections from its address are open",
             Refusal::Memory => "refused: memory ran out",
         }
     }
 }
 
-/// The connections that are let in: how many, in all and of each address.
+/// The number of admitted connections, in all and from each address.
 #[derive(Drop)]
 pub(crate) struct Admission {
     all: Tally,
@@ -83,8 +83,8 @@ pub(crate) struct Admission {
 }
 
 impl Admission {
-    /// No connection, of so many at most, and so many of one address; `None` for any number of it. Addresses are hashed by
-    /// `keys`, which no client knows.
+    /// No connections, at most `most` in all and `most_of_address` from one address; `None` for any number. Addresses
+    /// are hashed with `keys`, which no client knows.
     pub(crate) fn new(
         alloc: Global,
         most: u32,
@@ -98,11 +98,11 @@ impl Admission {
         }
     }
 
-    /// Lets a connection of an address in, or of none, which has no limit of its own.
+    /// Admits a connection from an address, or from none, for which there is no limit but that on all.
     ///
     /// # Errors
     ///
-    /// [`Refusal`], by which nothing changes.
+    /// [`Refusal`]. Nothing changes.
     pub(crate) fn enter(&mut self, address: Option<IpAddr>) -> Result<(), Refusal> {
         if !self.all.add() {
             return Err(Refusal::Most);
@@ -114,7 +114,7 @@ impl Admission {
         entered
     }
 
-    /// Counts one more connection of an address.
+    /// Counts one more connection from an address.
     fn enter_address(&mut self, address: Option<IpAddr>) -> Result<(), Refusal> {
         let (Some(address), Some(most)) = (address, self.most_of_address) else {
             return Ok(());
@@ -130,7 +130,7 @@ impl Admission {
         }
     }
 
-    /// Counts the first connection of an address.
+    /// Counts the first connection from an address.
     fn begin_address(&mut self, address: IpAddr, most: u32) -> Result<(), Refusal> {
         let mut tally = Tally::new(most);
         if !tally.add() {
@@ -142,7 +142,7 @@ impl Admission {
         }
     }
 
-    /// Counts that a connection of an address, or of none, has ended.
+    /// Counts that a connection from an address, or from none, has ended.
     pub(crate) fn leave(&mut self, address: Option<IpAddr>) {
         self.all.take();
         if let Some(address) = address {
@@ -150,7 +150,7 @@ impl Admission {
         }
     }
 
-    /// Counts one less connection of an address. One that has none is forgotten.
+    /// Counts one connection less from an address. An address with no connections is forgotten.
     fn leave_address(&mut self, address: IpAddr) {
         let is_last = match self.by_address.get_mut(&address) {
             Some(tally) => {

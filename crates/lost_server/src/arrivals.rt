@@ -1,4 +1,4 @@
-//! How connections come to the workers that watch them. Rules without a section are this profile's own.
+//! Connections on their way to the workers that watch them.
 ghost use Rattle.std.specs.Prelude.{◌≡◌, ◌≢◌, Err};
 
 use crate::hall::Hall;
@@ -15,10 +15,10 @@ use std::sync::Wait;
 use std::sync::atomic::Ordering;
 use std::time::Clock;
 
-/// The token under which a worker is told that connections have come.
+/// The token that tells a worker that connections have come.
 pub(crate) const ARRIVALS: Token = Token(usize::MAX);
 
-/// A connection that was let in, on its way to a worker.
+/// An admitted connection, on its way to a worker.
 #[derive(Drop)]
 pub(crate) struct Arrival {
     pub(crate) stream: Stream,
@@ -27,14 +27,14 @@ pub(crate) struct Arrival {
     pub(crate) peer: Peer,
 }
 
-/// Where a worker is given connections, until it is closed.
+/// Gives connections to one worker, until it is closed.
 #[derive(Drop)]
 pub(crate) struct Entrance {
     sender: Option<Sender<Arrival>>,
     waker: Waker,
 }
 
-/// An entrance, and what a worker takes connections from, with what it waits by.
+/// An entrance, the channel from which its worker takes connections, and the poll by which it waits.
 pub(crate) fn entrance_of<R: Net>(
     rt: &R,
     alloc: Global,
@@ -54,7 +54,7 @@ pub(crate) fn entrance_of<R: Net>(
 }
 
 impl Entrance {
-    /// Gives the worker a connection. Says whether it could be.
+    /// Gives the worker a connection. Says whether that succeeded.
     fn give<R: Wait>(&self, rt: &R, arrival: Arrival) -> bool {
         let Some(sender) = &self.sender else {
             return false;
@@ -65,13 +65,13 @@ impl Entrance {
     /// Tells the worker that no further connections come.
     pub(crate) fn close(&mut self) {
         self.sender = None;
-        // It cannot be told otherwise.
+        // There is no other way to tell it.
         let _woken = self.waker.wake();
     }
 }
 
-/// Accepts connections until the server is over, and gives each to a worker in turn, or closes it where it is past a limit.
-/// Gives a fault for each that no worker could be given.
+/// Accepts connections until the server is over, and gives each to a worker in turn, or closes it if it is past a
+/// limit. Counts a fault for each that could not be given to a worker.
 pub(crate) fn let_in_all<R: Wait + Clock + Eprint + Drop, G>(
     shared: &Shared<'_, R, G>,
     hall: &Hall,
@@ -101,7 +101,7 @@ pub(crate) fn let_in_all<R: Wait + Clock + Eprint + Drop, G>(
     Ok(counts)
 }
 
-/// Gives a connection to a worker, or closes it. Says whether all is well, as where it is past a limit.
+/// Gives a connection to a worker, or closes it. Says whether all is well, as it is with one past a limit.
 fn let_in<R: Wait + Clock + Eprint + Drop, G>(
     shared: &Shared<'_, R, G>,
     hall: &Hall,
@@ -128,7 +128,7 @@ fn let_in<R: Wait + Clock + Eprint + Drop, G>(
     false
 }
 
-/// Gives a connection to the worker whose turn it is. Says whether it could be.
+/// Gives a connection to the worker whose turn it is. Says whether that succeeded.
 fn give_in_turn<R: Wait>(rt: &R, entrances: &[Entrance], arrival: Arrival) -> bool {
     let Some(place) = arrival.number.checked_rem(entrances.len() as u64) else {
         return false;

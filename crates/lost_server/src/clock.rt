@@ -1,4 +1,4 @@
-//! The moments of the machine's clock. Rules without a section are this profile's own.
+//! The moments of the machine's clock.
 ghost use Rattle.std.specs.Prelude.{◌≡◌, ◌≤◌, ◌/◌, ◌%◌, ◌^◌, ◌↔◌, pos, IfSome, IsNone};
 ghost use Rattle.std.specs.Duration.{as_nanos};
 
@@ -12,8 +12,8 @@ const SECONDS_OF_A_DAY: u64 = 86_400;
 /// The nanoseconds of a second.
 const NANOSECONDS_OF_A_SECOND: u64 = 1_000_000_000;
 
-/// Gives the moments of the machine's clock, in UTC. Where the clock cannot be read, or tells a day that is past all
-/// stamps, the last moment is given again; at first that is 1970-01-01T00:00:00Z.
+/// Gives the time of the machine's clock, in UTC. If the clock cannot be read, or its day is past the last possible
+/// stamp, it gives the last moment again; at first that is 1970-01-01T00:00:00Z.
 #[derive(Drop)]
 pub(crate) struct MachineClock<'r, R: Clock> {
     rt: &'r R,
@@ -45,7 +45,7 @@ impl<R: Clock> Moments for MachineClock<'_, R> {
     }
 }
 
-/// The moment so long after 1970-01-01T00:00:00Z, or `None` where its day has no number.
+/// The moment `since` after 1970-01-01T00:00:00Z; `None` if its day has no number.
 fn moment_since_1970(since: Duration) -> Option<Moment>
     ensures none { IsNone result ↔ (2 ^ 31 ≤ as_nanos since / 86_400_000_000_000) }
     ensures value { IfSome result (λ moment.

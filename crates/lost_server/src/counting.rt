@@ -1,4 +1,4 @@
-//! What counts the replies of a worker, and the lines of desks. Rules without a section are this profile's own.
+//! Counts the replies of a worker, and the lines of desks.
 ghost use Rattle.std.specs.Prelude.{◌≡◌};
 
 use lost_desk::Desk;
@@ -34,7 +34,7 @@ impl<S: BuildHasher + Drop> Replier for Counting<'_, '_, S> {
     }
 }
 
-/// Counts what a desk's lines come to.
+/// Counts the outcomes of a desk's lines.
 #[derive(Drop)]
 pub(crate) struct DeskCounting<'r, 's, R: Clock> {
     pub(crate) rt: &'r R,

@@ -1,31 +1,31 @@
-//! Which limit of time a connection has passed. Rules without a section are this profile's own.
+//! The time limits of a connection.
 ghost use Rattle.std.specs.Prelude.{◌≡◌};
 ghost use Rattle.lost_server.specs.Deadlines.{is_past as is_past_limit, passed_of, since_when, times_after, times_at};
 
 use std::time::Duration;
 
-/// For how long a connection that is watched may keep its worker waiting; `None` for ever.
+/// How long a watched connection may keep its worker waiting; `None` for ever.
 #[derive(Clone, Copy, PartialEq, Eq, Debug)]
 pub(crate) struct TimeLimits {
-    /// Without a byte that is read, while no reply waits to be taken.
+    /// Without a byte read, while no reply waits to be taken.
     pub(crate) idle: Option<Duration>,
-    /// From the first byte of a line to its end, while it is read.
+    /// From the first byte of a line to its end, while the connection is read.
     pub(crate) line: Option<Duration>,
-    /// Without a byte that is taken of the replies that wait.
+    /// Without a byte taken of the replies that wait.
     pub(crate) reply: Option<Duration>,
 }
 
 impl TimeLimits {
-    /// Whether none can be passed.
+    /// Whether there is no limit.
     pub(crate) fn are_none(&self) -> bool {
         self.idle.is_none() && self.line.is_none() && self.reply.is_none()
     }
 }
 
-/// A limit of time that was passed.
+/// A time limit that was passed.
 #[derive(Clone, Copy, PartialEq, Eq, Debug)]
 pub(crate) enum Passed {
-    /// That of the replies that wait.
+    /// That of waiting replies.
     Reply,
     /// That of a line.
     Line,
@@ -34,17 +34,17 @@ pub(crate) enum Passed {
 }
 
 impl Passed {
-    /// What is said of a connection that is closed for it.
+    /// The cause that is reported when a connection is closed for this limit.
     pub(crate) fn text(self) -> &'static str {
         match self {
             Passed::Reply => "it took no reply for too long",
-            Passed::Line => "a line of it was not whole in time",
+            Passed::Line => "it did not finish a line in time",
             Passed::Idle => "it sent nothing for too long",
         }
     }
 }
 
-/// What a burst showed of a connection.
+/// What a burst showed about a connection.
 #[derive(Clone, Copy, PartialEq, Eq, Debug)]
 pub(crate) struct Shown {
     /// Whether bytes were read, or taken by the client.
@@ -57,25 +57,25 @@ pub(crate) struct Shown {
     pub(crate) has_begun: bool,
     /// Whether replies wait to be taken.
     pub(crate) has_unsent: bool,
-    /// Whether so many wait that nothing is read.
+    /// Whether so many replies wait that nothing is read.
     pub(crate) is_held: bool,
 }
 
-/// Since when a connection keeps its worker waiting, in moments of the monotonic clock.
+/// Since when a connection has kept its worker waiting, by the monotonic clock.
 #[derive(Clone, Copy, PartialEq, Eq, Debug)]
 pub(crate) struct Times {
-    /// Since when no byte was read, and none was taken by the client.
+    /// Since when no byte was read, and the client took none.
     quiet: Duration,
-    /// Since when a line is begun, where one is.
+    /// Since when a line is begun, if one is.
     begun: Option<Duration>,
-    /// Since when the client took no byte, where replies wait.
+    /// Since when the client took no byte, if replies wait.
     unsent: Option<Duration>,
     /// Whether so many replies wait that nothing is read.
     is_held: bool,
 }
 
 impl Times {
-    /// Those of a connection that begins now.
+    /// The times of a connection that begins now.
     pub(crate) fn at(now: Duration) -> Times
         ensures { result ≡ times_at now }
     {
@@ -87,7 +87,7 @@ impl Times {
         }
     }
 
-    /// Those after a burst at this moment. While it is not read, no time of its line passes.
+    /// The times after a burst at `now`. While the connection is not read, no time of its line passes.
     pub(crate) fn after(&self, shown: &Shown, now: Duration) -> Times
         ensures { result ≡ times_after self.now shown.now now }
     {
@@ -104,7 +104,7 @@ impl Times {
         }
     }
 
-    /// The limit that is passed at this moment, if one is.
+    /// The limit that is passed at `now`, if any.
     pub(crate) fn passed(&self, limits: &TimeLimits, now: Duration) -> Option<Passed>
         ensures { result ≡ passed_of self.now limits.now now }
     {
@@ -121,7 +121,7 @@ impl Times {
     }
 }
 
-/// Since when something is so that `is` so: since now where it `begins` anew, or was not so before.
+/// Since when something is the case, if it `is`: since `now` if it `begins` anew or was not the case before.
 fn since(is: bool, begins: bool, before: Option<Duration>, now: Duration) -> Option<Duration>
     ensures { result ≡ since_when is begins before now }
 {
@@ -132,7 +132,7 @@ fn since(is: bool, begins: bool, before: Option<Duration>, now: Duration) -> Opt
     }
 }
 
-/// Whether so much time has passed since a moment.
+/// Whether a limit has passed since a moment.
 fn is_past(since: Option<Duration>, limit: Option<Duration>, now: Duration) -> bool
     ensures { result ≡ is_past_limit since limit now }
 {

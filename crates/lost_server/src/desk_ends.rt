@@ -1,4 +1,4 @@
-//! The two ends of a desk's connection, while it is its turn. Rules without a section are this profile's own.
+//! The two ends of a desk's connection during its turn.
 use crate::desk_turns::DeskDoor;
 use crate::strangers::{MOST_LOOKED_AT, stranger_text};
 use lost_sockets::Stream;
@@ -9,11 +9,11 @@ use std::io::{ErrorKind, Read, Write};
 use std::sync::Wait;
 use std::time::{Clock, Duration};
 
-/// For how long a desk has its turn without a whole line, in seconds: from its start, and once another one waits from its
-/// last line.
+/// How long a desk may go without a whole line, in seconds: from its start and, once another desk waits, from its last
+/// line.
 const TURN: u64 = 10;
 
-/// For how long a read or a write waits before it is looked whether the turn is over, in milliseconds.
+/// How long a read or a write waits before the turn is checked, in milliseconds.
 const LOOK: u64 = 250;
 
 /// The turn of a desk.
@@ -22,22 +22,22 @@ pub(crate) struct DeskTurn<'t, 'l, R> {
     pub(crate) rt: &'t R,
     pub(crate) door: &'t DeskDoor<'l>,
     pub(crate) stream: &'t Stream,
-    /// For how long a read or a write may wait; `None` for ever.
+    /// How long a read or a write may wait; `None` for ever.
     pub(crate) idle: Option<Duration>,
 }
 
 impl<R: Wait + Clock> DeskTurn<'_, '_, R> {
-    /// Has reads and writes wait no longer than until it is looked whether the turn is over. Says whether that could be set.
+    /// Limits each wait of a read or a write, so that the turn is checked in between. Says whether that could be set.
     pub(crate) fn begin(&self) -> bool {
         self.stream.limit_waiting(Some(Duration::from_millis(LOOK)))
     }
 
-    /// The moment, of the monotonic clock; the one before where it cannot be read.
+    /// The time of the monotonic clock; `before` if it cannot be read.
     fn now(&self, before: Duration) -> Duration {
         self.rt.monotonic().unwrap_or(before)
     }
 
-    /// Whether the time that a read or a write may wait has passed.
+    /// Whether a read or a write has waited too long.
     fn is_idle(&self, since: Duration, now: Duration) -> bool {
         match self.idle {
             Some(idle) => now.saturating_sub(since) >= idle,
@@ -56,13 +56,13 @@ impl<R: Wait + Clock> DeskTurn<'_, '_, R> {
     }
 }
 
-/// What the lines of a desk are read from. A read fails once the turn is over, or where it is seen that this is no desk.
+/// The input of a desk's lines. A read fails once the turn is over, or if the bytes show that this is no desk.
 #[derive(Drop)]
 pub(crate) struct TurnInput<'t, 'l, R> {
     turn: &'t DeskTurn<'t, 'l, R>,
     /// The first bytes that came.
     front: Vec<u8>,
-    /// Since when a whole line is waited for.
+    /// When the wait for a whole line began.
     since: Duration,
     /// Whether a whole line has come, and whether one ended in the last read.
     has_line: bool,
@@ -84,12 +84,12 @@ impl<'t, 'l, R: Wait + Clock> TurnInput<'t, 'l, R> {
         }
     }
 
-    /// Why the turn is over, where this end found it.
+    /// Why the turn is over, if this end found it.
     pub(crate) fn cause(&self) -> Option<&'static str> {
         self.cause
     }
 
-    /// Why the turn is over at this moment, where nothing came since another one.
+    /// Why the turn is over at `now`, if nothing came since `heard`.
     fn passed(&self, heard: Duration, now: Duration) -> Option<&'static str> {
         if self.turn.is_idle(heard, now) {
             return Some("it sent nothing for too long");
@@ -106,7 +106,7 @@ impl<'t, 'l, R: Wait + Clock> TurnInput<'t, 'l, R> {
         None
     }
 
-    /// Looks at bytes that came, and gives why the turn is over where they are none of a desk.
+    /// Looks at bytes that came. Gives why the turn is over if they are not a desk's.
     fn look_at(&mut self, bytes: &[u8]) -> Option<&'static str> {
         if memrchr(b'\n', bytes).is_some() {
             self.has_line = true;
@@ -158,7 +158,7 @@ impl<R: Wait + Clock> Read for TurnInput<'_, '_, R> {
     }
 }
 
-/// What the replies to a desk are written to. A write fails once the turn is over.
+/// The output of replies to a desk. A write fails once the turn is over.
 #[derive(Drop)]
 pub(crate) struct TurnOutput<'t, 'l, R> {
     turn: &'t DeskTurn<'t, 'l, R>,
@@ -171,12 +171,12 @@ impl<'t, 'l, R: Wait + Clock> TurnOutput<'t, 'l, R> {
         TurnOutput { turn, cause: None }
     }
 
-    /// Why the turn is over, where this end found it.
+    /// Why the turn is over, if this end found it.
     pub(crate) fn cause(&self) -> Option<&'static str> {
         self.cause
     }
 
-    /// Why the turn is over at this moment, where nothing was taken since another one.
+    /// Why the turn is over at `now`, if nothing was taken since `since`.
     fn passed(&self, since: Duration, now: Duration) -> Option<&'static str> {
         if self.turn.is_idle(since, now) {
             return Some("it took no reply for too long");
@@ -211,7 +211,7 @@ impl<R: Wait + Clock> Write for TurnOutput<'_, '_, R> {
     }
 }
 
-/// Whether an error says that a read or a write waited for too long.
+/// Whether an error says that a read or a write waited too long.
 pub(crate) fn is_of_waiting(kind: ErrorKind) -> bool {
     matches!(kind, ErrorKind::WouldBlock | ErrorKind::TimedOut)
 }

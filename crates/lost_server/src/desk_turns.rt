@@ -1,11 +1,11 @@
-//! How desks take turns. Rules without a section are this profile's own.
+//! The turns of desks.
 use crate::accepting::accept_until;
 use lost_sockets::{Listener, Peer, Stream};
 use std::sync::atomic::AtomicBool;
 use std::sync::{Mutex, Wait};
 use std::time::Clock;
 
-/// Where desks come from, one after another, and the next of them where it has come. The listener does not wait.
+/// Gives desks one after another, and holds the next one if it has come. The listener does not wait.
 #[derive(Drop)]
 pub(crate) struct DeskDoor<'l> {
     listener: &'l Listener,
@@ -13,7 +13,7 @@ pub(crate) struct DeskDoor<'l> {
 }
 
 impl<'l> DeskDoor<'l> {
-    /// The door of a listener, at which nobody waits yet.
+    /// The door of a listener at which nobody waits yet.
     pub(crate) fn new(listener: &'l Listener) -> DeskDoor<'l> {
         DeskDoor {
             listener,
@@ -44,7 +44,7 @@ impl<'l> DeskDoor<'l> {
         accept_until(rt, self.listener, is_over)
     }
 
-    /// The desk that waits, where it was seen.
+    /// The waiting desk, if it was seen.
     fn waiting<R: Wait>(&self, rt: &R) -> Option<(Stream, Peer)> {
         self.next.lock(rt).take()
     }

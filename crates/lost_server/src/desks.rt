@@ -1,4 +1,4 @@
-//! What the thread of the desk does. Rules without a section are this profile's own.
+//! The thread of the desk.
 use crate::counting::{DeskCounting, tell_book};
 use crate::desk_ends::{DeskTurn, TurnInput, TurnOutput, is_of_waiting};
 use crate::desk_turns::DeskDoor;
@@ -27,8 +27,8 @@ pub(crate) fn serve_one_desk<R: Wait + Clock + Eprint + Drop, G>(
     true
 }
 
-/// Serves the connections of desks in turn, until the server is over. What a desk left pending is dropped before the next one
-/// is served.
+/// Serves the connections of desks in turn, until the server is over. The edits that a desk left pending are dropped
+/// before the next one is served.
 pub(crate) fn serve_desks<R: Wait + Clock + Eprint + Drop, G>(
     shared: &Shared<'_, R, G>,
     listener: &Listener,
@@ -52,7 +52,7 @@ pub(crate) fn serve_desks<R: Wait + Clock + Eprint + Drop, G>(
     }
 }
 
-/// Answers what comes over a desk's connection while it is its turn. Gives the cause where it ended in a fault.
+/// Serves a desk's connection during its turn. Gives the cause if it ended in a fault.
 fn serve_turn<R: Wait + Clock + Eprint + Drop, G>(
     shared: &Shared<'_, R, G>,
     door: &DeskDoor<'_>,
@@ -90,7 +90,7 @@ fn serve_turn<R: Wait + Clock + Eprint + Drop, G>(
     Some(cause.unwrap_or(desk_fault_text(fault, false)))
 }
 
-/// Serves a desk's connection, and says it where it ended in a fault.
+/// Serves a desk's connection, and reports it if it ended in a fault.
 fn serve_desk_connection<R: Wait + Clock + Eprint + Drop, G>(
     shared: &Shared<'_, R, G>,
     stream: &Stream,
@@ -106,7 +106,7 @@ fn serve_desk_connection<R: Wait + Clock + Eprint + Drop, G>(
     shared.status.set_desk(false);
 }
 
-/// Answers what comes over a desk's connection.
+/// Answers the lines of a desk's connection.
 fn serve_desk_stream<R: Wait + Clock + Eprint + Drop, G>(
     shared: &Shared<'_, R, G>,
     stream: &Stream,
@@ -133,7 +133,7 @@ fn serve_desk_stream<R: Wait + Clock + Eprint + Drop, G>(
     )
 }
 
-/// What the lines of a desk are read from. It keeps whether a read waited for too long.
+/// The input of a desk's lines. It notes whether a read waited too long.
 #[derive(Drop)]
 struct DeskInput<'s, 'b> {
     stream: &'s Stream,
@@ -153,7 +153,7 @@ impl Read for DeskInput<'_, '_> {
     }
 }
 
-/// What is said of a desk's connection that ended in a fault.
+/// The report of a desk's connection that ended in a fault.
 fn desk_fault_text(fault: ServeError, was_silent: bool) -> &'static str {
     match fault {
         ServeError::Read if was_silent => "it sent nothing for too long",

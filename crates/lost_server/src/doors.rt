@@ -1,25 +1,25 @@
-//! Where the connections of a server come from. Rules without a section are this profile's own.
+//! The listeners of a server.
 use lost_sockets::Listener;
 use std::io;
 
-/// Where the connections of a server come from.
+/// The listeners of a server.
 #[derive(Drop)]
 pub struct Doors {
-    /// Where clients ask.
+    /// The listener for clients.
     pub queries: Listener,
-    /// Where the map desk edits, where it may.
+    /// The listener for the map desk, if one may connect.
     pub desk: Option<Listener>,
 }
 
-/// What is told how far a server is.
+/// Learns how far a server has started.
 pub trait Ready {
-    /// Told that its status is answered, where that is ordered, before its map is read.
+    /// Called once the status is answered, if it is ordered, and before the map is read.
     fn begins(&self, status: &Listener);
 
-    /// Told that it is ready, before the first connection is accepted: its map is read, and it listens.
+    /// Called when the server is ready, before the first connection is accepted: its map is read, and it listens.
     ///
     /// # Errors
     ///
-    /// Where it cannot be passed on. The server ends then.
+    /// If it cannot be passed on. The server then ends.
     fn ready(&self, doors: &Doors) -> io::Result<()>;
 }

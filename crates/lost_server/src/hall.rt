@@ -1,4 +1,4 @@
-//! What the threads of a server share that watch many connections. Rules without a section are this profile's own.
+//! The state that threads share when they watch many connections.
 ghost use Rattle.std.specs.Prelude.{◌≤◌};
 
 use crate::admission::{Admission, Refusal};
@@ -12,23 +12,23 @@ use std::random::RandomSource;
 use std::sync::{Mutex, Wait};
 use std::time::Duration;
 
-/// How many files a server has open beside those of its connections and workers, at most.
+/// The most files that a server has open beside those of its connections and workers.
 const OTHER_FILES: u64 = 32;
 
 /// How many files each worker has open.
 const FILES_OF_A_WORKER: u64 = 2;
 
-/// The limits of the connections that are watched, and how many there are.
+/// The limits on watched connections, and their number.
 #[derive(Drop)]
 pub(crate) struct Hall {
-    /// For how long one may keep its worker waiting.
+    /// How long a connection may keep its worker waiting.
     pub(crate) limits: TimeLimits,
     admission: Mutex<Admission>,
 }
 
 impl Hall {
-    /// No connection, with these limits, watched by so many workers. Where the program may not have as many files open, there
-    /// may be so much fewer connections: one that is too many is closed, and waits for no file.
+    /// No connections, with these limits, watched by this many workers. If the program may not have that many files
+    /// open, the limit on connections is lowered: one too many is closed, and waits for no file.
     pub(crate) fn new<R: RandomSource>(
         rt: &R,
         alloc: Global,
@@ -51,23 +51,19 @@ impl Hall {
         })
     }
 
-    /// Lets a connection in.
-    ///
-    /// # Errors
-    ///
-    /// [`Refusal`]: it is to be closed.
+    /// Admits a connection, unless it is refused: then it must be closed.
     pub(crate) fn enter<R: Wait>(&self, rt: &R, address: Option<IpAddr>) -> Result<(), Refusal> {
         self.admission.lock(rt).enter(address)
     }
 
-    /// A connection that was let in has ended.
+    /// Counts that an admitted connection has ended.
     pub(crate) fn leave<R: Wait>(&self, rt: &R, address: Option<IpAddr>) {
         self.admission.lock(rt).leave(address);
     }
 }
 
-/// How many connections may be open, where so many are wished, there are so many workers, and the program may have so many
-/// files open.
+/// How many connections may be open, if `wished` are wished, there are this many workers, and the program may have
+/// `files` files open.
 fn most_open(wished: u32, workers: u64, files: Option<u64>) -> u32
     ensures { result ≤ wished }
 {

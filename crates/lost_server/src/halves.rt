@@ -1,4 +1,4 @@
-//! The two halves of a connection that is watched. Rules without a section are this profile's own.
+//! The two halves of a watched connection.
 use lost_sockets::Stream;
 use memchr::{memchr_iter, memrchr};
 use std::alloc::{AllocError, Global};
@@ -6,7 +6,7 @@ use std::io;
 use std::io::{Read, Write};
 use std::sync::Arc;
 
-/// What is read of a connection. It counts how often bytes came, and how often the end of a line was among them.
+/// The input half of a connection. It counts how often bytes came, and how often a line's end was among them.
 #[derive(Drop)]
 pub(crate) struct InHalf {
     stream: Arc<Stream>,
@@ -14,7 +14,7 @@ pub(crate) struct InHalf {
     ends: u64,
 }
 
-/// What is written to a connection. It counts the bytes that were taken, and the replies that were taken whole.
+/// The output half of a connection. It counts the bytes taken, and the replies taken whole.
 #[derive(Drop)]
 pub(crate) struct OutHalf {
     stream: Arc<Stream>,
@@ -22,7 +22,7 @@ pub(crate) struct OutHalf {
     lines: u64,
 }
 
-/// The halves of a connection, which is closed once both are dropped.
+/// The halves of a connection. It is closed once both are dropped.
 pub(crate) fn halves_of(alloc: Global, stream: Stream) -> Result<(InHalf, OutHalf), AllocError> {
     let Ok(stream) = Arc::new(alloc, stream) else {
         return Err(AllocError);
@@ -47,7 +47,7 @@ impl InHalf {
         self.reads
     }
 
-    /// How often the end of a line was among them.
+    /// How often a line's end was among them.
     pub(crate) fn ends(&self) -> u64 {
         self.ends
     }

@@ -1,5 +1,5 @@
-//! What the program `lostd` runs (own rules): `replay` answers a stream of desk lines and request lines by one thread, and
-//! a server answers the connections of desks and of clients by many, from a map that it may have read before.
+//! What the program `lostd` runs (own rules). `replay` answers a stream of desk lines and request lines in one thread.
+//! A server answers the connections of desks and clients in many threads, from a map that it may have read before.
 #![tactic(auto)]
 
 mod accepting;

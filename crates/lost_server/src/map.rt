@@ -1,4 +1,4 @@
-//! The map that a server reads before it listens. Rules without a section are this profile's own.
+//! The map that a server reads before it listens.
 ghost use Rattle.std.specs.Prelude.{◌≡◌, [], Option, OnOk};
 ghost use Rattle.lost_server.specs.Map.{IsLoaded};
 ghost use Rattle.lost_worker.specs.Desking.{IsSameDesk};
@@ -16,33 +16,33 @@ use std::io;
 use std::io::{Eprint, Read};
 use std::sync::Wait;
 
-/// After how many lines it is said how far a map is.
+/// After how many lines the progress is reported.
 const STEP: u64 = 100_000;
 
-/// As many lines as a map has.
+/// No limit on the lines of a map.
 const TURNS: Turns = Turns {
     lines: u64::MAX,
     reads: u64::MAX,
 };
 
-/// What was found in a map.
+/// The counts of a map's lines.
 #[derive(Clone, Copy, PartialEq, Eq, Debug)]
 pub struct MapFound {
-    /// How many lines it has.
+    /// How many lines the map has.
     pub lines: u64,
     /// How many of them were refused.
     pub refused: u64,
 }
 
-/// Answers the desk lines of a map, as a desk's connection would be answered, however many there are. Of each line that is
-/// refused it says on standard error the number, from 1, the code and its name, and the cause. With `shows_progress` it says
-/// there after each 100,000 lines how many were read. Then nothing is pending.
+/// Answers the desk lines of a map as those of a desk's connection, without a limit on their number. For each refused
+/// line it writes the number, from 1, the code and its name, and the cause to standard error. With `shows_progress` it
+/// writes there after each 100,000 lines how many were read. Afterwards nothing is pending.
 ///
 /// # Errors
 ///
-/// [`MapFault::Unread`] where the map could not be read. Unless it `keeps_going`, [`MapFault::Refused`] where a line was
-/// refused, or where no commit stands behind the last edit; else such edits are dropped, which is said, and
-/// [`MapFault::Memory`] is want of memory for that. The edits of the lines that were accepted stand in each case.
+/// [`MapFault::Unread`] if the map could not be read. Unless it `keeps_going`, [`MapFault::Refused`] if a line was
+/// refused, or if no commit follows the last edit. If it does, such edits are dropped and reported, and
+/// [`MapFault::Memory`] says that they could not be. After an error the edits of the accepted lines stand.
 pub fn load_map<T: Wait + Eprint, I: Read + Drop>(
     rt: &T,
     alloc: Global,
@@ -51,7 +51,7 @@ pub fn load_map<T: Wait + Eprint, I: Read + Drop>(
     keeps_going: bool,
     shows_progress: bool,
 ) -> Result<MapFound, MapFault>
-    // Each line of the map is answered by the lists of the desk, which go as the lines say.
+    // Each line of the map is answered by the lists of the desk, which change as the lines say.
     ensures loaded { OnOk result (IsLoaded (I.remaining input) desk.old desk.new) }
     ensures nothing_pending { OnOk result (desk.new.pending ≡ []) }
     ensures same { IsSameDesk desk.old desk.new }
@@ -68,7 +68,7 @@ pub fn load_map<T: Wait + Eprint, I: Read + Drop>(
         say(
             rt,
             format!(in alloc;
-                "lostd: --map: {pending} edits behind the last commit are left out\n"
+                "lostd: --map: {pending} edits after the last commit were left out\n"
             ),
         );
     }
@@ -78,7 +78,7 @@ pub fn load_map<T: Wait + Eprint, I: Read + Drop>(
     }
 }
 
-/// Answers the desk lines of a map, and gives what was found in it.
+/// Answers the desk lines of a map, and gives the counts.
 fn read_map<T: Wait + Eprint, I: Read + Drop>(
     rt: &T,
     alloc: Global,
@@ -114,7 +114,7 @@ fn read_map<T: Wait + Eprint, I: Read + Drop>(
     }
 }
 
-/// What looks on while a map is read.
+/// The witness of a map's lines.
 #[derive(Drop)]
 struct MapReading<'r, R: Eprint> {
     rt: &'r R,
@@ -141,14 +141,14 @@ impl<R: Eprint> DeskWitness for MapReading<'_, R> {
     }
 }
 
-/// Says a line in one piece. One for which there is no memory is not said; where standard error fails, the status still tells.
+/// Writes a line in one piece, or nothing if memory is refused. If standard error fails, it is lost.
 fn say<R: Eprint>(rt: &R, line: Result<String, AllocError>) {
     if let Ok(line) = line {
         let _said = rt.eprint(line.as_str());
     }
 }
 
-/// What is said of a refused line: its number, the code and its name, and the cause where one is found.
+/// The report of a refused line: its number, the code and its name, and the cause if one is found.
 fn refusal_line(
     alloc: Global,
     number: u64,
@@ -168,7 +168,7 @@ fn refusal_line(
     format!(in alloc; "lostd: --map: line {number}: {code} {name}: {cause}\n")
 }
 
-/// The cause of a refusal. It is empty where none is found.
+/// The cause of a refusal; empty if none is found.
 fn cause_of(
     alloc: Global,
     code: u8,

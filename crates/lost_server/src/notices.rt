@@ -1,4 +1,4 @@
-//! What is said of connections on standard error. Rules without a section are this profile's own.
+//! Reports of connections on standard error.
 use crate::voice::Mouth;
 use lost_sockets::Peer;
 use lost_status::Status;
@@ -8,26 +8,26 @@ use std::sync::atomic::{AtomicU64, Ordering};
 use std::sync::{Arc, Wait};
 use std::time::Clock;
 
-/// The most lines that are said in a second.
+/// The most lines in a second.
 const MAX_A_SECOND: u64 = 10;
 
-/// Says on standard error, in one line each, how connections end in a fault: at most ten lines a second, the next of
-/// which says how many were left out.
+/// Reports on standard error, in one line each, how connections end in a fault: at most ten lines a second. The next
+/// line says how many were left out.
 #[derive(Drop)]
 pub(crate) struct Notices<R: Wait + Clock + Eprint + Drop> {
     rt: R,
     alloc: Global,
     is_quiet: bool,
     status: Arc<Status>,
-    /// Where lines are given; without it, who says one waits until standard error takes it.
+    /// Takes the lines; without it, a reporting thread waits until standard error takes its line.
     mouth: Option<Mouth>,
     second: AtomicU64,
     said: AtomicU64,
     left_out: AtomicU64,
 }
 
-/// Notices for all threads, given to `mouth`, or without it said on the standard error of `rt`; none of connections where it
-/// is quiet. With them goes what is counted.
+/// Notices for all threads. They go to `mouth` or, without it, to the standard error of `rt`; if quiet, none about
+/// connections. They carry the counters.
 pub(crate) fn notices_of<R: Wait + Clock + Eprint + Clone>(
     rt: &R,
     alloc: Global,
@@ -65,12 +65,12 @@ impl<R: Wait + Clock + Eprint + Drop> Notices<R> {
         }
     }
 
-    /// What is counted.
+    /// The counters.
     pub(crate) fn status(&self) -> &Status {
         &self.status
     }
 
-    /// Says how a query connection, counted from 1, ended in a fault.
+    /// Reports how a query connection, counted from 1, ended in a fault.
     pub(crate) fn say_of_query(&self, number: u64, peer: &Peer, cause: &str) {
         if self.is_due() {
             let left_out = self.left_out.swap(0, Ordering::SeqCst);
@@ -78,28 +78,28 @@ impl<R: Wait + Clock + Eprint + Drop> Notices<R> {
         }
     }
 
-    /// Says how a desk's connection ended in a fault.
+    /// Reports how a desk's connection ended in a fault.
     pub(crate) fn say_of_desk(&self, peer: &Peer, cause: &str) {
         if !self.is_quiet {
             self.say(desk_line(self.alloc, peer, cause));
         }
     }
 
-    /// Says that what a desk left pending is pending for the next one.
+    /// Reports that the edits a desk left pending stay pending for the next one.
     pub(crate) fn say_of_pending(&self) {
         self.say(format!(in self.alloc;
-            "lostd: memory ran out: what the last desk left pending could not be dropped, and the next desk's commit publishes it\n"
+            "lostd: memory ran out: the last desk's pending edits could not be dropped, and the next desk's commit publishes them\n"
         ));
     }
 
-    /// Says that a listener was given up.
+    /// Reports that a listener was given up.
     pub(crate) fn say_of_listener(&self) {
         self.say(format!(in self.alloc;
-            "lostd: no more connections could be accepted: the server ends when those that stand have ended\n"
+            "lostd: no more connections could be accepted: the server ends when all open connections have ended\n"
         ));
     }
 
-    /// Says a line in one piece. One for which there is no memory is not said; where standard error fails, nothing is.
+    /// Writes a line in one piece, or nothing if memory is refused or standard error fails.
     fn say(&self, line: Result<String, AllocError>) {
         let Ok(line) = line else {
             return;
@@ -112,7 +112,7 @@ impl<R: Wait + Clock + Eprint + Drop> Notices<R> {
         }
     }
 
-    /// Whether one more line may be said in this second. Where not, it is counted as left out.
+    /// Whether one more line may be written in this second. If not, it is counted as left out.
     fn is_due(&self) -> bool {
         if self.is_quiet {
             return false;
@@ -132,7 +132,7 @@ impl<R: Wait + Clock + Eprint + Drop> Notices<R> {
     }
 }
 
-/// The line about a query connection that ended in a fault, and about so many that were left out before.
+/// The line about a query connection that ended in a fault, and about the `left_out` lines before it.
 fn query_line(
     alloc: Global,
     number: u64,
@@ -140,10 +140,10 @@ fn query_line(
     cause: &str,
     left_out: u64,
 ) -> Result<String, AllocError> {
-    let mut line = format!(in alloc; "lostd: query connection {number} of {peer}: {cause}")?;
+    let mut line = format!(in alloc; "lostd: query connection {number} from {peer}: {cause}")?;
     if left_out > 0 {
         let more = format!(in alloc;
-            " ({left_out} more connections ended in faults that were not said)"
+            " ({left_out} more connections ended in faults that are not listed)"
         )?;
         line.push_str(more.as_str())?;
     }
@@ -151,8 +151,8 @@ fn query_line(
     Ok(line)
 }
 
-/// The line about the desk's connection that ended in a fault.
+/// The line about a desk's connection that ended in a fault.
 fn desk_line(alloc: Global, peer: &Peer, cause: &str) -> Result<String, AllocError> {
-    let line = format!(in alloc; "lostd: desk connection of {peer}: {cause}\n")?;
+    let line = format!(in alloc; "lostd: desk connection from {peer}: {cause}\n")?;
     Ok(line)
 }

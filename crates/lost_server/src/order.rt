@@ -1,40 +1,40 @@
-//! What is ordered of a server. Rules without a section are this profile's own.
+//! A server's settings.
 use lost_mapping::Source;
 use std::time::Duration;
 
-/// How a server treats those that it serves.
+/// How a server treats its connections.
 #[derive(Clone, Copy, PartialEq, Eq, Debug)]
 pub struct ConnectionSettings {
-    /// For how long a read or a write of a query connection may wait; `None` for ever. Where many are watched, for how long no
-    /// byte of one may come while no reply waits to be taken.
+    /// How long a read or a write of a query connection may wait; `None` for ever. If many are watched, how long one
+    /// may send no byte while no reply waits to be taken.
     pub idle: Option<Duration>,
-    /// For how long a read or a write of a desk's connection may wait; `None` for ever.
+    /// How long a read or a write of a desk's connection may wait; `None` for ever.
     pub desk_idle: Option<Duration>,
-    /// Whether nothing is said on standard error of connections that end in a fault.
+    /// Whether nothing is reported on standard error about connections that end in a fault.
     pub is_quiet: bool,
 }
 
-/// The limits of the query connections of a server that has no number of them.
+/// The limits on query connections of a server without a fixed number of them.
 #[derive(Clone, Copy, PartialEq, Eq, Debug)]
 pub struct ClientLimits {
-    /// In which time a line must be whole after its first byte; `None` for any.
+    /// How long a line may take from its first byte to its end; `None` for any time.
     pub line_time: Option<Duration>,
-    /// For how long a client may take no byte of the replies that wait for it; `None` for ever.
+    /// How long a client may take no byte of its waiting replies; `None` for ever.
     pub reply_time: Option<Duration>,
-    /// How many may be open.
+    /// How many connections may be open.
     pub most_connections: u32,
-    /// How many of one address may be; `None` for any number.
+    /// How many of one address may be open; `None` for any number.
     pub per_address: Option<u32>,
 }
 
-/// What is ordered of a server.
+/// A server's settings.
 #[derive(Clone, Copy)]
 pub struct ServerOrder<'a> {
     /// The server's name.
     pub name: &'a Source,
-    /// The file of desk lines that is read before the server listens, `-` for standard input.
+    /// The file of desk lines that is read before the server listens; `-` for standard input.
     pub map: Option<&'a str>,
-    /// Whether the server starts though lines of its map were refused, or are not committed.
+    /// Whether the server starts even if lines of its map were refused or are not committed.
     pub keeps_going: bool,
     /// The address of queries.
     pub queries: &'a str,
@@ -46,13 +46,13 @@ pub struct ServerOrder<'a> {
     pub socket_mode: u32,
     /// How many threads answer requests: 1 to 64.
     pub workers: u32,
-    /// How many query connections are served, and one of a desk; without it there is no end, and desks are served one after
-    /// another.
+    /// How many query connections are served, beside one of a desk. Without it there is no end, and desks are served
+    /// one after another.
     pub connections: Option<u32>,
-    /// How those that are served are treated.
+    /// How connections are treated.
     pub settings: ConnectionSettings,
-    /// What the query connections are limited to, where no number of them is given.
+    /// The limits on query connections if their number is not given.
     pub limits: ClientLimits,
-    /// Whether it is said how far a long map is.
+    /// Whether the progress through a long map is reported.
     pub shows_progress: bool,
 }

@@ -1,4 +1,4 @@
-//! The two ends of a query connection. Rules without a section are this profile's own.
+//! The two ends of a query connection.
 use crate::notices::Notices;
 use lost_sockets::{Peer, Stream};
 use std::alloc::{AllocError, Global};
@@ -15,14 +15,14 @@ struct Client<R: Wait + Clock + Eprint + Drop> {
     number: u64,
     peer: Peer,
     notices: Arc<Notices<R>>,
-    /// Whether its input ended, or a fault of it was said.
+    /// Whether its input ended, or a fault was reported.
     is_over: AtomicBool,
-    /// Whether a fault of it was said.
+    /// Whether a fault was reported.
     has_failed: AtomicBool,
 }
 
 impl<R: Wait + Clock + Eprint + Drop> Client<R> {
-    /// Says how it ended in a fault.
+    /// Reports how it ended in a fault.
     fn say(&self, cause: &str) {
         self.is_over.store(true, Ordering::SeqCst);
         self.has_failed.store(true, Ordering::SeqCst);
@@ -30,14 +30,14 @@ impl<R: Wait + Clock + Eprint + Drop> Client<R> {
     }
 }
 
-/// What the lines of a query connection are read from. A failed read is said; so is an end of the connection before the
-/// end of its lines.
+/// The input of a query connection's lines. It reports a failed read, and an end of the connection before the end of
+/// its lines.
 pub(crate) struct Incoming<R: Wait + Clock + Eprint + Drop> {
     client: Arc<Client<R>>,
     has_read: bool,
 }
 
-/// What the replies of a query connection are written to. A failed write is said.
+/// The output of a query connection's replies. It reports a failed write.
 #[derive(Drop)]
 pub(crate) struct Outgoing<R: Wait + Clock + Eprint + Drop> {
     client: Arc<Client<R>>,
@@ -106,7 +106,7 @@ impl<R: Wait + Clock + Eprint + Drop> Drop for Incoming<R> {
     fn drop(self) {
         let Incoming { client, has_read } = self;
         if has_read && !client.is_over.load(Ordering::SeqCst) {
-            client.say("it sent more lines than are answered on one connection");
+            client.say("it sent too many lines for one connection");
         }
         let status = client.notices.status();
         if !has_read {
@@ -116,7 +116,7 @@ impl<R: Wait + Clock + Eprint + Drop> Drop for Incoming<R> {
     }
 }
 
-/// What is said of a failed read.
+/// The report of a failed read.
 fn reading_failed(kind: ErrorKind) -> &'static str {
     match kind {
         ErrorKind::WouldBlock | ErrorKind::TimedOut => "it sent nothing for too long",
@@ -124,7 +124,7 @@ fn reading_failed(kind: ErrorKind) -> &'static str {
     }
 }
 
-/// What is said of a failed write.
+/// The report of a failed write.
 fn writing_failed(kind: ErrorKind) -> &'static str {
     match kind {
         ErrorKind::WouldBlock | ErrorKind::TimedOut => "it took no reply for too long",

@@ -1,4 +1,4 @@
-//! How query connections go to the workers. Rules without a section are this profile's own.
+//! Query connections on their way to the workers.
 ghost use Rattle.std.specs.Prelude.{◌≡◌, ◌≢◌, Err};
 
 use crate::peer::{Incoming, Outgoing, ends};
@@ -13,14 +13,14 @@ use std::sync::Wait;
 use std::sync::atomic::Ordering;
 use std::time::Clock;
 
-/// What goes over the channel to the workers.
+/// A query connection on the channel to the workers.
 pub(crate) type Query<R> = Connection<Incoming<R>, Outgoing<R>>;
 
-/// Where workers take query connections from.
+/// The end of the channel from which workers take query connections.
 pub(crate) type Queries<R> = Receiver<Query<R>>;
 
-/// Accepts so many query connections, or connections until the server is over, and hands each to a worker. Gives a fault for
-/// each that could not be handed over.
+/// Accepts this many query connections, or connections until the server is over, and hands each to a worker. Counts a
+/// fault for each that could not be handed over.
 pub(crate) fn hand_over_all<R: Wait + Clock + Eprint + Drop, G>(
     shared: &Shared<'_, R, G>,
     listener: &Listener,

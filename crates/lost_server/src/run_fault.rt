@@ -1,4 +1,4 @@
-//! Why a server stopped before all its connections had ended. Rules without a section are this profile's own.
+//! Why a server stopped before all its connections had ended.
 ghost use Rattle.std.specs.Prelude.{◌≡◌};
 ghost use Rattle.lost_server.specs.RunFault.{fault_of};
 
@@ -15,7 +15,7 @@ pub enum RunFault {
     /// A listener failed again and again.
     #[error("no connection could be accepted")]
     Accept,
-    /// A growth, a reader's place or a thread was refused.
+    /// Memory, a reader's place or a thread was refused.
     #[error("memory ran out")]
     Memory,
 }
@@ -31,7 +31,7 @@ impl From<AllocError> for RunFault {
     }
 }
 
-/// Why no desk could be opened, as a fault of the run.
+/// The fault of the run when no desk could be opened.
 pub(crate) fn fault_of_opening(error: OpenError) -> RunFault
     ensures { result ≡ fault_of error }
 {

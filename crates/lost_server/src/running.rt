@@ -1,4 +1,4 @@
-//! A server that begins with no mappings, over listeners that stand. Rules without a section are this profile's own.
+//! A server that begins with no mappings, over listeners that stand.
 ghost use Rattle.std.specs.Prelude.{◌≡◌, ◌≢◌, ◌<◌, ◌⊎◌, ◌↔◌, Err};
 
 use crate::doors::Doors;
@@ -22,17 +22,17 @@ use std::sync::atomic::AtomicBool;
 use std::thread::Threads;
 use std::time::{Clock, Duration};
 
-/// Serves one connection of `desk_listener` by [`lost_worker::serve_desk`] and so many `connections` of `query_listener`,
-/// which go to so many `workers` by [`lost_worker::worker_loop`], as the server of this name. It begins with no mappings. A
-/// request is answered at the moment that the machine's clock then tells. Edits that are pending when the desk's connection
-/// ends are dropped; what is published stays. It waits until all these connections have ended, and gives the sums of what
-/// was counted of the query connections, with one fault more for each that could not be handed to a worker.
+/// Serves one connection of `desk_listener` by [`lost_worker::serve_desk`] and `connections` connections of
+/// `query_listener`, which go to `workers` workers by [`lost_worker::worker_loop`], as the server of this name. It
+/// begins with no mappings. A request is answered at the time of the machine's clock. Edits that are pending when the
+/// desk's connection ends are dropped; published edits stay. It waits until all these connections have ended. Gives the
+/// sums of the query connections' counts, with one fault more for each that could not be handed to a worker.
 ///
 /// # Errors
 ///
-/// [`RunFault::Workers`] unless there are 1 to 64 workers. [`RunFault::Accept`] where a listener was given up, once all
-/// connections have ended. [`RunFault::Memory`] where a growth, a reader's place, a thread or the random bytes that the
-/// caches hash by were refused.
+/// [`RunFault::Workers`] unless there are 1 to 64 workers. [`RunFault::Accept`] if a listener was given up, once all
+/// connections have ended. [`RunFault::Memory`] if memory, a reader's place, a thread or the random keys of the caches'
+/// hashes were refused.
 pub fn serve<
     R: Threads + Wait + Clock + Eprint + RandomSource + Clone + Send + Sync,
     G: Gate + Sync,
@@ -71,7 +71,7 @@ pub fn serve<
     }
 }
 
-/// Serves the connections of two listeners over a desk that is open, with its readers.
+/// Serves the connections of two listeners with an open desk and its readers.
 fn serve_open<
     R: Threads + Wait + Clock + Eprint + RandomSource + Clone + Send + Sync,
     G: Gate + Sync,
@@ -114,7 +114,7 @@ fn serve_open<
     serve_all(&shared, &doors, desk, readers, connections)
 }
 
-/// A listener of its own for a server, of the same address.
+/// A server's own handle of a listener, with the same address.
 fn listener_of(listener: &TcpListener) -> Result<Listener, RunFault>
     ensures { result ≢ Err RunFault.Workers }
 {

@@ -1,4 +1,4 @@
-//! Why a server did not start, or stopped. Rules without a section are this profile's own.
+//! Why a server did not start, or stopped.
 use crate::run_fault::RunFault;
 use lost_sockets::ListenError;
 use std::io::ErrorKind;
@@ -6,25 +6,25 @@ use std::io::ErrorKind;
 /// Why a map was not loaded.
 #[derive(Clone, Copy, PartialEq, Eq, Debug)]
 pub enum MapFault {
-    /// It could not be opened.
+    /// The file could not be opened.
     Unopened(ErrorKind),
-    /// It could not be read to its end.
+    /// The map could not be read to its end.
     Unread,
-    /// So many of its lines were refused, which was said of each, and so many edits are not committed.
+    /// This many lines were refused, each of which was reported, and this many edits are not committed.
     Refused { refused: u64, pending: u64 },
-    /// What it left pending could not be dropped: memory ran out.
+    /// Memory was refused, so the pending edits could not be dropped.
     Memory,
 }
 
 /// Why a server did not start, or stopped before its end.
 #[derive(Clone, Copy, PartialEq, Eq, Debug)]
 pub enum ServerFault {
-    /// Its map was not loaded. It listened nowhere but for its status.
+    /// Its map was not loaded. It listened only for its status.
     Map(MapFault),
-    /// An address, that of the option with this name, cannot be listened on.
+    /// The address of the option with this name cannot be listened on.
     Address(&'static str, ListenError),
-    /// It could not be passed on that the server is ready.
+    /// The caller could not be told that the server is ready.
     Ready,
-    /// What a run ends in.
+    /// The fault that ended the run.
     Run(RunFault),
 }

@@ -1,4 +1,4 @@
-//! The threads of a server. Rules without a section are this profile's own.
+//! The threads of a server.
 ghost use Rattle.std.specs.Prelude.{◌≡◌, ◌≢◌, Err};
 
 use crate::desks::serve_one_desk;
@@ -21,7 +21,7 @@ use std::time::Clock;
 /// How many query connections may wait for a worker.
 const MAX_WAITING: usize = 64;
 
-/// Serves all connections, each reader by a worker of its own, which begins with what the desk has published.
+/// Serves all connections, with one worker for each reader. Each worker begins with what the desk has published.
 pub(crate) fn serve_all<
     R: Threads + Wait + Clock + Eprint + RandomSource + Drop + Send + Sync,
     G: Gate + Sync,
@@ -42,7 +42,7 @@ pub(crate) fn serve_all<
 }
 
 /// Starts a thread for each worker and one for desks, accepts the query connections in this thread, and waits for all
-/// threads. Gives the sum of what was counted.
+/// threads. Gives the sum of their counts.
 fn in_threads<R: Threads + Wait + Clock + Eprint + Drop + Send + Sync, G: Gate + Sync>(
     shared: &Shared<'_, R, G>,
     workers: Vec<WorkerParts<R>>,
@@ -59,7 +59,7 @@ fn in_threads<R: Threads + Wait + Clock + Eprint + Drop + Send + Sync, G: Gate +
         |scope| -> Result<Counts, RunFault>
             ensures { result ≢ Err RunFault.Workers }
         {
-            // It is dropped on each way out, so that the workers end.
+            // It is dropped on each way out, so the workers end.
             let sender = sender;
             let mut threads = Vec::new(shared.alloc);
             for worker in workers {
@@ -85,7 +85,7 @@ fn in_threads<R: Threads + Wait + Clock + Eprint + Drop + Send + Sync, G: Gate +
     )
 }
 
-/// Waits for all workers to end, and gives the sum of what they counted.
+/// Waits for all workers to end, and gives the sum of their counts.
 pub(crate) fn sum_of<R: Threads + Wait>(rt: &R, threads: Vec<JoinHandle<Counts>>) -> Counts {
     let mut sum = Counts::default();
     for thread in threads {
@@ -94,7 +94,7 @@ pub(crate) fn sum_of<R: Threads + Wait>(rt: &R, threads: Vec<JoinHandle<Counts>>
     sum
 }
 
-/// What the thread of the desk does: it serves one desk. Says whether it came, where one is waited for.
+/// The thread of the desk: it serves one desk. False if one was expected and none came.
 fn edit<R: Wait + Clock + Eprint + Drop, G>(
     shared: &Shared<'_, R, G>,
     doors: &Doors,

@@ -1,4 +1,4 @@
-//! What all threads of a server share. Rules without a section are this profile's own.
+//! What all threads of a server share.
 use crate::notices::Notices;
 use crate::order::ConnectionSettings;
 use lost_mapping::Source;
@@ -20,7 +20,7 @@ pub(crate) struct Shared<'n, R: Wait + Clock + Eprint + Drop, G> {
     pub(crate) settings: ConnectionSettings,
     /// Whether no further connections are accepted.
     pub(crate) is_over: &'n AtomicBool,
-    /// What is counted, and whether replies are counted too, as where somebody may ask for it.
+    /// The counters, and whether replies are counted too, as when somebody may ask for them.
     pub(crate) status: &'n Arc<Status>,
     pub(crate) counts_replies: bool,
 }

@@ -1,4 +1,4 @@
-//! The threads of a server that watches many connections. Rules without a section are this profile's own.
+//! The threads of a server that watches many connections.
 ghost use Rattle.std.specs.Prelude.{◌≡◌, ◌≢◌, Err};
 
 use crate::arrivals::{Entrance, entrance_of, let_in_all};
@@ -29,7 +29,7 @@ use std::time::Clock;
 /// The most workers.
 const MAX_WORKERS: u32 = 64;
 
-/// What one worker has: its number, from 0, its reader, and the connections that it watches.
+/// One worker: its number, from 0, its reader, and the connections that it watches.
 #[derive(Drop)]
 struct StandingWorker {
     number: usize,
@@ -37,7 +37,7 @@ struct StandingWorker {
     watcher: Watcher,
 }
 
-/// Watches all connections that come, by a worker for each reader, until the server is over, and serves desks beside.
+/// Watches all connections, with one worker for each reader, until the server is over, and meanwhile serves desks.
 pub(crate) fn watch_all<
     R: Threads + Wait + Clock + Eprint + RandomSource + Net + Drop + Send + Sync,
     G: Sync,
@@ -64,8 +64,8 @@ pub(crate) fn watch_all<
     in_threads(shared, &hall, workers, doors, desk, entrances)
 }
 
-/// A worker for each reader, which begins with what the desk has published, and keeps places by hashes of its own, which no
-/// client knows. Adds the entrance of each.
+/// A worker for each reader. It begins with what the desk has published, and keeps places by hashes with keys of its
+/// own, which no client knows. Adds the entrance of each.
 fn standing_workers<R: RandomSource + Net>(
     rt: &R,
     alloc: Global,
@@ -99,7 +99,7 @@ fn standing_workers<R: RandomSource + Net>(
 }
 
 /// Starts a thread for each worker and one for desks, accepts connections in this thread until the server is over, and
-/// waits for all threads. Gives the sum of what was counted.
+/// waits for all threads. Gives the sum of their counts.
 fn in_threads<R: Threads + Wait + Clock + Eprint + Drop + Send + Sync, G: Sync>(
     shared: &Shared<'_, R, G>,
     hall: &Hall,
@@ -149,7 +149,7 @@ fn close_all(entrances: &mut Vec<Entrance>) {
     }
 }
 
-/// What the thread of a worker does: it serves connections until no further ones come, and gives what it counted.
+/// The thread of a worker: it serves connections until no more come, and gives its counts.
 fn watch<R: Wait + Clock + Eprint + Drop, G>(
     shared: &Shared<'_, R, G>,
     hall: &Hall,
@@ -172,7 +172,7 @@ fn watch<R: Wait + Clock + Eprint + Drop, G>(
     }
 }
 
-/// What the thread of the desk does: it serves one desk after another, where there may be any.
+/// The thread of the desk: it serves one desk after another, if there is a listener for desks.
 fn edit<R: Wait + Clock + Eprint + Drop, G>(
     shared: &Shared<'_, R, G>,
     doors: &Doors,

@@ -1,5 +1,4 @@
-//! A server as it is ordered: its map, where it listens, and then its connections. Rules without a section are this
-//! profile's own.
+//! Runs a server as ordered: reads its map, listens, and answers connections.
 ghost use Rattle.std.specs.Prelude.{◌≡◌};
 ghost use Rattle.lost_worker.specs.Desking.{IsSameDesk};
 
@@ -31,18 +30,18 @@ use std::thread::Threads;
 use std::time::{Clock, Duration};
 use std::{fs, thread};
 
-/// What stands for standard input in the place of a map's file.
+/// The file name that means standard input.
 const STANDARD_INPUT: &str = "-";
 
-/// Runs a server as it is ordered: it reads its map, listens, says by `ready` that it is ready, and answers connections. With
-/// a number of connections it ends when all of them have ended; without one it ends once `is_over` is set and a connection
-/// comes after that, when all connections have ended. Its status is answered from the beginning. It gives the sums of what
-/// was counted of the query connections.
+/// Runs a server as ordered: it reads its map, listens, tells `ready`, and answers connections. With a number of
+/// connections it ends when all of them have ended. Without one it ends once `is_over` is set, one more connection
+/// comes, and all connections have ended. Its status is answered from the beginning. Gives the sums of the query
+/// connections' counts.
 ///
 /// # Errors
 ///
-/// [`ServerFault::Map`] where the map was not loaded, before it listens; [`ServerFault::Address`] where an address cannot be
-/// listened on; [`ServerFault::Ready`] where `ready` fails; [`ServerFault::Run`] as [`crate::serve`] has it.
+/// [`ServerFault::Map`] if the map was not loaded, before it listens; [`ServerFault::Address`] if an address cannot be
+/// listened on; [`ServerFault::Ready`] if `ready` fails; [`ServerFault::Run`] as [`crate::serve`] says.
 pub fn run_server<
     R: Threads
         + Wait
@@ -69,7 +68,7 @@ pub fn run_server<
     }
 }
 
-/// Runs a server over a desk that is open, and answers for its status meanwhile, where that is ordered.
+/// Runs a server over an open desk, and meanwhile answers for its status, if that is ordered.
 fn run_open<
     R: Threads
         + Wait
@@ -233,7 +232,7 @@ fn remove_sockets<R: Files>(rt: &R, order: &ServerOrder<'_>) {
     }
 }
 
-/// Says that the server is ready, and answers connections.
+/// Tells `ready`, and answers connections.
 fn answer<
     R: Threads
         + Wait
@@ -275,7 +274,7 @@ fn answer<
     result
 }
 
-/// Says that the server is ready, and answers connections. What is said of them is given to `mouth`.
+/// Tells `ready`, and answers connections. Lines about them go to `mouth`.
 fn answer_aloud<
     R: Threads + Wait + Clock + Eprint + AllocGlobal + Net + RandomSource + Clone + Send + Sync,
     Y: Ready,
@@ -388,7 +387,7 @@ fn listen_at<
     }
 }
 
-/// What is counted of a server with so many workers, which starts now.
+/// The counters of a server with this many workers that starts now.
 fn status_of<R: Clock + AllocGlobal>(rt: &R, workers: u32) -> Result<Arc<Status>, ServerFault> {
     let started = rt.since_1970().unwrap_or(Duration::from_secs(0));
     match shared_status(rt.alloc(), workers, started) {

@@ -1,4 +1,4 @@
-//! What answers those that ask for the status of a server. Rules without a section are this profile's own.
+//! Answers status connections.
 use crate::accepting::accept_until;
 use lost_sockets::{Listener, Stream};
 use lost_status::{Deadline, Status, serve_status};
@@ -9,13 +9,13 @@ use std::sync::atomic::AtomicBool;
 use std::sync::{Arc, Wait};
 use std::time::{Clock, Duration};
 
-/// For how long a read or a write of a status connection may wait, in seconds.
+/// How long a read or a write of a status connection may wait, in seconds.
 const PATIENCE: u64 = 2;
 
-/// For how long a status connection stands, in seconds.
+/// How long a status connection may last, in seconds.
 const LIFE: u64 = 5;
 
-/// What is counted of a server with so many workers, which started so long after 1970-01-01T00:00:00Z.
+/// The counters of a server with this many workers that started `started` after 1970-01-01T00:00:00Z.
 pub(crate) fn shared_status(
     alloc: Global,
     workers: u32,
@@ -28,8 +28,8 @@ pub(crate) fn shared_status(
     }
 }
 
-/// Answers status connections one after another, until the server is over. So one is open at a time, and no worker is
-/// taken.
+/// Answers status connections one after another, until the server is over. So only one is open at a time, and it takes
+/// no worker.
 pub(crate) fn answer_status<R: Wait + Clock + RandomSource>(
     rt: &R,
     alloc: Global,
@@ -45,7 +45,7 @@ pub(crate) fn answer_status<R: Wait + Clock + RandomSource>(
     }
 }
 
-/// Answers a status connection. One that is slow is closed.
+/// Answers a status connection. A slow one is closed.
 fn answer_one<R: Clock + RandomSource>(rt: &R, alloc: Global, stream: &Stream, status: &Status) {
     let Ok(keys) = RandomState::new(rt) else {
         return;

@@ -1,4 +1,4 @@
-//! What says lines on standard error, so that nobody else waits for it. Rules without a section are this profile's own.
+//! A thread that writes lines to standard error, so that nobody else waits for it.
 use crossbeam_channel::{Receiver, Sender, bounded};
 use std::alloc::{AllocError, Global};
 use std::io::Eprint;
@@ -8,29 +8,29 @@ use std::thread;
 use std::thread::{JoinHandle, Threads, sleep};
 use std::time::{Clock, Duration};
 
-/// How many lines may wait until standard error takes them.
+/// The most lines that may wait for standard error.
 const MOST_WAITING: usize = 256;
 
-/// How often it is looked at the end whether all lines are said, and how long to wait between, in milliseconds: 5 seconds.
+/// How often to check at the end whether all lines are written, and the milliseconds between: 5 seconds in all.
 const LAST_LOOKS: u32 = 250;
 
 const PAUSE: u64 = 20;
 
-/// Where lines are given that are to be said.
+/// Takes the lines to be written.
 #[derive(Drop)]
 pub(crate) struct Mouth {
     lines: Sender<String>,
     left_out: Arc<AtomicU64>,
 }
 
-/// The thread that says lines.
+/// The thread that writes lines.
 #[derive(Drop)]
 pub(crate) struct Voice {
     thread: JoinHandle<()>,
     has_ended: Arc<AtomicBool>,
 }
 
-/// What the thread has.
+/// The thread's state.
 #[derive(Drop)]
 struct Saying {
     alloc: Global,
@@ -39,11 +39,11 @@ struct Saying {
     has_ended: Arc<AtomicBool>,
 }
 
-/// Starts a thread that says lines on the standard error of `rt`.
+/// Starts a thread that writes lines to the standard error of `rt`.
 ///
 /// # Errors
 ///
-/// Want of memory, or no thread could be made.
+/// If memory or a thread is refused.
 pub(crate) fn start_voice<R: Threads + Wait + Eprint + Clone + Send + Drop + 'static>(
     rt: &R,
     alloc: Global,
@@ -73,7 +73,7 @@ pub(crate) fn start_voice<R: Threads + Wait + Eprint + Clone + Send + Drop + 'st
 }
 
 impl Mouth {
-    /// Has a line said in its turn. Where too many wait, it is left out and counted.
+    /// Queues a line to be written. If too many wait, it is left out and counted.
     pub(crate) fn say<R: Wait>(&self, rt: &R, line: String) {
         if self.lines.try_send(rt, line).is_err() {
             self.left_out.fetch_add(1, Ordering::SeqCst);
@@ -82,20 +82,20 @@ impl Mouth {
 }
 
 impl Saying {
-    /// Says each line that is given, until none will be.
+    /// Writes each line that is given, until no more can come.
     fn say_all<R: Wait + Eprint>(&self, rt: &R) {
         for _ in rt.forever() {
             let Ok(line) = self.lines.recv(rt) else {
                 break;
             };
-            // Where standard error fails, the status still tells.
+            // If standard error fails, the line is lost.
             let _said = rt.eprint(line.as_str());
             self.say_left_out(rt);
         }
         self.has_ended.store(true, Ordering::SeqCst);
     }
 
-    /// Says how many lines were left out since this was last said, where there are any.
+    /// Writes how many lines were left out since the last such report, if any were.
     fn say_left_out<R: Eprint>(&self, rt: &R) {
         let count = self.left_out.swap(0, Ordering::SeqCst);
         if count > 0
@@ -107,8 +107,8 @@ impl Saying {
 }
 
 impl Voice {
-    /// Waits until all lines are said, where nobody can give any more; but for 5 seconds at most, since standard error may
-    /// take none.
+    /// Waits until all lines are written. Nobody can give any more by then. It waits for 5 seconds at most, since
+    /// standard error may take none.
     pub(crate) fn finish<R: Threads + Wait + Clock>(self, rt: &R) {
         let Voice { thread, has_ended } = self;
         for _ in 0..LAST_LOOKS {
@@ -121,9 +121,9 @@ impl Voice {
     }
 }
 
-/// The line about lines that were left out.
+/// The report of left-out lines.
 fn left_out_line(alloc: Global, count: u64) -> Result<String, AllocError> {
     format!(in alloc;
-        "lostd: {count} lines were left out here: standard error took none for too long\n"
+        "lostd: {count} lines were left out here: nothing read standard error in time\n"
     )
 }

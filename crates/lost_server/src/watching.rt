@@ -1,4 +1,4 @@
-//! The loop of a worker that watches many connections. Rules without a section are this profile's own.
+//! The loop of a worker that watches many connections.
 ghost use Rattle.std.specs.Prelude.{◌<◌, length};
 
 use crate::arrivals::{ARRIVALS, Arrival};
@@ -22,30 +22,30 @@ use std::sync::Wait;
 use std::thread::sleep;
 use std::time::{Clock, Duration};
 
-/// The most bytes of one read, and so the most of one burst.
+/// The most bytes of one read, and so of one burst.
 const CHUNK: usize = 4_096;
 
 /// The most events that are reported at once.
 const MOST_EVENTS: usize = 1_024;
 
-/// How often in a row it is asked for further events, where as many came as are reported at once.
+/// How often in a row to ask for further events, if as many came as are reported at once.
 const MOST_POLLS: u32 = 256;
 
-/// How often it is looked which connections have passed a limit, in milliseconds.
+/// How often to check which connections have passed a limit, in milliseconds.
 const SWEEP: u64 = 250;
 
-/// How long to wait where it cannot be waited for events, in milliseconds.
+/// How long to pause if waiting for events fails, in milliseconds.
 const PAUSE: u64 = 20;
 
-/// What a worker notes of a connection.
+/// A worker's note on a connection.
 #[derive(Drop)]
 struct Note {
     /// Its number, from 1.
     number: u64,
     peer: Peer,
-    /// Whether it is among those that are to be served at once.
+    /// Whether it is in the queue of connections to serve at once.
     is_queued: bool,
-    /// How often bytes had come, and the ends of lines, and how many bytes were taken, when it was last looked at.
+    /// At the last look: how often bytes had come, how often line ends, and how many bytes were taken.
     reads: u64,
     ends: u64,
     taken: u64,
@@ -53,7 +53,7 @@ struct Note {
 }
 
 impl Note {
-    /// What is noted of a connection that begins now.
+    /// The note on a connection that begins now.
     fn new(number: u64, peer: Peer, now: Duration) -> Note {
         Note {
             number,
@@ -67,7 +67,7 @@ impl Note {
     }
 }
 
-/// The connections that one worker watches: those that come, all of them, and those that are to be served at once.
+/// The connections that one worker watches: the arriving ones, all of them, and those to serve at once.
 #[derive(Drop)]
 pub(crate) struct Watcher {
     arrivals: Receiver<Arrival>,
@@ -76,18 +76,18 @@ pub(crate) struct Watcher {
     clients: Clients<InHalf, OutHalf, Note>,
     queue: VecDeque<usize>,
     chunk: Vec<u8>,
-    /// The moment of this round, of the monotonic clock.
+    /// The time of this round, by the monotonic clock.
     now: Duration,
-    /// When it was last looked which connections have passed a limit.
+    /// The time of the last check of limits.
     swept: Duration,
-    /// Whether no further ones come.
+    /// Whether no more connections come.
     is_closing: bool,
     counts: Counts,
     ghost room: { 0 < length chunk.items },
 }
 
 impl Watcher {
-    /// No connection, where those come from `arrivals` of which `poll` is told.
+    /// No connections. New ones come from `arrivals`, and `poll` tells of them.
     pub(crate) fn new(
         alloc: Global,
         arrivals: Receiver<Arrival>,
@@ -107,7 +107,7 @@ impl Watcher {
         })
     }
 
-    /// Serves connections until no further ones come and all have ended, and gives what was counted.
+    /// Serves connections until no more come and all have ended, and gives the counts.
     pub(crate) fn watch<R: Wait + Clock + Eprint + Drop, P: Replier, G>(
         &mut self,
         shared: &Shared<'_, R, G>,
@@ -129,7 +129,7 @@ impl Watcher {
         self.counts
     }
 
-    /// Waits until something is to be done, and takes what has come.
+    /// Waits until there is something to do, and takes what has come.
     fn wait<R: Wait + Clock + Eprint + Drop, G>(&mut self, shared: &Shared<'_, R, G>, hall: &Hall) {
         let mut patience = self.patience(hall);
         let mut have_come = false;
@@ -150,7 +150,7 @@ impl Watcher {
         }
     }
 
-    /// For how long nothing may be done: for ever where nobody is there who could pass a limit.
+    /// How long to wait for events: for ever if no connection could pass a limit.
     fn patience(&self, hall: &Hall) -> Option<Duration> {
         if !self.queue.is_empty() {
             return Some(Duration::ZERO);
@@ -161,7 +161,7 @@ impl Watcher {
         Some(Duration::from_millis(SWEEP))
     }
 
-    /// Queues the connections at which something happened. Says whether further ones came.
+    /// Queues the connections at which something happened. Says whether new ones came.
     fn queue_ready(&mut self) -> bool {
         let mut have_come = false;
         for event in self.events.iter() {
@@ -193,7 +193,7 @@ impl Watcher {
         }
     }
 
-    /// Takes a connection, or closes it where memory runs out.
+    /// Takes a connection, or closes it if it cannot be watched.
     fn take<R: Wait + Clock + Eprint + Drop, G>(
         &mut self,
         shared: &Shared<'_, R, G>,
@@ -217,7 +217,7 @@ impl Watcher {
         }
     }
 
-    /// Watches a connection from here on. Says whether it could be; else it is closed.
+    /// Watches a connection from here on. Says whether that succeeded; if not, it is closed.
     fn seat(&mut self, alloc: Global, stream: Stream, note: Note) -> bool {
         let fd = stream.raw_fd();
         if stream.set_nonblocking(true).is_err() {
@@ -226,7 +226,7 @@ impl Watcher {
         let Ok((input, output)) = halves_of(alloc, stream) else {
             return false;
         };
-        // Each is queued once at most, so that there is room for all.
+        // Each is queued once at most, so there is room for all.
         if self
             .queue
             .reserve(self.clients.len().saturating_add(1))
@@ -251,7 +251,7 @@ impl Watcher {
         true
     }
 
-    /// Serves a burst of each connection that is queued.
+    /// Serves a burst of each queued connection.
     fn serve_queued<R: Wait + Clock + Eprint + Drop, P: Replier, M: Moments, G>(
         &mut self,
         shared: &Shared<'_, R, G>,
@@ -266,7 +266,7 @@ impl Watcher {
         }
     }
 
-    /// Serves a burst of a connection. Where more may be there at once, it is queued behind the others.
+    /// Serves a burst of a connection. If more may be there at once, it is queued behind the others.
     fn serve<R: Wait + Clock + Eprint + Drop, P: Replier, M: Moments, G>(
         &mut self,
         shared: &Shared<'_, R, G>,
@@ -299,7 +299,7 @@ impl Watcher {
         }
     }
 
-    /// Notes what a burst showed of a connection.
+    /// Notes what a burst showed about a connection.
     fn look_at(&mut self, key: usize) {
         let now = self.now;
         if let Some(seat) = self.clients.get_mut(key) {
@@ -311,7 +311,7 @@ impl Watcher {
         }
     }
 
-    /// Closes the connections that have passed a limit, where it is time to look.
+    /// Closes the connections that have passed a limit, if a check is due.
     fn sweep<R: Wait + Clock + Eprint + Drop, G>(
         &mut self,
         shared: &Shared<'_, R, G>,
@@ -328,13 +328,13 @@ impl Watcher {
         }
     }
 
-    /// The limit that the connection under a key has passed, if it has.
+    /// The limit that the connection under a key has passed, if any.
     fn passed_at(&self, hall: &Hall, key: usize) -> Option<Passed> {
         let seat = self.clients.get(key)?;
         seat.note.times.passed(&hall.limits, self.now)
     }
 
-    /// Closes a connection, whose cause is said where it is a fault.
+    /// Closes a connection, and reports the cause if it is a fault.
     fn end<R: Wait + Clock + Eprint + Drop, G>(
         &mut self,
         shared: &Shared<'_, R, G>,
@@ -351,7 +351,7 @@ impl Watcher {
         self.count_ended(shared, seat.note.number, &seat.note.peer, cause);
     }
 
-    /// Counts that a connection has ended, and says the cause where it is a fault.
+    /// Counts that a connection has ended, and reports the cause if it is a fault.
     fn count_ended<R: Wait + Clock + Eprint + Drop, G>(
         &mut self,
         shared: &Shared<'_, R, G>,
@@ -367,7 +367,7 @@ impl Watcher {
     }
 }
 
-/// Queues a connection behind those that are to be served at once, unless it is among them.
+/// Queues a connection to be served at once, unless it is queued already.
 fn queue_once(
     clients: &mut Clients<InHalf, OutHalf, Note>,
     queue: &mut VecDeque<usize>,
@@ -381,7 +381,7 @@ fn queue_once(
     }
 }
 
-/// What a connection shows since it was last looked at.
+/// What a connection shows since the last look.
 fn shown_of(seat: &Seat<InHalf, OutHalf, Note>) -> Shown {
     let (input, output) = (seat.client.input(), seat.client.output());
     let has_taken = output.taken() != seat.note.taken;
@@ -395,14 +395,14 @@ fn shown_of(seat: &Seat<InHalf, OutHalf, Note>) -> Shown {
     }
 }
 
-/// Says in the status whether a worker serves.
+/// Sets in the status whether a worker serves.
 fn set_busy(counts: Option<&WorkerCounts>, is_busy: bool) {
     if let Some(counts) = counts {
         counts.set_busy(is_busy);
     }
 }
 
-/// What is said of a connection that cannot be served further.
+/// The report of a connection that cannot be served further.
 fn fault_text(fault: ClientFault) -> &'static str {
     match fault {
         ClientFault::Read => "it could not be read",

@@ -1,4 +1,4 @@
-//! The workers. Rules without a section are this profile's own.
+//! The workers.
 ghost use Rattle.std.specs.Prelude.{◌≡◌, IfSome};
 ghost use Rattle.lost_spec.specs.Laws.{BeginsWith};
 
@@ -18,10 +18,10 @@ use std::time::Clock;
 /// The most workers.
 const MAX_WORKERS: u32 = 64;
 
-/// How many places each worker keeps what holds them of.
+/// How many places each worker's cache has room for.
 pub(crate) const PLACES: u32 = 1_024;
 
-/// What one worker has: its number, from 0, its reader, and where it takes connections from.
+/// One worker: its number, from 0, its reader, and where it takes connections from.
 #[derive(Drop)]
 pub(crate) struct WorkerParts<R: Wait + Clock + Eprint + Drop> {
     number: usize,
@@ -29,8 +29,8 @@ pub(crate) struct WorkerParts<R: Wait + Clock + Eprint + Drop> {
     queries: Queries<R>,
 }
 
-/// A worker for each reader, all of which take query connections from one channel. Each begins with what the desk has
-/// published, and keeps places by hashes of its own, which no client knows.
+/// A worker for each reader. All take query connections from one channel. Each begins with what the desk has published,
+/// and keeps places by hashes with keys of its own, which no client knows.
 pub(crate) fn workers_of<R: Wait + Clock + Eprint + RandomSource + Drop>(
     rt: &R,
     alloc: Global,
@@ -61,7 +61,7 @@ pub(crate) fn workers_of<R: Wait + Clock + Eprint + RandomSource + Drop>(
     Ok(workers)
 }
 
-/// A reader that nobody has taken, which from its first reply on answers from no less than what the desk has published.
+/// A reader that nobody has taken. Each of its replies is from a list that begins with what the desk has published.
 pub(crate) fn told_reader(desk: &mut Desk, readers: &mut Readers) -> Option<Reader>
     requires { readers.old.each.opening ≡ desk.old.opening }
     ensures told { IfSome result (λ reader. BeginsWith reader.seen desk.old.published) }
@@ -73,7 +73,7 @@ pub(crate) fn told_reader(desk: &mut Desk, readers: &mut Readers) -> Option<Read
     Some(reader)
 }
 
-/// What the thread of a worker does: it serves query connections until there are no more, and gives what it counted.
+/// The thread of a worker: it serves query connections until there are no more, and gives its counts.
 pub(crate) fn work<R: Wait + Clock + Eprint + Drop, G: Gate>(
     shared: &Shared<'_, R, G>,
     worker: WorkerParts<R>,
@@ -95,7 +95,7 @@ pub(crate) fn work<R: Wait + Clock + Eprint + Drop, G: Gate>(
     }
 }
 
-/// Serves query connections by this replier until there are no more.
+/// Serves query connections with this replier until there are no more.
 fn answer_queries<R: Wait + Clock + Eprint + Drop, P: Replier, G: Gate>(
     shared: &Shared<'_, R, G>,
     queries: &Queries<R>,

@@ -1,4 +1,4 @@
-//! How connections are accepted. Rules without a section are this profile's own.
+//! Accepting connections.
 ghost use Rattle.std.specs.Prelude.{IfSome};
 ghost use Rattle.lost_sockets.specs.Kind.{AreOfKind};
 
@@ -11,10 +11,11 @@ use std::time::{Clock, Duration};
 /// How often in a row an accept may fail before the listener is given up.
 const MAX_ATTEMPTS: u32 = 360_000;
 
-/// How long to wait after an accept that failed, as it does where too many files are open, in milliseconds.
+/// How long to wait after a failed accept, as when too many files are open, in milliseconds.
 const PAUSE: u64 = 10;
 
-/// Waits for the next connection. An accept that fails is made again after a pause; after 360,000 failures in a row, an hour, the listener is given up.
+/// Waits for the next connection. A failed accept is repeated after a pause. After 360,000 failures in a row, an hour,
+/// the listener is given up: `None`.
 pub fn accept<R: Clock>(rt: &R, listener: &Listener) -> Option<(Stream, Peer)>
     ensures { IfSome result (AreOfKind listener.now) }
 {

@@ -1,7 +1,7 @@
-//! Where a server listens, as it is written. Rules without a section are this profile's own.
+//! The text of the address where a server listens.
 ghost use Rattle.lost_sockets.specs.Address.{IsAddressOf};
 
-/// What the address of a Unix socket begins with.
+/// The beginning of a Unix socket's address.
 const UNIX_SCHEME: &str = "unix:";
 
 /// Where a server listens: a host and a port, or the path of a Unix socket.
@@ -14,8 +14,8 @@ pub enum Address<'a> {
 }
 
 impl<'a> Address<'a> {
-    /// The address that a text means: `unix:PATH` is a Unix socket, anything else a host and a port, as given. So a host of
-    /// the name `unix` cannot be named.
+    /// The address that a text names: `unix:PATH` is a Unix socket, anything else a host and a port, as given. So a
+    /// host with the name `unix` cannot be named.
     pub fn of(text: &'a str) -> Address<'a>
         ensures { IsAddressOf text.now result }
     {

@@ -1,4 +1,4 @@
-//! Where a Unix socket is made before anybody may use it. Rules without a section are this profile's own.
+//! The folder in which a Unix socket is made before anybody may use it.
 use crate::listen_error::{ListenError, unix_error_of};
 use crate::socket_file::Standing;
 use std::alloc::{AllocError, Global};
@@ -13,7 +13,7 @@ use std::os::unix::net::UnixListener;
 use std::random::RandomSource;
 use std::rt::Files;
 
-/// The mode of the folder: nobody but this user enters it.
+/// The folder's mode: only this user may enter.
 const FOLDER_MODE: u32 = 0o700;
 
 /// A folder that no other user may enter, and the socket in it.
@@ -24,8 +24,8 @@ pub(crate) struct ClosedFolder {
 }
 
 impl ClosedFolder {
-    /// Makes a folder beside a path. Its name is that of the path, a dot and eight random digits. Where the program is
-    /// killed before it removes the folder, it stays.
+    /// Makes a folder beside a path. Its name is the path, a dot and eight random hexadecimal digits. If the program is
+    /// killed before it removes the folder, the folder stays.
     pub(crate) fn beside<R: Files + RandomSource + AllocGlobal>(
         rt: &R,
         path: &str,
@@ -47,7 +47,7 @@ impl ClosedFolder {
         Ok(ClosedFolder { path, socket })
     }
 
-    /// Makes a socket in the folder, gives it its mode, and puts it to its path.
+    /// Makes a socket in the folder, gives it its mode, and moves it to its path.
     pub(crate) fn listen_at<R: Files + Net>(
         &self,
         rt: &R,
@@ -64,8 +64,8 @@ impl ClosedFolder {
         Ok(listener)
     }
 
-    /// Puts the socket to a path at which nothing stood. A link replaces nothing, so what came there in the meantime stays.
-    /// A file system that has no links may still rename.
+    /// Moves the socket to a path where nothing stood. A link replaces nothing, so what came there meanwhile stays. On
+    /// a file system without links it may still rename.
     fn put_at_free<R: Files>(&self, rt: &R, path: &str) -> io::Result<()> {
         match hard_link(rt, self.socket.as_str(), path) {
             Err(error) if error.kind() != ErrorKind::AlreadyExists => {
@@ -75,15 +75,15 @@ impl ClosedFolder {
         }
     }
 
-    /// Removes the folder, and what is left in it.
+    /// Removes the folder and the socket in it.
     pub(crate) fn remove<R: Files>(self, rt: &R) {
-        // A socket that was renamed is not there any more. What cannot be removed stays.
+        // A renamed socket is no longer there. What cannot be removed stays.
         let _removed = remove_file(rt, self.socket.as_str());
         let _removed = remove_dir(rt, self.path.as_str());
     }
 }
 
-/// A number by which this folder's name differs from others.
+/// A random number for the folder's name.
 fn random_number<R: RandomSource>(rt: &R) -> Result<u32, ListenError> {
     let mut bytes = [0u8; 4];
     match rt.fill_bytes(&mut bytes) {

@@ -1,8 +1,8 @@
-//! How many files a program may have open. Rules without a section are this profile's own.
+//! How many files a program may have open.
 use libc::types::rlimit;
 use libc::{RLIMIT_NOFILE, getrlimit};
 
-/// How many files this program may have open, connections and listeners among them (`ulimit -n`); `None` where the system
+/// How many files this program may have open, connections and listeners included (`ulimit -n`); `None` if the system
 /// does not say.
 pub fn most_files() -> Option<u64> {
     let mut limit = rlimit {

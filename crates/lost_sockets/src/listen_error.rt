@@ -1,4 +1,4 @@
-//! Why an address cannot be listened on. Rules without a section are this profile's own.
+//! Why an address cannot be listened on.
 ghost use Rattle.std.specs.Prelude.{◌≡◌, Some};
 ghost use Rattle.lost_sockets.specs.ListenError.{tcp_error_of, unix_error_of, listen_error_text};
 
@@ -17,7 +17,7 @@ pub enum ListenError {
     PortRights,
     /// The address is not one of this machine.
     NotHere,
-    /// The text is no address or known name, and a port.
+    /// The text is neither an address nor a known name with a port.
     NotAnAddress,
     /// This user may not use what stands at the path, or may make nothing in its folder.
     FileRights,
@@ -31,12 +31,12 @@ pub enum ListenError {
     NotAPath,
     /// No socket could be made at the path, for another reason.
     NotMade,
-    /// Memory ran out.
+    /// Memory was refused.
     Memory,
 }
 
 impl ListenError {
-    /// What is said of it behind an option and its address, in one clause.
+    /// The error's text behind an option and its address, in one clause.
     pub fn text(self) -> &'static str
         ensures { result.now ≡ listen_error_text self }
     {

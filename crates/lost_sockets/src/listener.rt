@@ -1,4 +1,4 @@
-//! What connections are accepted from. Rules without a section are this profile's own.
+//! The source of connections.
 ghost use Rattle.std.specs.Prelude.{◌≡◌, ◌<◌, [], Some, Err, IfOk, IfSome, is_some, length};
 ghost use Rattle.lost_sockets.specs.Kind.{unix_path, is_unix_listener, AreOfKind};
 
@@ -14,11 +14,11 @@ use std::os::unix::net::UnixListener;
 use std::random::RandomSource;
 use std::rt::Files;
 
-/// How many connections may wait to be accepted, at most.
+/// The most connections that may wait to be accepted.
 const MOST_WAITING: i32 = 4_096;
 
-/// What connections are accepted from, over TCP or a Unix socket. It is closed when it is dropped; the file of a Unix
-/// socket stays ([`crate::remove_socket`] removes it).
+/// A source of connections, over TCP or a Unix socket. It is closed when it is dropped. The file of a Unix socket stays
+/// ([`crate::remove_socket`] removes it).
 #[derive(Debug, Drop)]
 pub enum Listener {
     /// A listener of TCP.
@@ -28,7 +28,7 @@ pub enum Listener {
 }
 
 impl Listener {
-    /// Says whether `accept_once` waits for a connection, as it does at first, or fails where none is there.
+    /// Sets whether `accept_once` fails when no connection is there, or waits for one, as it does at first.
     ///
     /// # Errors
     ///
@@ -40,8 +40,8 @@ impl Listener {
         }
     }
 
-    /// Lets 4,096 connections wait to be accepted, or as many as the system allows (on Linux `net.core.somaxconn`), where at
-    /// first 128 may. One more has to ask again, and comes a second later. Where it cannot be set, it stays as it was.
+    /// Lets 4,096 connections wait to be accepted, or as many as the system allows (on Linux `net.core.somaxconn`); at
+    /// first it is 128. One more must ask again, and comes a second later. If this cannot be set, it stays as it was.
     pub fn let_more_wait(&self) {
         let fd = match self {
             Listener::Tcp(listener) => listener.as_raw_fd(),
@@ -50,18 +50,18 @@ impl Listener {
         let _status = libc::net::listen(fd, MOST_WAITING);
     }
 
-    /// Waits for the next connection, which sends at once what is written to it.
+    /// Waits for the next connection. Over TCP, replies are sent as soon as they are written.
     ///
     /// # Errors
     ///
-    /// Those of the system, as where too many files are open.
+    /// Those of the system, as when too many files are open.
     pub fn accept_once(&self) -> io::Result<(Stream, Peer)>
         ensures { IfOk result (AreOfKind self.now) }
     {
         match self {
             Listener::Tcp(listener) => {
                 let (stream, address) = listener.accept()?;
-                // Where it cannot be set, replies come later, and no other.
+                // If this cannot be set, the replies come later, but are the same.
                 let _set = stream.set_nodelay(true);
                 Ok((Stream::Tcp(stream), Peer::Tcp(address)))
             }
@@ -75,19 +75,19 @@ impl Listener {
 
 /// Listens on an address.
 ///
-/// Of TCP it is one address of this machine. Where a name has several, they are tried in the order in which the system
-/// gives them, and the first that can be listened on is the one: `localhost` is `::1` or `127.0.0.1`, and never both. On
-/// `[::]` clients over IPv4 are served too, where the system lets them.
+/// Over TCP it is one address of this machine. If a name has several, they are tried in the system's order, and the
+/// first that can be listened on is used: `localhost` is `::1` or `127.0.0.1`, and never both. On `[::]` clients over
+/// IPv4 are served too, if the system allows it.
 ///
-/// The file of a Unix socket has `mode` (at most `0o777`) from the first moment on. It replaces one that a dead server
-/// left. Where the path is relative, it begins at the folder in which the program was started.
+/// The file of a Unix socket has `mode` (at most `0o777`) from the first moment on. It replaces a file that a dead
+/// server left. A relative path begins at the folder in which the program was started.
 ///
 /// # Errors
 ///
-/// Of TCP: [`ListenError::InUse`], [`ListenError::PortRights`], [`ListenError::NotHere`], [`ListenError::Memory`], and else
-/// [`ListenError::NotAnAddress`]. Of a Unix socket: [`ListenError::NotAPath`], [`ListenError::PathTooLong`],
+/// Over TCP: [`ListenError::InUse`], [`ListenError::PortRights`], [`ListenError::NotHere`], [`ListenError::Memory`],
+/// and else [`ListenError::NotAnAddress`]. For a Unix socket: [`ListenError::NotAPath`], [`ListenError::PathTooLong`],
 /// [`ListenError::InUse`], [`ListenError::NotASocket`], [`ListenError::FileRights`], [`ListenError::NoFolder`],
-/// [`ListenError::Memory`], and else [`ListenError::NotMade`]; what stands at the path is left as it was.
+/// [`ListenError::Memory`], and else [`ListenError::NotMade`]; what stands at the path stays as it was.
 pub fn listen<
     R: Files + Net<Listener = TcpListener, Stream = TcpStream> + RandomSource + AllocGlobal,
 >(rt: &R, address: Address<'_>, mode: u32) -> Result<Listener, ListenError>

@@ -1,4 +1,4 @@
-//! Who may use a socket's file. Rules without a section are this profile's own.
+//! The mode of a socket's file.
 ghost use Rattle.std.specs.Option.{SomeIff};
 ghost use Rattle.std.specs.Str.Parse.{digits_value};
 ghost use Rattle.lost_sockets.specs.Mode.{IsMode};
@@ -6,11 +6,10 @@ ghost use Rattle.lost_sockets.specs.Mode.{IsMode};
 /// The most digits of a mode.
 const MAX_DIGITS: usize = 4;
 
-/// The mode in which everybody has every right.
+/// The mode that gives everybody every right.
 const MAX_MODE: u32 = 0o777;
 
-/// The mode of a socket's file that a text means: one to four octal digits, up to 0777, as `0600` or `660`. `None` for any
-/// other text.
+/// The mode in a text of one to four octal digits, up to 0777, as `0600` or `660`. `None` for any other text.
 pub fn mode_of(text: &str) -> Option<u32>
     ensures { SomeIff result (IsMode text.now) (digits_value 8 text.now) }
 {

@@ -1,4 +1,4 @@
-//! Whom a connection comes from. Rules without a section are this profile's own.
+//! Where a connection comes from.
 ghost use Rattle.std.specs.Prelude.{◌≡◌, Some};
 ghost use Rattle.lost_sockets.specs.Peer.{peer_text, address_of};
 
@@ -6,7 +6,7 @@ use std::fmt;
 use std::fmt::{Display, Formatter};
 use std::net::{IpAddr, SocketAddr};
 
-/// Whom a connection comes from. It is written as its address, or as `a unix socket`.
+/// Where a connection comes from. Its text is its address, or `a unix socket`.
 #[derive(Clone, Copy, PartialEq, Eq, Debug)]
 pub enum Peer {
     /// A client over TCP, with its address.
@@ -16,7 +16,7 @@ pub enum Peer {
 }
 
 impl Peer {
-    /// The address of its machine, without its port. `None` of a Unix socket.
+    /// The address of its machine, without its port. `None` for a Unix socket.
     pub fn address(&self) -> Option<IpAddr>
         ensures { result ≡ address_of self.now }
     {

@@ -1,4 +1,4 @@
-//! The file of a Unix socket. Rules without a section are this profile's own.
+//! The file of a Unix socket.
 use crate::address::Address;
 use crate::listen_error::{ListenError, unix_error_of};
 use std::fs::{remove_file, symlink_metadata};
@@ -8,18 +8,17 @@ use std::os::unix::fs::FileTypeExt;
 use std::os::unix::net::UnixStream;
 use std::rt::Files;
 
-/// What stands at the path of a socket that may be made there.
+/// What stands at a path where a socket may be made.
 #[derive(Clone, Copy, PartialEq, Eq, Debug)]
 pub(crate) enum Standing {
     /// Nothing.
     Nothing,
-    /// The socket of a server that is dead.
+    /// The socket of a dead server.
     Stale,
 }
 
-/// What stands at a path where a socket is to be made. A socket is asked for a connection: where it takes one, its server
-/// lives, and sees a connection that ends at once. The call waits where as many connections wait for that server as the
-/// system lets wait.
+/// What stands at a path where a socket is to be made. A socket is asked for a connection: if it takes one, its server
+/// lives, and sees a connection that ends at once. The call waits while that server's queue of connections is full.
 pub(crate) fn look_at<R: Files + Net>(rt: &R, path: &str) -> Result<Standing, ListenError> {
     match symlink_metadata(rt, path) {
         Ok(metadata) if metadata.file_type().is_socket() => ask(rt, path),
@@ -41,9 +40,9 @@ fn ask<R: Net>(rt: &R, path: &str) -> Result<Standing, ListenError> {
     }
 }
 
-/// Removes the file of a Unix socket, at the end of its server: while the listener stands, so that the file is not that of
-/// a server which came after it. What is no socket is left alone, and so is a TCP address. A file that cannot be removed
-/// stays, and the next server replaces it.
+/// Removes the file of a Unix socket, at the end of its server. Call it while the listener stands, so that the file is
+/// not that of a later server. Anything that is no socket is left alone, and so is a TCP address. A file that cannot be
+/// removed stays, and the next server replaces it.
 pub fn remove_socket<R: Files>(rt: &R, address: Address<'_>) {
     let Address::Unix(path) = address else {
         return;

@@ -1,4 +1,4 @@
-//! A connection. Rules without a section are this profile's own.
+//! A connection.
 ghost use Rattle.std.specs.Prelude.{◌≡◌, true, false, None, IfSome};
 ghost use Rattle.std.specs.Duration.{as_nanos};
 ghost use Rattle.std.specs.Io.{ReadsAtMost, WritesAtMost};
@@ -20,8 +20,8 @@ pub enum Stream {
 }
 
 impl Stream {
-    /// Has each read and each write fail that waits longer than `idle`; none does where `idle` is `None`. Says whether that
-    /// could be set: a time of 0 never is.
+    /// Fails each read and each write that waits longer than `idle`; none if `idle` is `None`. Says whether that could
+    /// be set: a time of 0 never can.
     pub fn limit_waiting(&self, idle: Option<Duration>) -> bool
         ensures unlimited { idle ≡ None → result ≡ true }
         ensures no_time { IfSome idle (λ d. as_nanos d ≡ 0 → result ≡ false) }
@@ -37,7 +37,7 @@ impl Stream {
         }
     }
 
-    /// Says whether a read and a write wait, as they do at first, or fail with `WouldBlock` where they would.
+    /// Sets whether a read and a write fail with `WouldBlock` instead of waiting. At first they wait.
     ///
     /// # Errors
     ///
@@ -49,7 +49,7 @@ impl Stream {
         }
     }
 
-    /// The number of its descriptor, which the system may give to another once the connection is closed.
+    /// The number of its descriptor. The system may give it to another file once the connection is closed.
     pub fn raw_fd(&self) -> RawFd {
         match self {
             Stream::Tcp(stream) => stream.as_raw_fd(),
@@ -57,7 +57,7 @@ impl Stream {
         }
     }
 
-    /// Reads what has come, and waits where nothing has.
+    /// Reads what has come, and waits if nothing has.
     fn receive(&self, buf: &mut [u8]) -> io::Result<usize>
         ensures { ReadsAtMost result buf.new }
     {
@@ -67,7 +67,7 @@ impl Stream {
         }
     }
 
-    /// Writes as much as is taken, and waits where nothing is.
+    /// Writes as much as the system takes, and waits if it takes nothing.
     fn send(&self, buf: &[u8]) -> io::Result<usize>
         ensures { WritesAtMost result buf.now }
     {

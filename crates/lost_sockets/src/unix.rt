@@ -1,4 +1,4 @@
-//! How a Unix socket comes to its path. Rules without a section are this profile's own.
+//! How a Unix socket is made at its path.
 ghost use Rattle.std.specs.Prelude.{◌≡◌, ◌<◌, ◌↔◌, [], Err, length};
 
 use crate::closed_folder::ClosedFolder;
@@ -9,14 +9,14 @@ use std::os::unix::net::UnixListener;
 use std::random::RandomSource;
 use std::rt::Files;
 
-/// The most bytes of a path: the system takes 107, of which 11 go to the name of the socket before it comes to its path.
+/// The most bytes of a path: the system takes 107, and the socket's first name has 11 more than the path.
 const MAX_PATH: usize = 96;
 
-/// Listens at a path. The socket is made in a folder that no other user may enter, gets its mode there, and then comes to
-/// its path in one step. So it is never open to more users than the mode says.
+/// Listens at a path. The socket is made in a folder that no other user may enter, gets its mode there, and then moves
+/// to its path in one step. So it is never open to more users than the mode says.
 ///
-/// Two servers that find no file there cannot both come to the path. Two that find the file of one dead server can: the
-/// second then takes the place of the first.
+/// If no file is there, two servers cannot both take the path. If a dead server's file is there, they can: the second
+/// server then takes the place of the first.
 pub(crate) fn listen_unix<R: Files + Net + RandomSource + AllocGlobal>(
     rt: &R,
     path: &str,
@@ -36,7 +36,7 @@ pub(crate) fn listen_unix<R: Files + Net + RandomSource + AllocGlobal>(
     }
 }
 
-/// Refuses a path that is empty, and one that leaves no room for the name which the socket has before it comes to its path.
+/// Refuses an empty path, and one that leaves no room for the longer name that the socket has at first.
 fn check_path(path: &str) -> Result<(), ListenError>
     ensures empty { (result ≡ Err ListenError.NotAPath) ↔ (path.now ≡ []) }
     ensures long { (result ≡ Err ListenError.PathTooLong) ↔ (96 < length path.now) }

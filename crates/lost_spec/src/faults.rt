@@ -94,15 +94,15 @@ impl Coded for RingError {
 /// checks: an address checks 3, 2, 1, 4, and a pattern 3, 2, 5, 1, 4.
 #[derive(Clone, Copy, PartialEq, Eq, Debug, Error)]
 pub enum CivicError {
-    #[error("no name is that of a civic element")]
+    #[error("no name is a civic element")]
     NoKnownElement,
-    #[error("a name stands twice")]
+    #[error("a name occurs twice")]
     Repeated,
     #[error("there are more than 128 pairs, or a name or a value has more than 512 bytes")]
     TooLong,
     #[error("memory ran out")]
     Memory,
-    #[error("a name is not that of a civic element")]
+    #[error("a name is not a civic element")]
     UnknownElement,
 }
 
@@ -126,7 +126,7 @@ impl Coded for CivicError {
 /// Why a text is no mapping source and no server name (RFC 5222, section 5.1; own spelling).
 #[derive(Clone, Copy, PartialEq, Eq, Debug, Error)]
 pub enum SourceError {
-    #[error("the text is no name of labels joined by dots")]
+    #[error("the text is not a name of labels joined by dots")]
     Bad,
     #[error("memory ran out")]
     Memory,
@@ -149,7 +149,7 @@ impl Coded for SourceError {
 /// Why a text is no stamp (RFC 5222, sections 5.1 and 5.2; own spelling).
 #[derive(Clone, Copy, PartialEq, Eq, Debug, Error)]
 pub enum StampError {
-    #[error("the text is no time in UTC such as 2026-01-01T00:00:00Z")]
+    #[error("the text is not a time in UTC, such as 2026-01-01T00:00:00Z")]
     Bad,
     #[error("memory ran out")]
     Memory,
@@ -172,27 +172,27 @@ impl Coded for StampError {
 /// Why the parts of a mapping are no mapping (RFC 5222, section 5; the bounds are own rules).
 #[derive(Clone, Copy, PartialEq, Eq, Debug, Error)]
 pub enum MappingError {
-    #[error("the source is no name of labels joined by dots")]
+    #[error("the source is not a name of labels joined by dots")]
     BadSource,
-    #[error("the sourceId is no text of 1 to 128 bytes without control characters")]
+    #[error("the sourceId is not a text of 1 to 128 bytes without control characters")]
     BadSourceId,
-    #[error("lastUpdated is no stamp")]
+    #[error("lastUpdated is not a stamp")]
     BadStamp,
-    #[error("expires is neither NO-CACHE, NO-EXPIRATION nor a stamp")]
+    #[error("expires is not a stamp, NO-CACHE or NO-EXPIRATION")]
     BadExpires,
-    #[error("the service is no service URN")]
+    #[error("the service is not a service URN")]
     BadService,
-    #[error("the list of URIs is empty or too long, or has a bad URI or a scheme twice")]
+    #[error("the list of URIs is empty or too long, or has a bad URI or two of one scheme")]
     BadUri,
-    #[error("the service number is no text of 1 to 64 digits, stars and hashes")]
+    #[error("the service number is not a text of 1 to 64 digits, stars and hashes")]
     BadNumber,
-    #[error("a region is no polygon and no civic pattern")]
+    #[error("a region is neither a polygon nor a civic pattern")]
     BadRegion,
-    #[error("a default has a region, or another mapping has none")]
+    #[error("a default has a region, or a mapping that is not a default has none")]
     RegionMissing,
     #[error("there are too many polygons, patterns or display names, or a display name is too long")]
     TooLarge,
-    #[error("the key is bad, or stands at a default, or is missing elsewhere")]
+    #[error("the key is bad, a default has one, or a mapping that is not a default has none")]
     BadKey,
     #[error("memory ran out")]
     Memory,
@@ -235,15 +235,15 @@ pub enum EditError {
     KeyHeld,
     #[error("the regions changed and the key did not")]
     KeyUnchanged,
-    #[error("as many mappings as the limit are held")]
+    #[error("the limit of mappings is reached")]
     Full,
-    #[error("as many edits as the limit were accepted")]
+    #[error("the limit of edits is reached")]
     EditsSpent,
     #[error("memory ran out")]
     Memory,
     #[error("the identity was withdrawn, and lastUpdated is not after that of the withdrawal")]
     Withdrawn,
-    #[error("as many withdrawn identities as the limit are remembered")]
+    #[error("the limit of withdrawn identities is reached")]
     TracesFull,
 }
 

@@ -1,8 +1,7 @@
-//! What is counted of query connections. Rules without a section are this profile's own.
+//! Counts of query connections.
 use std::sync::atomic::{AtomicU64, Ordering};
 
-/// How many query connections were accepted, taken by a worker and ended, how many of them in a fault, and how many others
-/// were refused.
+/// Counts of query connections: accepted, taken by a worker, ended, ended in a fault, and refused.
 #[derive(Drop)]
 pub(crate) struct ConnectionCounts {
     accepted: AtomicU64,
@@ -12,7 +11,7 @@ pub(crate) struct ConnectionCounts {
     refused: AtomicU64,
 }
 
-/// How many query connections there are at one moment.
+/// The counts of query connections at one moment.
 #[derive(Clone, Copy)]
 pub(crate) struct Connections {
     /// How many were accepted in all.
@@ -62,8 +61,8 @@ impl ConnectionCounts {
         self.refused.fetch_add(1, Ordering::SeqCst);
     }
 
-    /// How many there are now. What comes last in the life of a connection is read first, so that none is missing from
-    /// those that were accepted.
+    /// The counts now. The later steps in a connection's life are read first, so that each connection they count is
+    /// among those accepted.
     pub(crate) fn now(&self) -> Connections {
         let faults = self.faults.load(Ordering::SeqCst);
         let ended = self.ended.load(Ordering::SeqCst);

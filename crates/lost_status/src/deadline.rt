@@ -1,4 +1,4 @@
-//! A reader or a writer that is cut off in time. Rules without a section are this profile's own.
+//! A reader or a writer with a time limit for the whole connection.
 ghost use Rattle.std.specs.Prelude.{◌≡◌, ◌-◌, ◌≤◌, ◌↔◌, IsTrue};
 ghost use Rattle.std.specs.Duration.{as_nanos};
 ghost use Rattle.lost_status.specs.Deadline.{inner_of};
@@ -7,10 +7,9 @@ use std::io;
 use std::io::{ErrorKind, Read, Write};
 use std::time::{Clock, Duration};
 
-/// A reader or a writer whose calls fail with [`ErrorKind::TimedOut`] once so much time is over since it was made: also
-/// where the peer sends a byte now and then, so that no read of it waits for long. Before that each call is passed on, and
-/// one that has begun is not cut off: the stream inside is to have a limit of its own for each. A clock that cannot be read
-/// ends it at once.
+/// A reader or a writer whose calls fail with [`ErrorKind::TimedOut`] once `limit` has passed since it was made, also
+/// if the peer sends a byte now and then. Before that each call is passed on. A call that has begun is not cut off: the
+/// inner stream needs a limit of its own for each call. If the clock cannot be read, each call fails.
 #[derive(Drop)]
 pub struct Deadline<'r, T, R: Clock> {
     rt: &'r R,
@@ -20,7 +19,7 @@ pub struct Deadline<'r, T, R: Clock> {
 }
 
 impl<'r, T, R: Clock> Deadline<'r, T, R> {
-    /// Cuts `inner` off once so much time is over from now on.
+    /// Fails the calls of `inner` once `limit` has passed from now on.
     pub fn new(rt: &'r R, inner: T, limit: Duration) -> Deadline<'r, T, R>
         ensures { inner_of result ≡ inner }
     {
@@ -32,7 +31,7 @@ impl<'r, T, R: Clock> Deadline<'r, T, R> {
         }
     }
 
-    /// An error where the time is over.
+    /// [`ErrorKind::TimedOut`] if the time is over.
     fn check(&self) -> io::Result<()> {
         match (self.started, self.rt.monotonic()) {
             (Some(started), Ok(now)) if !is_over(started, now, self.limit) => Ok(()),
@@ -41,7 +40,7 @@ impl<'r, T, R: Clock> Deadline<'r, T, R> {
     }
 }
 
-/// Whether so much time or more has passed between two moments of a clock.
+/// Whether `limit` or more has passed between two readings of a clock.
 fn is_over(started: Duration, now: Duration, limit: Duration) -> bool
     ensures { IsTrue result ↔ (as_nanos limit ≤ as_nanos now - as_nanos started) }
 {

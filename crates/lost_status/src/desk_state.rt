@@ -1,27 +1,27 @@
-//! What the desk tells. Rules without a section are this profile's own.
+//! The desk's numbers.
 use std::array;
 use std::sync::atomic::{AtomicBool, AtomicU64, Ordering};
 use std::time::Duration;
 
-/// The greatest code of the table of refusals, which begins at 1.
+/// The greatest refusal code. Codes begin at 1.
 pub(crate) const LAST_CODE: u8 = 22;
 
-/// How many codes that table has.
+/// How many refusal codes there are.
 pub(crate) const CODES: usize = 22;
 
-/// What the desk holds, when it last published, and what it refused.
+/// What the desk holds, when it last committed, and which lines it refused.
 #[derive(Drop)]
 pub(crate) struct DeskState {
     edition: AtomicU64,
     mappings: AtomicU64,
     pending: AtomicU64,
-    /// In seconds since 1970; 0 where there was no commit.
+    /// In seconds since 1970; 0 if there was no commit.
     last_commit: AtomicU64,
     is_open: AtomicBool,
     refusals: [AtomicU64; CODES],
 }
 
-/// What the desk holds at one moment, and what it refused so far.
+/// What the desk holds at one moment, and which lines it has refused so far.
 #[derive(Clone, Copy)]
 pub(crate) struct DeskNow {
     /// How many edits are published.
@@ -30,7 +30,7 @@ pub(crate) struct DeskNow {
     pub(crate) mappings: u64,
     /// How many edits are staged and not published.
     pub(crate) pending: u64,
-    /// When it last published, in seconds since 1970; 0 where it never did.
+    /// When the desk last committed, in seconds since 1970; 0 if it never did.
     pub(crate) last_commit: u64,
     /// Whether a desk is connected.
     pub(crate) is_open: bool,
@@ -51,7 +51,7 @@ impl DeskState {
         }
     }
 
-    /// One more line was refused with this code. A code that is not of the table is not counted.
+    /// Counts one more refused line with this code. An unknown code is not counted.
     pub(crate) fn count_refusal(&self, code: u8) {
         let place = usize::from(code).wrapping_sub(1);
         if let Some(count) = self.refusals.as_slice().get(place) {
@@ -59,25 +59,25 @@ impl DeskState {
         }
     }
 
-    /// What is held. The three are told one after another.
+    /// Sets the book's numbers, one after another.
     pub(crate) fn set_book(&self, edition: u64, mappings: u64, pending: u64) {
         self.edition.store(edition, Ordering::SeqCst);
         self.mappings.store(mappings, Ordering::SeqCst);
         self.pending.store(pending, Ordering::SeqCst);
     }
 
-    /// When it last published.
+    /// Sets the time of the last commit.
     pub(crate) fn set_commit(&self, since_1970: Duration) {
         self.last_commit
             .store(since_1970.as_secs(), Ordering::SeqCst);
     }
 
-    /// Whether a desk is connected.
+    /// Sets whether a desk is connected.
     pub(crate) fn set_desk(&self, is_open: bool) {
         self.is_open.store(is_open, Ordering::SeqCst);
     }
 
-    /// What is held now.
+    /// The numbers now.
     pub(crate) fn now(&self) -> DeskNow {
         DeskNow {
             edition: self.edition.load(Ordering::SeqCst),

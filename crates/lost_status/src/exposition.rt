@@ -5,7 +5,7 @@ ghost use Rattle.lost_status.specs.Exposition.{description, sample};
 use std::alloc::AllocError;
 use std::fmt::Write;
 
-/// Writes what a metric that only rises is for.
+/// Writes the help text and the type of a counter.
 pub(crate) fn describe_counter(text: &mut String, name: &str, help: &str) -> Result<(), AllocError>
     ensures { OnOk result (string_bytes text.new
         ≡ string_bytes text.old ++ description name.now (codes "counter") help.now) }
@@ -13,7 +13,7 @@ pub(crate) fn describe_counter(text: &mut String, name: &str, help: &str) -> Res
     describe(text, name, "counter", help)
 }
 
-/// Writes what a metric that rises and falls is for.
+/// Writes the help text and the type of a gauge.
 pub(crate) fn describe_gauge(text: &mut String, name: &str, help: &str) -> Result<(), AllocError>
     ensures { OnOk result (string_bytes text.new
         ≡ string_bytes text.old ++ description name.now (codes "gauge") help.now) }
@@ -21,7 +21,7 @@ pub(crate) fn describe_gauge(text: &mut String, name: &str, help: &str) -> Resul
     describe(text, name, "gauge", help)
 }
 
-/// Writes what a metric is for, and of which type it is.
+/// Writes the help text and the type of a metric.
 fn describe(text: &mut String, name: &str, kind: &str, help: &str) -> Result<(), AllocError>
     ensures { OnOk result (string_bytes text.new
         ≡ string_bytes text.old ++ description name.now kind.now help.now) }
@@ -29,14 +29,14 @@ fn describe(text: &mut String, name: &str, kind: &str, help: &str) -> Result<(),
     write!(text, "# HELP {name} {help}\n# TYPE {name} {kind}\n")
 }
 
-/// Writes the value of a metric that has one.
+/// Writes the value of a metric without labels.
 fn write_sample(text: &mut String, name: &str, value: u64) -> Result<(), AllocError>
     ensures { OnOk result (string_bytes text.new ≡ string_bytes text.old ++ sample name.now value) }
 {
     write!(text, "{name} {value}\n")
 }
 
-/// Writes a metric that only rises.
+/// Writes a counter.
 pub(crate) fn write_counter(
     text: &mut String,
     name: &str,
@@ -50,7 +50,7 @@ pub(crate) fn write_counter(
     write_sample(text, name, value)
 }
 
-/// Writes a metric that rises and falls.
+/// Writes a gauge.
 pub(crate) fn write_gauge(
     text: &mut String,
     name: &str,

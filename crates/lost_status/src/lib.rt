@@ -1,5 +1,5 @@
-//! What an operator watches of a server (own rules): counters that its threads share without a lock, and the answers of HTTP
-//! that tell them.
+//! What an operator watches on a server (own rules): counters that its threads share without a lock, and the HTTP
+//! answers that show them.
 #![tactic(auto)]
 
 mod connection_counts;

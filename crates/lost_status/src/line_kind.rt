@@ -1,4 +1,4 @@
-//! Which kind of reply a line is. Rules without a section are this profile's own.
+//! Which kind of reply a line is.
 ghost use Rattle.std.specs.Prelude.{◌≡◌, slice_index};
 ghost use Rattle.lost_spec.specs.Request.{Reply};
 ghost use Rattle.lost_writing.specs.Replies.{reply_text};
@@ -7,27 +7,27 @@ ghost use Rattle.lost_status.specs.LineKind.{byte_from_end as byte_from_end_of, 
 
 use crate::reply_kind::ReplyKind;
 
-/// Where the name of a reply's one member begins, in its line.
+/// Where the name of a reply's one member begins in its line.
 const NAME: usize = 2;
 
-/// Where `listServicesByLocationResponse` and `listServicesResponse` part, in the line of either.
+/// Where `listServicesByLocationResponse` and `listServicesResponse` first differ in their lines.
 const PARTING: usize = 14;
 
-/// Where the fifth letter of an error's name stands, counted from the end of both.
+/// Where the fifth letter of an error's name stands, counted from the end of the name and of the line.
 const FIFTH_LETTER: usize = 9;
 
-/// Where its eighth letter stands.
+/// Where the eighth letter stands, counted from the end.
 const EIGHTH_LETTER: usize = 12;
 
-/// The kind of a line that is a reply, its byte 10 too. Few of its bytes are looked at, so that of a line that is no reply
-/// it says nothing.
+/// The kind of a reply's line, with its byte 10. It looks at few of the bytes, so the kind of any other line means
+/// nothing.
 pub fn kind_of(line: &[u8]) -> ReplyKind
     ensures { (reply : Reply) → line.now ≡ reply_text reply → result ≡ kind_of_reply reply }
 {
     told_kind(line)
 }
 
-/// The kind that the first letter of the name tells, and where two names begin alike, the letter at which they part.
+/// The kind by the first letter of the name and, if two names begin alike, by the letter at which they first differ.
 fn told_kind(line: &[u8]) -> ReplyKind
     ensures { result ≡ told_kind_of line.now }
 {
@@ -41,8 +41,8 @@ fn told_kind(line: &[u8]) -> ReplyKind
     }
 }
 
-/// The error of a line. The names of the errors differ in their fifth letter from the end, and two of them in their
-/// eighth; before `loop` stands a quote.
+/// The error of a line. The errors' names differ in the fifth letter from the end, and two of them in the eighth; a
+/// quote stands before `loop`.
 fn told_error(line: &[u8]) -> ReplyKind
     ensures { result ≡ told_error_of line.now }
 {
@@ -59,14 +59,14 @@ fn told_error(line: &[u8]) -> ReplyKind
     }
 }
 
-/// The byte at a place of a line; 0 past its end.
+/// The byte at a place in a line; 0 past its end.
 fn byte_at(line: &[u8], place: usize) -> u8
     ensures { result ≡ slice_index line.now place }
 {
     line.get(place).copied().unwrap_or(0)
 }
 
-/// The byte so many places before the end of a line, which is place 1; the first byte where the line is shorter.
+/// The byte `places` from the end of a line, where the last is 1; the first byte if the line is shorter.
 fn byte_from_end(line: &[u8], places: usize) -> u8
     ensures { result ≡ byte_from_end_of line.now places }
 {

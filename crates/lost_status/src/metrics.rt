@@ -1,4 +1,4 @@
-//! The numbers of a server in the text format 0.0.4 of Prometheus. The names of the metrics are this profile's own.
+//! The numbers of a server in Prometheus' text format, version 0.0.4 (own names).
 ghost use Rattle.std.specs.Prelude.{◌≡◌, ◌∷◌, ◌++◌, OnOk, codes, decimal, string_bytes};
 ghost use Rattle.lost_writing.specs.DeskReplies.{IsCode, refusal_name as refusal_name_of};
 ghost use Rattle.lost_status.specs.Exposition.{counted, label, labelled};
@@ -13,10 +13,10 @@ use lost_writing::refusal_name;
 use std::alloc::{AllocError, Global};
 use std::fmt::Write;
 
-/// The room that the text has at first, in bytes.
+/// The bytes that the text has room for at first.
 const ROOM: usize = 8_192;
 
-/// All numbers, each with what it is.
+/// All metrics, each with its help text.
 pub(crate) fn metrics_text(alloc: Global, now: &Snapshot) -> Result<String, AllocError> {
     let mut text = String::with_capacity(alloc, ROOM)?;
     write_server(&mut text, now)?;
@@ -28,7 +28,7 @@ pub(crate) fn metrics_text(alloc: Global, now: &Snapshot) -> Result<String, Allo
     Ok(text)
 }
 
-/// Writes what the server is, and for how long it has run.
+/// Writes the version and the uptime.
 fn write_server(text: &mut String, now: &Snapshot) -> Result<(), AllocError> {
     describe_gauge(
         text,
@@ -84,7 +84,7 @@ fn write_desk(text: &mut String, desk: &DeskNow) -> Result<(), AllocError> {
     )
 }
 
-/// Writes how many replies were given, by kind.
+/// Writes the number of replies by kind.
 fn write_replies(text: &mut String, replies: &[u64; KINDS]) -> Result<(), AllocError> {
     describe_counter(
         text,
@@ -97,7 +97,7 @@ fn write_replies(text: &mut String, replies: &[u64; KINDS]) -> Result<(), AllocE
     Ok(())
 }
 
-/// Writes how many replies of the kind with this name were given.
+/// Writes the number of replies of the kind with this name.
 fn write_kind(text: &mut String, name: &str, count: u64) -> Result<(), AllocError>
     ensures { OnOk result (string_bytes text.new ≡ string_bytes text.old
         ++ labelled (codes "lostd_replies_total") (label (codes "kind") name.now (counted count))) }
@@ -105,7 +105,7 @@ fn write_kind(text: &mut String, name: &str, count: u64) -> Result<(), AllocErro
     write!(text, "lostd_replies_total{{kind=\"{name}\"}} {count}\n")
 }
 
-/// Writes how many lines of the desk were refused, by code.
+/// Writes the number of refused desk lines by code.
 fn write_refusals(text: &mut String, refusals: &[u64; CODES]) -> Result<(), AllocError> {
     describe_counter(
         text,
@@ -118,7 +118,7 @@ fn write_refusals(text: &mut String, refusals: &[u64; CODES]) -> Result<(), Allo
     Ok(())
 }
 
-/// Writes how many lines were refused with a code. The caller has: the code is one of the table.
+/// Writes the number of lines refused with a code. The caller has checked that the code is in the table.
 fn write_code(text: &mut String, code: u8, count: u64) -> Result<(), AllocError>
     requires { IsCode code }
     ensures { OnOk result (string_bytes text.new ≡ string_bytes text.old
@@ -132,7 +132,7 @@ fn write_code(text: &mut String, code: u8, count: u64) -> Result<(), AllocError>
     )
 }
 
-/// Writes how many query connections there are.
+/// Writes the counts of query connections.
 fn write_connections(text: &mut String, connections: &Connections) -> Result<(), AllocError> {
     write_counter(
         text,
@@ -166,7 +166,7 @@ fn write_connections(text: &mut String, connections: &Connections) -> Result<(),
     )
 }
 
-/// Writes how many workers there are, and what they are about.
+/// Writes the counts of workers, and what they are doing.
 fn write_workers(text: &mut String, now: &Snapshot) -> Result<(), AllocError> {
     write_gauge(
         text,

@@ -1,8 +1,8 @@
-//! What a request of HTTP asks for. The paths are this profile's own.
+//! What an HTTP request asks for (own paths).
 ghost use Rattle.std.specs.Prelude.{◌≡◌};
 ghost use Rattle.lost_status.specs.Page.{asked_for, is_reading as is_reading_method, page_at as page_at_path};
 
-/// What is shown at a path.
+/// The page at a path.
 #[derive(Clone, Copy, PartialEq, Eq, Debug)]
 pub(crate) enum Page {
     /// `/health`: whether the server is ready.
@@ -24,7 +24,7 @@ pub(crate) enum Asked {
     OtherPath,
 }
 
-/// What a request with this method and this path asks for. Where there is no page, the method does not matter.
+/// What a request with this method and this path asks for. If there is no page, the method does not matter.
 pub(crate) fn asked_by(method: &str, path: &str) -> Asked
     ensures { result ≡ asked_for method.now path.now }
 {

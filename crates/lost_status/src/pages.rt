@@ -1,4 +1,4 @@
-//! What answers a request of HTTP (RFC 9110). The texts are this profile's own.
+//! The answer to an HTTP request (RFC 9110; own texts).
 ghost use Rattle.std.specs.Prelude.{◌≡◌, OnOk};
 ghost use Rattle.lost_status.specs.declared.page.Asked.{Asked};
 ghost use Rattle.lost_status.specs.Page.{MayGet};
@@ -12,7 +12,7 @@ use http_server::{Response, Service};
 use std::alloc::{AllocError, Global};
 use std::time::{Clock, Duration};
 
-/// The pages of a server, as a service of HTTP. Each answer ends its connection.
+/// The pages of a server, as an HTTP service. Each answer ends its connection.
 #[derive(Drop)]
 pub(crate) struct Pages<'s, R: Clock> {
     pub(crate) rt: &'s R,
@@ -77,18 +77,18 @@ impl<R: Clock> Pages<'_, R> {
         write(response, plain(), "not ready\n")
     }
 
-    /// How long it is since 1970. Where the clock cannot be read, it is 1970.
+    /// The time since 1970; 0 if the clock cannot be read.
     fn now(&self) -> Duration {
         self.rt.since_1970().unwrap_or(Duration::ZERO)
     }
 }
 
-/// What a text for people is.
+/// The content type of plain text.
 fn plain() -> HeaderValue {
     HeaderValue::from_static("text/plain; charset=utf-8")
 }
 
-/// Answers that a page is there, and can only be read.
+/// Answers that the page can only be read.
 fn refuse_method(response: &mut Response) -> Result<(), AllocError>
     ensures status { response.new.status ≡ 405 }
     ensures more { OnOk result (HasMore response.old response.new) }
@@ -98,7 +98,7 @@ fn refuse_method(response: &mut Response) -> Result<(), AllocError>
     write(response, plain(), "GET or HEAD\n")
 }
 
-/// Answers which paths there are.
+/// Answers with the list of paths.
 fn list_paths(response: &mut Response) -> Result<(), AllocError>
     ensures status { response.new.status ≡ 404 }
     ensures more { OnOk result (HasMore response.old response.new) }
@@ -107,7 +107,7 @@ fn list_paths(response: &mut Response) -> Result<(), AllocError>
     write(response, plain(), "/health\n/metrics\n/status\n")
 }
 
-/// Gives a response its text, and says what that is.
+/// Gives a response its text and content type.
 fn write(response: &mut Response, kind: HeaderValue, text: &str) -> Result<(), AllocError>
     ensures status { response.new.status ≡ response.old.status }
     ensures more { OnOk result (HasMore response.old response.new) }

@@ -1,11 +1,11 @@
-//! The kinds of replies. Rules without a section are this profile's own.
+//! The kinds of replies.
 ghost use Rattle.std.specs.Prelude.{◌≡◌, ◌<◌};
 ghost use Rattle.lost_status.specs.ReplyKind.{kind_name};
 
 /// How many kinds there are.
 pub(crate) const KINDS: usize = 13;
 
-/// A kind of reply to a request line, by which replies are counted. Each error is a kind of its own.
+/// A kind of reply to a request line, by which replies are counted. Each error is a kind.
 #[derive(Clone, Copy, PartialEq, Eq, Debug)]
 pub enum ReplyKind {
     /// `findServiceResponse`: mappings that were found (RFC 5222, section 8.4).
@@ -18,11 +18,11 @@ pub enum ReplyKind {
     GetServiceBoundaryResponse,
     /// `loop`: the path of the request has the server's own name (RFC 5222, section 13.1).
     Loop,
-    /// `locationProfileUnrecognized`: no location has a profile that the server knows (RFC 5222, section 13.1).
+    /// `locationProfileUnrecognized`: the server knows the profile of no location (RFC 5222, section 13.1).
     LocationProfileUnrecognized,
-    /// `SRSInvalid`: the reference system of the location used is not known (RFC 5222, section 13.1).
+    /// `SRSInvalid`: the server does not know the reference system of the location used (RFC 5222, section 13.1).
     SrsInvalid,
-    /// `locationInvalid`: the content of the location used is not that of its profile (RFC 5222, section 13.1).
+    /// `locationInvalid`: the location used is not valid in its profile (RFC 5222, section 13.1).
     LocationInvalid,
     /// `notFound`: nothing is found at the place, or no live mapping has the key (RFC 5222, section 13.1).
     NotFound,
@@ -32,12 +32,12 @@ pub enum ReplyKind {
     BadRequest,
     /// `internalError`: memory was refused (RFC 5222, section 13.1).
     InternalError,
-    /// `other`: a line that is no reply. No server writes one, so that its count stays 0.
+    /// `other`: a line that is no reply. No server writes one, so its count stays 0.
     Other,
 }
 
 impl ReplyKind {
-    /// The kinds, each once, in the order in which they are shown.
+    /// All kinds, each once, in the order in which they are shown.
     pub const ALL: [ReplyKind; 13] = [
         ReplyKind::FindServiceResponse,
         ReplyKind::ListServicesByLocationResponse,
@@ -54,14 +54,14 @@ impl ReplyKind {
         ReplyKind::Other,
     ];
 
-    /// The position of the kind among all, from 0 to 12.
+    /// The kind's position in [`ReplyKind::ALL`], from 0 to 12.
     pub(crate) fn index(self) -> usize
         ensures { result < KINDS }
     {
         self as usize
     }
 
-    /// The name of the kind: that of the reply's one member, or that of its error (RFC 5222, section 13.1).
+    /// The kind's name: that of the reply's one member, or of its error (RFC 5222, section 13.1).
     pub fn name(self) -> &'static str
         ensures { result.now ≡ kind_name self }
     {

@@ -1,4 +1,4 @@
-//! The numbers of a server as one JSON object. Its names are this profile's own.
+//! The numbers of a server as one JSON object (own names).
 use crate::connection_counts::Connections;
 use crate::desk_state::{DeskNow, LAST_CODE};
 use crate::reply_kind::{KINDS, ReplyKind};
@@ -39,7 +39,7 @@ fn report_of(alloc: Global, now: &Snapshot) -> Result<Value, AllocError> {
     })
 }
 
-/// How many query connections there are.
+/// The counts of query connections.
 fn connections_of(alloc: Global, connections: &Connections) -> Result<Value, AllocError> {
     json!(in alloc; {
         "accepted": connections.accepted,
@@ -49,7 +49,7 @@ fn connections_of(alloc: Global, connections: &Connections) -> Result<Value, All
     })
 }
 
-/// When the desk last committed, in UTC; null where it never did.
+/// When the desk last committed, in UTC; null if it never did.
 fn last_commit_of(alloc: Global, second: u64) -> Result<Value, AllocError> {
     if second == 0 {
         return Ok(Value::Null);
@@ -60,7 +60,7 @@ fn last_commit_of(alloc: Global, second: u64) -> Result<Value, AllocError> {
     }
 }
 
-/// How many lines of the desk were refused, by the names of their codes, where there are any.
+/// The number of refused desk lines by the names of their codes, without those that are 0.
 fn refusals_of(alloc: Global, desk: &DeskNow) -> Result<Value, AllocError> {
     let mut counts = Map::new(alloc);
     for code in 1..=LAST_CODE {
@@ -72,7 +72,7 @@ fn refusals_of(alloc: Global, desk: &DeskNow) -> Result<Value, AllocError> {
     Ok(Value::Object(counts))
 }
 
-/// How many replies were given, by kind.
+/// The number of replies by kind.
 fn replies_of(alloc: Global, replies: &[u64; KINDS]) -> Result<Value, AllocError> {
     let mut counts = Map::new(alloc);
     for kind in ReplyKind::ALL {

@@ -1,4 +1,4 @@
-//! The answers of HTTP/1.1 on one connection (RFC 9112).
+//! HTTP/1.1 on one connection (RFC 9112).
 ghost use Rattle.lost_status.specs.Answered.{IsAnswered, IsNarrow};
 
 use crate::pages::Pages;
@@ -9,17 +9,17 @@ use std::hash::RandomState;
 use std::io::{Read, Write};
 use std::time::Clock;
 
-/// The most bytes of a request's head.
+/// The most bytes that a request's head may have.
 const MAX_HEAD: usize = 8_192;
 
-/// Answers one request of HTTP/1.1 or 1.0 on a connection, and returns when the caller is to close it: then, after a
-/// refusal, or where a read, a write or memory fails. `GET` and `HEAD` are answered: `/health` with 200, the text `ready` and
-/// the edition once the server is ready, and with 503 before; `/metrics` with the numbers for Prometheus; `/status` with
-/// them as a JSON object. Any other path is 404, with these three paths as its text, and any other method on one of them
-/// is 405. A head of more than 8,192 bytes or 64 fields is refused, and so is a body. `keys` are secret, since the peer
-/// chooses the names of fields.
+/// Answers one request of HTTP/1.1 or 1.0, and returns when the caller is to close the connection: after the answer or
+/// a refusal, or if a read, a write or memory fails. `GET` and `HEAD` are answered: `/health` with 200, the text
+/// `ready` and the edition once the server is ready, and with 503 before; `/metrics` with the numbers for Prometheus;
+/// `/status` with the numbers as a JSON object. Any other path is 404, with these three paths as its text, and any
+/// other method on one of them is 405. A head of more than 8,192 bytes or 64 fields is refused, and so is a body.
+/// `keys` must be secret, since the peer chooses the names of fields.
 ///
-/// How long it takes is up to `input` and `output`, whose reads and writes are to fail in time: see
+/// The reads and writes of `input` and `output` must fail in time: see
 /// [`Deadline`](crate::Deadline).
 pub fn serve_status<R: Clock, I: Read, O: Write>(
     rt: &R,
@@ -34,7 +34,7 @@ pub fn serve_status<R: Clock, I: Read, O: Write>(
 {
     let mut connection = Connection::new(alloc, keys, narrow());
     let mut pages = Pages { rt, alloc, status };
-    // Whatever came of it, the connection is over.
+    // The connection is over, whatever the outcome.
     let _outcome = serve(&mut connection, &mut pages, input, output);
 }
 

@@ -1,13 +1,13 @@
-//! What is told of a server. Rules without a section are this profile's own.
+//! The numbers of a server at one moment.
 use crate::connection_counts::Connections;
 use crate::desk_state::DeskNow;
 use crate::reply_kind::KINDS;
 
-/// What is told of a server at one moment. Its numbers are read one after another while the server goes on, so that they
-/// are not all of one instant.
+/// The numbers of a server at one moment. They are read one after another while the server goes on, so they are not all
+/// of one instant.
 #[derive(Clone, Copy)]
 pub(crate) struct Snapshot {
-    /// For how long the server has run, in seconds.
+    /// How long the server has run, in seconds.
     pub(crate) uptime: u64,
     /// Whether it answers from its map.
     pub(crate) is_ready: bool,
@@ -17,7 +17,7 @@ pub(crate) struct Snapshot {
     pub(crate) workers: u64,
     /// How many of them serve a connection.
     pub(crate) busy: u64,
-    /// How often their caches of places were of use.
+    /// How many hits the workers' caches of places had.
     pub(crate) cache_hits: u64,
     /// How many replies were given, by kind, in the order of all kinds.
     pub(crate) replies: [u64; KINDS],

@@ -1,4 +1,4 @@
-//! The counters that all threads of a server share. Rules without a section are this profile's own.
+//! The counters that all threads of a server share.
 ghost use Rattle.std.specs.Prelude.{◌≡◌, ◌<◌, ◌↔◌, IsSome, IfOk};
 ghost use Rattle.lost_status.specs.Status.{worker_count};
 
@@ -17,8 +17,8 @@ use std::time::Duration;
 /// The version of the program, as `lostd --version` gives it.
 pub const VERSION: &str = "0.1.0";
 
-/// What an operator watches of a server. All threads share it by `&`: each number is an atomic of its own, so that nobody
-/// waits for a lock. Where a number reaches 2^64 it begins at 0 again.
+/// What an operator watches on a server. All threads share it by `&`: each number is an atomic, so nobody waits for a
+/// lock. A number that reaches 2^64 begins at 0 again.
 #[derive(Drop)]
 pub struct Status {
     workers: Vec<CachePadded<WorkerCounts>>,
@@ -29,12 +29,8 @@ pub struct Status {
 }
 
 impl Status {
-    /// The counters of a server with so many workers that started so long after 1970-01-01T00:00:00Z: it is not ready,
-    /// nothing was counted, nothing is held, and no desk is connected.
-    ///
-    /// # Errors
-    ///
-    /// Want of memory.
+    /// The counters of a server with this many workers that started `started` after 1970-01-01T00:00:00Z. The server is
+    /// not ready, nothing is counted or held, and no desk is connected.
     pub fn new(alloc: Global, workers: u32, started: Duration) -> Result<Status, AllocError>
         ensures { IfOk result (λ status. worker_count status ≡ workers) }
     {
@@ -51,8 +47,8 @@ impl Status {
         })
     }
 
-    /// What the worker with this number counts, from 0 on; `None` where there are fewer workers. Each has memory of its
-    /// own, far enough from that of the others that no processor waits for another one's counts.
+    /// The counts of the worker with this number, from 0 on; `None` if there are fewer workers. Each block has its own
+    /// cache line, so no processor waits for another one's counts.
     pub fn worker(&self, number: usize) -> Option<&WorkerCounts>
         ensures { IsSome result ↔ (number < worker_count self.now) }
     {
@@ -62,12 +58,12 @@ impl Status {
         }
     }
 
-    /// Counts one more query connection that was accepted. It waits for a worker until [`Status::count_taken`].
+    /// Counts one more accepted query connection. It waits for a worker until [`Status::count_taken`].
     pub fn count_accepted(&self) {
         self.connections.count_accepted();
     }
 
-    /// Counts one more query connection that waits no longer: a worker took it, or none will.
+    /// Counts one more query connection that no longer waits: a worker took it, or none will.
     pub fn count_taken(&self) {
         self.connections.count_taken();
     }
@@ -82,7 +78,7 @@ impl Status {
         self.connections.count_refused();
     }
 
-    /// Says that the server answers from its map. It stays so.
+    /// Says that the server answers from its map, from now on.
     pub fn set_ready(&self) {
         self.is_ready.store(true, Ordering::SeqCst);
     }
@@ -92,13 +88,13 @@ impl Status {
         self.desk.count_refusal(code);
     }
 
-    /// Says the edition that is published, how many mappings are held, and how many edits are pending.
+    /// Sets the published edition, the number of mappings held, and the number of pending edits.
     pub fn set_book(&self, edition: u64, mappings: u64, pending: u64) {
         self.desk.set_book(edition, mappings, pending);
     }
 
-    /// Says when the desk last committed, by how long that was after 1970-01-01T00:00:00Z. A moment in the first second
-    /// of 1970 is seen as none.
+    /// Sets when the desk last committed, as the time since 1970-01-01T00:00:00Z. A moment in the first second of 1970
+    /// counts as none.
     pub fn set_commit(&self, since_1970: Duration) {
         self.desk.set_commit(since_1970);
     }
@@ -108,20 +104,12 @@ impl Status {
         self.desk.set_desk(is_open);
     }
 
-    /// All numbers at a moment so long after 1970-01-01T00:00:00Z, in the text format 0.0.4 of Prometheus.
-    ///
-    /// # Errors
-    ///
-    /// Want of memory.
+    /// All numbers in Prometheus' text format, version 0.0.4. `now` is the time since 1970-01-01T00:00:00Z.
     pub fn metrics(&self, alloc: Global, now: Duration) -> Result<String, AllocError> {
         metrics_text(alloc, &self.snapshot(now))
     }
 
-    /// All numbers at a moment so long after 1970-01-01T00:00:00Z, as the compact text of one JSON object.
-    ///
-    /// # Errors
-    ///
-    /// Want of memory.
+    /// All numbers as the compact text of one JSON object. `now` is the time since 1970-01-01T00:00:00Z.
     pub fn json(&self, alloc: Global, now: Duration) -> Result<String, AllocError> {
         report_text(alloc, &self.snapshot(now))
     }
@@ -131,12 +119,12 @@ impl Status {
         self.is_ready.load(Ordering::SeqCst)
     }
 
-    /// The edition that is published.
+    /// The published edition.
     pub(crate) fn edition(&self) -> u64 {
         self.desk.now().edition
     }
 
-    /// All numbers at a moment so long after 1970-01-01T00:00:00Z. Before the start the server has run for 0 seconds.
+    /// All numbers. `now` is the time since 1970-01-01T00:00:00Z; before the start the uptime is 0 seconds.
     fn snapshot(&self, now: Duration) -> Snapshot {
         Snapshot {
             uptime: now.saturating_sub(self.started).as_secs(),
@@ -159,7 +147,7 @@ impl Status {
         count
     }
 
-    /// How often the caches of all workers were of use.
+    /// How many hits the caches of all workers had.
     fn cache_hits(&self) -> u64 {
         let mut sum = 0u64;
         for worker in self.workers.iter() {

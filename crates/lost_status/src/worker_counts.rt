@@ -1,10 +1,10 @@
-//! What one worker counts. Rules without a section are this profile's own.
+//! The counts of one worker.
 use crate::line_kind::kind_of;
 use crate::reply_kind::{KINDS, ReplyKind};
 use std::array;
 use std::sync::atomic::{AtomicBool, AtomicU64, Ordering};
 
-/// What one worker counts. Only that worker writes it, so that no two wait for each other; anybody may read it.
+/// The counts of one worker. Only that worker writes them, so no two wait for each other; anybody may read them.
 #[derive(Drop)]
 pub struct WorkerCounts {
     replies: [AtomicU64; KINDS],
@@ -22,17 +22,17 @@ impl WorkerCounts {
         }
     }
 
-    /// Counts one more reply, the line with its byte 10, by its kind.
+    /// Counts one more reply by its kind. `reply` is the line with its byte 10.
     pub fn count_reply(&self, reply: &[u8]) {
         self.replies[kind_of(reply).index()].fetch_add(1, Ordering::SeqCst);
     }
 
-    /// Says whether the worker serves a connection.
+    /// Sets whether the worker serves a connection.
     pub fn set_busy(&self, is_busy: bool) {
         self.is_busy.store(is_busy, Ordering::SeqCst);
     }
 
-    /// Says how often its cache of places was of use so far.
+    /// Sets how many hits its cache of places has had so far.
     pub fn set_cache_hits(&self, hits: u64) {
         self.cache_hits.store(hits, Ordering::SeqCst);
     }
@@ -47,7 +47,7 @@ impl WorkerCounts {
         self.is_busy.load(Ordering::SeqCst)
     }
 
-    /// How often its cache of places was of use.
+    /// How many hits its cache of places has had.
     pub(crate) fn cache_hits(&self) -> u64 {
         self.cache_hits.load(Ordering::SeqCst)
     }

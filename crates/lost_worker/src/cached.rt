@@ -17,12 +17,12 @@ use std::hash::{BuildHasher, BuildHasherDefault};
 use std::marker::Model;
 use std::num::NonZeroUsize;
 
-/// The most places that a cache keeps (own rule).
+/// The most places that a cache may have room for (own rule).
 const MOST_PLACES: u32 = 65_536;
 
-/// A reader that keeps the sets of places, each with the edition that it is of: each place while there is room, and then
-/// the places that come again, each in the room of the one that was used the longest ago. Contracts see it as its reader:
-/// its replies are those of the reader, whatever is kept. A set of another edition is not used.
+/// A reader with a cache of places' sets, each with its edition. Every place is kept while there is room; after that
+/// only a place that comes again is kept, in the room of the least recently used one. Contracts see the reader alone:
+/// the cache never changes a reply. A set of another edition is not used.
 #[derive(Drop)]
 pub struct CachedReader<S: BuildHasher = DefaultHasher> {
     reader: Reader,
@@ -41,7 +41,7 @@ impl<S: BuildHasher> Model for CachedReader<S> {
     ghost invariant = { λ c. AreRightFor (IsKeptIn c.sets.cache.entries) c.reader.limits c.reader.seen };
 }
 
-/// A reader that got no cache, and why. The reader is as it was.
+/// A reader that got no cache, and why. The reader is unchanged.
 #[derive(Drop)]
 pub struct CacheRefusal {
     pub reader: Reader,
@@ -51,13 +51,13 @@ pub struct CacheRefusal {
 impl CachedReader<DefaultHasher> {
     ghost use Rattle.lost_worker.specs.Cached.{IsCapacity};
 
-    /// This reader with an empty cache of at most `capacity` places. The cache hashes places with a fixed seed: where the
-    /// places are picked by somebody who means harm, take [`CachedReader::with_hasher`].
+    /// This reader with an empty cache of at most `capacity` places. The cache hashes places with a fixed seed. If an
+    /// attacker may choose the places, use [`CachedReader::with_hasher`].
     ///
     /// # Errors
     ///
-    /// They hand the reader back as it was. [`CacheError::Capacity`] where the capacity is not from 1 to 65,536, and after
-    /// it [`CacheError::Memory`] for want of memory.
+    /// Each hands the reader back unchanged. [`CacheError::Capacity`] if the capacity is not from 1 to 65,536; after it
+    /// [`CacheError::Memory`].
     pub fn new(
         alloc: Global,
         reader: Reader,
@@ -76,7 +76,7 @@ impl CachedReader<DefaultHasher> {
 impl<S: BuildHasher + Drop> CachedReader<S> {
     ghost use Rattle.lost_worker.specs.Cached.{IsCapacity};
 
-    /// As [`CachedReader::new`], with what hashes places.
+    /// As [`CachedReader::new`], with a hasher for places.
     ///
     /// # Errors
     ///
@@ -108,12 +108,12 @@ impl<S: BuildHasher + Drop> CachedReader<S> {
         }
     }
 
-    /// Answers a line as [`Reader::reply_line`] does. Where the request is answered at a place and the place's set is kept
-    /// of the edition that the reader then sees, the index is not asked.
+    /// Answers a line as [`Reader::reply_line`] does. If the request is answered at a place, and the place's set is
+    /// kept for the edition that the reader then sees, the index is not asked.
     ///
     /// # Errors
     ///
-    /// Want of memory, also after the desk was closed. The reader may then have entered once and seen a longer list.
+    /// If memory is refused or the desk is closed. The reader may then have entered once and seen a longer list.
     pub fn reply_line(
         &mut self,
         alloc: Global,
@@ -133,7 +133,7 @@ impl<S: BuildHasher + Drop> CachedReader<S> {
             .reply_line_over(alloc, &mut self.sets, name, moment, line)
     }
 
-    /// How often a set was found, up to the greatest `u64`. What it counts is shown by a test alone.
+    /// How often a set was found, up to the greatest `u64`. No contract says what it counts: a test shows it.
     pub fn hits(&self) -> u64 {
         self.sets.hits
     }
@@ -153,7 +153,7 @@ impl<S: BuildHasher + Drop> Replier for CachedReader<S> {
     }
 }
 
-/// So many places, where their number is from 1 to 65,536.
+/// `capacity` as a number of places, if it is from 1 to 65,536.
 fn places_of(capacity: u32) -> Option<NonZeroUsize>
     ensures none { IsNone result → ¬ IsCapacity capacity }
     ensures some { IsSome result → IsCapacity capacity }

@@ -1,10 +1,10 @@
-//! A connection. Rules without a section are this profile's own.
+//! A connection.
 
-/// The two ends of a connection: what is read, and what is written. It is closed when it is dropped.
+/// The two ends of a connection: its input and its output. It is closed when it is dropped.
 #[derive(Drop)]
 pub struct Connection<I, O> {
-    /// What the lines are read from.
+    /// The source of lines.
     pub input: I,
-    /// What the replies are written to.
+    /// The destination of replies.
     pub output: O,
 }

@@ -1,4 +1,4 @@
-//! Serves the lines of a desk's connection.
+//! Answers the lines of a desk's connection.
 ghost use Rattle.std.specs.Prelude.{◌≢◌, Err};
 ghost use Rattle.lost_lines.specs.Calls.{AreFresh, StreamFaults};
 ghost use Rattle.lost_lines.specs.Outcome.{passage_of};
@@ -15,15 +15,15 @@ use std::io::{Read, Write};
 use std::sync::Wait;
 
 /// Answers the desk lines of `input`, in order, and writes a reply for each line (own format). An edit is staged behind
-/// those that are pending, and a commit publishes all that is. A line over 1,048,576 bytes, or one that is no desk line,
-/// is code 1; where memory is refused, the reply is code 20 and the desk stays as it was. It waits at a commit for
-/// readers that still read.
+/// the pending ones, and a commit publishes all that is pending. A line over 1,048,576 bytes, or one that is no desk
+/// line, is code 1. If memory is refused, the reply is code 20 and the desk stays as it was. A commit waits for readers
+/// that still read.
 ///
 /// # Errors
 ///
 /// [`ServeError::Read`], [`ServeError::Write`] and [`ServeError::TurnsSpent`] as [`run_lines`] says. After a fault the
-/// output holds a front of the text of the replies, and after `Read` and `TurnsSpent` the whole text of all lines whose
-/// byte 10 was read, up to `turns.lines` of them. The edits of the lines that were answered stand.
+/// output holds a beginning of the replies' text, and after `Read` and `TurnsSpent` the whole text of all lines whose
+/// byte 10 was read, up to `turns.lines` lines. The edits of the answered lines stand.
 pub fn serve_desk<T: Wait, R: Read, W: Write>(
     rt: &T,
     alloc: Global,
@@ -34,7 +34,7 @@ pub fn serve_desk<T: Wait, R: Read, W: Write>(
 ) -> Result<Counts, ServeError>
     requires fresh { AreFresh input.old output.old }
 
-    // Each line of the input is answered by the lists of the desk, which go as the lines say.
+    // Each line of the input is answered by the lists of the desk, which change as the lines say.
     ensures outcome { IsStreamOutcome (desk_terms desk.old.limits) (lists_of desk.old) (lists_of desk.new) turns
         (passage_of R.remaining W.contents input.old input.new output.old output.new) result }
     ensures same { IsSameDesk desk.old desk.new }
@@ -44,7 +44,7 @@ pub fn serve_desk<T: Wait, R: Read, W: Write>(
     serve_desk_with(rt, alloc, input, output, desk, &mut NoWitness, turns)
 }
 
-/// Answers the desk lines of `input` as [`serve_desk`] does, while `witness` looks on.
+/// Answers the desk lines of `input` as [`serve_desk`] does, and tells `witness` of each.
 ///
 /// # Errors
 ///

@@ -1,4 +1,4 @@
-//! What answers the lines of a desk's connection.
+//! Answers the lines of a desk's connection.
 ghost use Rattle.std.specs.Prelude.{◌≡◌, [], length, Some, Ok};
 ghost use Rattle.lost_spec.specs.Text.{Text as Bytes};
 ghost use Rattle.lost_message.specs.Edit.{edit_of};
@@ -18,8 +18,8 @@ use lost_tape::{Scratch, read_line};
 use std::alloc::Global;
 use std::sync::Wait;
 
-/// What answers the lines of a desk's connection: its desk, what a commit waits by, and what looks on. The scratch is what
-/// the reader of lines works in, and holds nothing of them.
+/// Answers the lines of a desk's connection: its desk, the runtime by which a commit waits, and the witness. The
+/// scratch is the parser's working memory, and holds nothing of the lines.
 #[derive(Drop)]
 pub(crate) struct Desking<'r, 'd, 's, 'w, T: Wait, V: DeskWitness> {
     pub(crate) rt: &'r T,
@@ -53,7 +53,7 @@ impl<T: Wait, V: DeskWitness> Answerer for Desking<'_, '_, '_, '_, T, V> {
     }
 }
 
-/// Reads a desk line by its tokens, or `None` where a line is no desk line, which a request is not.
+/// Reads a desk line by its tokens; `None` if the line is no desk line but, for example, a request.
 fn read_desk_by_tape(
     alloc: Global,
     line: &[u8],
@@ -67,8 +67,8 @@ fn read_desk_by_tape(
     }
 }
 
-/// The reply to a line by what was read of it. A line that is no desk line is code 1. Code 20 says that there was no memory
-/// to read the line, to stage its edit or to commit; whatever else refuses it comes before that.
+/// The reply to a line, given what was read of the line. A line that is no desk line is code 1. Code 20 says that
+/// memory was refused for reading the line, for a commit, or for staging an edit that nothing else refuses.
 fn judge<T: Wait>(rt: &T, desk: &mut Desk, read: Result<Option<DeskLine>, DeskFault>) -> DeskReply
     ensures answered { (line : Bytes) → AnswersRead read (desk_terms desk.old.limits) (lists_of desk.old) line
         (said result) (lists_of desk.new) }
@@ -83,7 +83,7 @@ fn judge<T: Wait>(rt: &T, desk: &mut Desk, read: Result<Option<DeskLine>, DeskFa
     }
 }
 
-/// Stages an edit: its refusal, or how many edits are staged and not published. Want of memory is code 20.
+/// Stages an edit: its refusal, or the number of pending edits. If memory is refused, the reply is code 20.
 fn stage(desk: &mut Desk, edit: Edit) -> DeskReply
     ensures judged { (line : Bytes) → IsJudged (desk_terms desk.old.limits) (lists_of desk.old) line
         (Some (Ok (Stage (edit_of edit)))) (said result) (lists_of desk.new) }
@@ -96,8 +96,7 @@ fn stage(desk: &mut Desk, edit: Edit) -> DeskReply
     }
 }
 
-/// Publishes all that is staged, or says that there is no memory for it, which is code 20. With nothing pending it takes
-/// none.
+/// Publishes all that is staged. If memory is refused, the reply is code 20. With nothing pending it takes no memory.
 fn commit<T: Wait>(rt: &T, desk: &mut Desk) -> DeskReply
     ensures judged { (line : Bytes) → IsJudged (desk_terms desk.old.limits) (lists_of desk.old) line
         (Some (Ok Commit)) (said result) (lists_of desk.new) }

@@ -1,4 +1,4 @@
-//! Connections (own rules): what answers the request lines of a stream, which moments it takes, and a loop that serves
+//! Connections (own rules): answering the request lines of a stream, the moments of the answers, and a loop that serves
 //! connections one after another.
 #![tactic(auto)]
 

@@ -1,6 +1,6 @@
-//! Sets of places in a cache of bounded size. While there is room each place is kept. Once there is none, a place that
-//! comes for the first time leaves a mark alone, and one that comes again takes the room of the place that was used the
-//! longest ago: so places that never come again push none out that does.
+//! Sets of places in a cache of bounded size. While there is room, each place is kept. After that, a place that comes
+//! for the first time only leaves a mark, and a place that comes again takes the room of the least recently used one.
+//! So a location asked for once pushes out no place that comes again.
 ghost use Rattle.std.specs.Prelude.{◌≡◌, [], IfOk, IfSome};
 ghost use Rattle.lost_query.specs.Place.{place_of};
 ghost use Rattle.lost_desk.specs.Sets.{entry};
@@ -13,7 +13,7 @@ use std::alloc::{AllocError, Global};
 use std::hash::BuildHasher;
 use std::num::NonZeroUsize;
 
-/// What is kept of a place: the set of the place in the book of so many edits.
+/// What is kept for a place: its set in the book of `edition` edits.
 #[derive(Drop)]
 pub(crate) struct Kept {
     pub(crate) edition: u64,
@@ -21,14 +21,14 @@ pub(crate) struct Kept {
     pub(crate) set: Vec<usize>,
 }
 
-/// A cache from places to their sets, and how often a set was found. A place is hashed once a line, and the cache goes by
-/// the hashes: of two places with one hash, the one that is kept later stands.
+/// A cache from places to their sets, and how often a set was found. A place is hashed once a line, and the hash is the
+/// cache's key: of two places with one hash, the one kept later stands.
 #[derive(Drop)]
 pub(crate) struct PlaceCache<S: BuildHasher> {
     hasher: S,
     pub(crate) cache: LruCache<u64, Kept>,
     marks: Marks,
-    /// The hash of the place that was looked for last, and whether a set is kept under it, of whatever edition.
+    /// The hash of the place that was looked for last, and whether a set of any edition is kept under it.
     asked: u64,
     is_held: bool,
     pub(crate) hits: u64,
@@ -37,7 +37,7 @@ pub(crate) struct PlaceCache<S: BuildHasher> {
 impl<S: BuildHasher + Drop> PlaceCache<S> {
     ghost use Rattle.lost_worker.specs.Cached.{IsKeptIn};
 
-    /// A cache of so many places that keeps nothing yet, or want of memory.
+    /// A cache with room for `capacity` places that keeps nothing yet.
     pub(crate) fn new(
         alloc: Global,
         capacity: NonZeroUsize,
@@ -55,7 +55,7 @@ impl<S: BuildHasher + Drop> PlaceCache<S> {
         })
     }
 
-    /// The set that is kept of this edition and of this place, which was looked for last. A set of another edition is none.
+    /// The set kept for this edition and place, which was looked for last. A set of another edition does not count.
     fn set_of(&self, edition: u64, place: &Place) -> Option<&[usize]>
         ensures { IfSome result (λ set. IsKeptIn self.now.cache.entries (entry edition (place_of place.now) set.now)) }
     {
@@ -85,8 +85,8 @@ impl<S: BuildHasher + Drop> PlaceSets for PlaceCache<S> {
         self.set_of(edition, place)
     }
 
-    /// Whether the place that was looked for last is to be kept: where a set of it is kept of another edition, where there
-    /// is room, or where its mark stands. Where it is not, it leaves its mark.
+    /// Whether to keep the place that was looked for last: if its set is kept for another edition, if there is room, or
+    /// if the place has its mark. If not, it leaves its mark.
     fn is_wanted(&mut self) -> bool {
         self.is_held || self.cache.len() < self.cache.cap().get() || self.marks.has_met(self.asked)
     }

@@ -1,4 +1,4 @@
-//! What answers a request line. Rules without a section are this profile's own.
+//! Answers a request line.
 ghost use Rattle.std.specs.Prelude.{◌≡◌, ◌+◌, IsTrue, IfOk, OnOk};
 ghost use Rattle.lost_spec.specs.Book.{is_accepted};
 ghost use Rattle.lost_spec.specs.Laws.{BeginsWith};
@@ -9,17 +9,13 @@ use lost_desk::Reader;
 use lost_mapping::{Moment, Source};
 use std::alloc::{AllocError, Global};
 
-/// What answers request lines, one after another, from lists of edits of which each begins with the one before.
+/// Answers request lines, one after another, from lists of edits that each begin with the one before.
 pub trait Replier {
-    /// What contracts see of it: what they see of a reader.
+    /// What contracts see: the reader's value.
     ghost reader: { Self → ReaderSeen };
 
-    /// Answers a line: reads the request, answers it by the server of this name at an instant from the list that it has
-    /// then seen, and writes the reply's line.
-    ///
-    /// # Errors
-    ///
-    /// Want of memory. It may then have entered once and seen a longer list.
+    /// Answers a line: reads the request, answers it as the server of this name at an instant from the list that it has
+    /// then seen, and writes the reply's line. If memory is refused, it may have entered once and seen a longer list.
     fn reply_line(
         &mut self,
         alloc: Global,

@@ -1,4 +1,4 @@
-//! What answers the lines of a connection.
+//! Answers the lines of a connection.
 
 use crate::moments::Moments;
 use crate::replier::Replier;
@@ -7,8 +7,7 @@ use lost_lines::{Answer, Answerer, Text};
 use lost_mapping::Source;
 use std::alloc::Global;
 
-/// What answers the lines of a connection: the name of the server stays, and each line that goes to the replier takes a
-/// moment.
+/// Answers the lines of a connection under one server name. Each line that goes to the replier takes a moment.
 #[derive(Drop)]
 pub(crate) struct Serving<'n, 'p, 'm, P: Replier, M: Moments> {
     pub(crate) name: &'n Source,

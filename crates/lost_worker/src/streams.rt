@@ -1,4 +1,4 @@
-//! Serves the request lines of a stream.
+//! Answers the request lines of a stream.
 ghost use Rattle.std.specs.Prelude.{◌≢◌, Err};
 ghost use Rattle.lost_lines.specs.Calls.{AreFresh, StreamFaults};
 ghost use Rattle.lost_lines.specs.Outcome.{IsOutcome, passage_of};
@@ -13,15 +13,15 @@ use std::alloc::Global;
 use std::io::{Read, Write};
 
 /// Answers the request lines of `input`, in order, as the server of this name, and writes a reply for each line
-/// (RFC 5222; own format). Each line that is kept whole goes to `replier` at the next moment of `moments`; where it
-/// refuses the line for want of memory, the reply is `internalError`, as it is for a line that could not be kept. A line
-/// over 1,048,576 bytes is `badRequest`. Each line is answered only once `gate` let it through.
+/// (RFC 5222; own format). Each line that is kept whole goes to `replier` at the next moment of `moments`. If memory is
+/// refused for the reply or for keeping the line, the reply is `internalError`. A line over 1,048,576 bytes is
+/// `badRequest`. Each line is answered only once `gate` let it through.
 ///
 /// # Errors
 ///
 /// [`ServeError::Read`], [`ServeError::Write`] and [`ServeError::TurnsSpent`] as [`run_lines`] says. After a fault the
-/// output holds a front of the text of the replies, and after `Read` and `TurnsSpent` the whole text of all lines whose
-/// byte 10 was read, up to `turns.lines` of them and before any that the gate refused.
+/// output holds a beginning of the replies' text, and after `Read` and `TurnsSpent` the whole text of all lines whose
+/// byte 10 was read, up to `turns.lines` lines and before any that the gate refused.
 pub fn serve_lines<R: Read, W: Write, P: Replier, M: Moments, G: Gate>(
     alloc: Global,
     input: &mut Watched<R>,

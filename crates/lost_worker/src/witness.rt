@@ -1,15 +1,15 @@
-//! What looks on while a desk's lines are answered. Rules without a section are this profile's own.
+//! Watches how a desk's lines are answered.
 use lost_desk::Desk;
 use lost_json::DeskReply;
 
-/// What looks on while a desk's lines are answered: what counts them, or says which were refused. It changes no reply.
+/// Watches how a desk's lines are answered, to count them or to report the refused ones. It changes no reply.
 pub trait DeskWitness {
-    /// Told of each line once it is answered and before the reply is written: the line, where it was kept whole, the reply,
-    /// and the desk as it is then.
+    /// Called for each line once it is answered and before the reply is written, with the line, if it was kept whole,
+    /// the reply, and the desk as it is then.
     fn saw(&mut self, line: Option<&[u8]>, reply: DeskReply, desk: &Desk);
 }
 
-/// Looks away.
+/// A witness that does nothing.
 #[derive(Clone, Copy, PartialEq, Eq, Debug)]
 pub struct NoWitness;
 

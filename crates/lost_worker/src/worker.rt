@@ -1,4 +1,4 @@
-//! A worker: it serves connections one after another.
+//! A worker serves connections one after another.
 ghost use Rattle.std.specs.Prelude.{◌≡◌, ◌≤◌, true, false};
 ghost use Rattle.lost_worker.specs.Lines.{Answers, CountsConnection, HasSeenMore};
 ghost use Rattle.lost_worker.specs.Sum.{SumsConnections};
@@ -14,8 +14,8 @@ use std::alloc::Global;
 use std::io::{Read, Write};
 use std::sync::Wait;
 
-/// Serves each connection that `receiver` gives by [`serve_lines`], one after another, until the channel is closed, and
-/// gives the sum of their counts, number by number. A connection that ends in a fault adds one to `faults` and nothing
+/// Serves each connection that `receiver` gives by [`serve_lines`], one after another, until the channel is closed.
+/// Gives the sum of their counts, number by number. A connection that ends in a fault adds one to `faults` and nothing
 /// else. A number stays at its greatest value.
 pub fn worker_loop<I: Read + Drop, O: Write + Drop, P: Replier, M: Moments, G: Gate, R: Wait>(
     rt: &R,

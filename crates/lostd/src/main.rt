@@ -1,5 +1,5 @@
-//! `lostd`: a LoST server (RFC 5222) of JSON lines. `lostd replay` answers standard input on standard output, `lostd
-//! check` says what of it would be refused, and `lostd serve` answers connections.
+//! `lostd`: a LoST server (RFC 5222) of JSON lines. `lostd replay` answers standard input on standard output,
+//! `lostd check` reports the lines that `replay` would refuse, and `lostd serve` answers connections.
 #![tactic(auto)]
 
 mod serving;
@@ -21,7 +21,7 @@ fn main(rt: HostRuntime) -> ExitCode {
     end(&rt, run(&rt, rt.stderr().is_terminal()))
 }
 
-/// Reads the words of the command line, and does what they say. `is_terminal` says whether standard error is one.
+/// Reads the command line, and does what it says. `is_terminal` says whether standard error is a terminal.
 fn run<
     R: Env
         + Files

@@ -1,4 +1,4 @@
-//! `lostd serve`: a server is run as it is ordered.
+//! `lostd serve` runs a server as ordered.
 ghost use Rattle.std.specs.Prelude.{◌≡◌};
 ghost use Rattle.lostd.specs.ExitReasons.{serve_reason, map_reason};
 
@@ -18,7 +18,7 @@ use std::sync::atomic::AtomicBool;
 use std::thread::Threads;
 use std::time::{Clock, Duration};
 
-/// Runs a server as it is ordered, says when it is ready, and at its end what was counted. `is_terminal` says whether
+/// Runs a server as ordered, reports when it is ready, and prints its counts at the end. `is_terminal` says whether
 /// standard error is a terminal.
 pub(crate) fn serve_as_ordered<
     R: Print
@@ -50,7 +50,7 @@ pub(crate) fn serve_as_ordered<
         limits: limits_of(order),
         shows_progress: is_terminal,
     };
-    // Signals end the program, so nothing sets it.
+    // Signals end the program, so nothing sets this.
     let is_over = AtomicBool::new(false);
     match run_server(rt, &ordered, &ReadyLine { rt }, &is_over) {
         Ok(counts) => {
@@ -62,7 +62,7 @@ pub(crate) fn serve_as_ordered<
     }
 }
 
-/// Says on standard output that the server is ready.
+/// Prints on standard output that the server is ready.
 #[derive(Drop)]
 struct ReadyLine<'r, R> {
     rt: &'r R,
@@ -76,7 +76,7 @@ impl<R: Print> Ready for ReadyLine<'_, R> {
     }
 }
 
-/// How the connections of a server are treated, as it is ordered.
+/// The order's settings of connections.
 fn settings_of(order: &ServeOrder<'_>) -> ConnectionSettings {
     ConnectionSettings {
         idle: limit_of(order.idle),
@@ -85,7 +85,7 @@ fn settings_of(order: &ServeOrder<'_>) -> ConnectionSettings {
     }
 }
 
-/// What query connections are limited to, as it is ordered.
+/// The order's limits on query connections.
 fn limits_of(order: &ServeOrder<'_>) -> ClientLimits {
     ClientLimits {
         line_time: limit_of(order.line_time),
@@ -98,7 +98,7 @@ fn limits_of(order: &ServeOrder<'_>) -> ClientLimits {
     }
 }
 
-/// So many seconds, where 0 is without end.
+/// This many seconds; `None` for 0, which means no limit.
 fn limit_of(seconds: u32) -> Option<Duration> {
     match seconds {
         0 => None,
@@ -106,7 +106,7 @@ fn limit_of(seconds: u32) -> Option<Duration> {
     }
 }
 
-/// What of a server's fault ends the program. What concerns a word of the command line is said.
+/// The reason why a server's fault ends the program. A mistake in an argument or its map is reported here.
 fn reason_of<R: Eprint>(rt: &R, order: &ServeOrder<'_>, fault: ServerFault) -> ExitReason {
     match fault {
         ServerFault::Run(fault) => run_reason(fault),
@@ -122,7 +122,7 @@ fn reason_of<R: Eprint>(rt: &R, order: &ServeOrder<'_>, fault: ServerFault) -> E
     }
 }
 
-/// What of a run's fault ends the program.
+/// The reason why a run's fault ends the program.
 fn run_reason(fault: RunFault) -> ExitReason
     ensures { result ≡ serve_reason fault }
 {
@@ -133,7 +133,7 @@ fn run_reason(fault: RunFault) -> ExitReason
     }
 }
 
-/// What of a map's fault ends the program.
+/// The reason why a map's fault ends the program.
 fn map_reason(fault: MapFault) -> ExitReason
     ensures { result ≡ map_reason fault }
 {
@@ -144,20 +144,20 @@ fn map_reason(fault: MapFault) -> ExitReason
     }
 }
 
-/// Says why an address cannot be listened on.
+/// Reports why an address cannot be listened on.
 fn say_of_address<R: Eprint>(rt: &R, order: &ServeOrder<'_>, option: &str, error: ListenError) {
     let address = match option {
         "--queries" => order.queries,
         "--desk" => order.desk.unwrap_or(""),
         _ => order.status.unwrap_or(""),
     };
-    // Where standard error fails, the status still tells.
+    // If standard error fails, the exit status still tells.
     let _said = eprintln!(rt; "lostd: {option} '{address}' {}", error.text());
 }
 
-/// Says why a map was not loaded; of want of memory that is said at the end.
+/// Reports why a map was not loaded; a refusal of memory is reported at the end.
 fn say_of_map<R: Eprint>(rt: &R, path: &str, fault: MapFault) {
-    // Where standard error fails, the status still tells.
+    // If standard error fails, the exit status still tells.
     let _said = match fault {
         MapFault::Unopened(kind) => {
             eprintln!(rt;
@@ -165,10 +165,10 @@ fn say_of_map<R: Eprint>(rt: &R, path: &str, fault: MapFault) {
                 opening_failed(kind)
             )
         }
-        MapFault::Unread => eprintln!(rt; "lostd: --map '{path}' could not be read to its end"),
+        MapFault::Unread => eprintln!(rt; "lostd: --map '{path}' could not be read to the end"),
         MapFault::Refused { refused, pending } => {
             eprintln!(rt;
-                "lostd: --map '{path}': {refused} lines refused, {pending} edits behind the last commit: nothing is served; see --keep-going"
+                "lostd: --map '{path}': {refused} lines refused, {pending} edits after the last commit: the server does not start; see --keep-going"
             )
         }
         MapFault::Memory => Ok(()),

@@ -5,15 +5,15 @@ use lost_query::{Holdings, Place};
 use lost_urn::ServiceUrn;
 use std::alloc::{AllocError, Global};
 
-/// The keys that are asked for.
+/// The keys of the questions.
 const KEYS: [&str; 5] = ["A-1", "A-2", "A-3", "B-1", "D-1"];
 
-/// The latitude and the longitude of the point that is asked for, in 1e-7 degrees.
+/// The latitude and the longitude of the point of the questions, in 1e-7 degrees.
 const MIDDLE: i64 = 5_000_000;
 
-/// How many edits there were, how many mappings are held, where those of the keys stand, whether the service is implemented,
-/// and where those stand that hold the point, that hold it and have the service, that are its defaults, and that have it; in
-/// the end the services below `sos`.
+/// The count of edits and of mappings, the positions for the keys, and whether the service is implemented; then the
+/// positions of the mappings that hold the point, that hold it and have the service, of the service's defaults and of
+/// all its mappings; last, the services below `sos`.
 pub(crate) fn answers<H: Holdings>(alloc: Global, holdings: &H) -> Result<String, AllocError> {
     let moment = moment(alloc, "2026-01-01T00:00:00Z")?;
     let mut text = format!(in alloc; "edition {}, held {}", holdings.edition(), holdings.len())?;
@@ -24,7 +24,7 @@ pub(crate) fn answers<H: Holdings>(alloc: Global, holdings: &H) -> Result<String
     Ok(text)
 }
 
-/// Adds where the mappings of the keys stand.
+/// Adds the positions for the keys.
 fn add_keys<H: Holdings>(
     alloc: Global,
     text: &mut String,
@@ -41,7 +41,7 @@ fn add_keys<H: Holdings>(
     Ok(())
 }
 
-/// Adds whether a service is implemented, and where the mappings stand that are asked for by the point and by it.
+/// Adds whether a service is implemented, and the positions for the point and for the service.
 fn add_positions<H: Holdings>(
     alloc: Global,
     text: &mut String,
@@ -107,7 +107,7 @@ fn service(alloc: Global, text: &str) -> Result<ServiceUrn, AllocError> {
     ServiceUrn::parse(alloc, text.as_bytes()).map_err(|_| AllocError)
 }
 
-/// Adds a list of positions, behind its name.
+/// Adds a name and its list of positions.
 fn list(
     alloc: Global,
     text: &mut String,

@@ -1,5 +1,5 @@
-//! Calls that take no memory: on texts, points, rings, addresses, mappings and moments, and on both kinds of books. The
-//! values that they are made on are made first.
+//! Calls that take no memory: on texts, points, rings, addresses, mappings and moments, and on both kinds of books.
+//! Their values are made first.
 
 mod refusals;
 mod values;
@@ -10,7 +10,7 @@ use crate::kinds::Kind;
 use std::rt::Files;
 use std::{fs, io};
 
-/// Makes the values, and prints what is answered to the calls, where they are made.
+/// Makes the values. If `are_made`, makes the calls too and prints their answers.
 pub(crate) fn print_calls<R: Files + Print + AllocGlobal, A: Kind, B: Kind>(
     rt: &R,
     are_made: bool,

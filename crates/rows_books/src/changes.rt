@@ -1,6 +1,6 @@
-//! Long runs of edits over few identities: replacements that change the key, the service and the regions, and withdrawals with
-//! a publish behind each. As many mappings are held after a round as before it, so what a book keeps must not grow with the
-//! edits, nor the time that it takes to list the services. The memory is measured from outside.
+//! Long runs of edits over few identities: replacements that change the key, the service and the regions, and
+//! withdrawals, each with a publish after it. Each round leaves as many mappings as before, so neither the memory of a
+//! book nor the time to list its services may grow with the edits. A check measures the memory.
 use crate::kinds::Kind;
 use crate::runs::draws::Draws;
 use crate::runs::regions::regions;
@@ -20,17 +20,17 @@ pub(crate) const MOST: u64 = 1_000_000;
 /// How many mappings are held between two rounds.
 const HELD: u64 = 1_000;
 
-/// How many edits a round has: a replacement, a withdrawal, and a publish of what was withdrawn.
+/// How many edits a round has: a replacement, a withdrawal, and a publish of the withdrawn mapping.
 const ROUND: u64 = 3;
 
-/// How often the services are listed. The shortest time counts: what else the machine does makes it longer.
+/// How often the services are listed. The shortest time counts: other work of the machine makes it longer.
 const LISTINGS: u32 = 50;
 
 /// Where all mappings come from.
 const SOURCE: &str = "map.example";
 
-/// Makes so many edits, and prints how many mappings are then held, how many topmost services they have, and in how many
-/// nanoseconds these are listed.
+/// Makes so many edits. Prints how many mappings are then held, how many topmost services they have, and how many
+/// nanoseconds it takes to list these.
 pub(crate) fn print_changes<R: Print + Clock + AllocGlobal, K: Kind>(
     rt: &R,
     edits: u64,
@@ -46,7 +46,7 @@ pub(crate) fn print_changes<R: Print + Clock + AllocGlobal, K: Kind>(
     print_listing(rt, &changes.book)
 }
 
-/// Lists the services of a book, and prints what that came to.
+/// Lists the services of a book, and prints their count and the time.
 fn print_listing<R: Print + Clock, K: Kind>(rt: &R, book: &K) -> io::Result<()> {
     let moment = moment(0)?;
     let mut services = 0;
@@ -71,7 +71,7 @@ struct Changes<K: Kind> {
 }
 
 impl<K: Kind> Changes<K> {
-    /// An empty book, or want of memory.
+    /// An empty book.
     fn new(alloc: Global) -> Result<Changes<K>, AllocError> {
         Ok(Changes {
             book: K::empty(alloc, Limits::widest())?,
@@ -114,8 +114,8 @@ impl<K: Kind> Changes<K> {
         self.book.apply(edit).map_err(|_| unfit())
     }
 
-    /// A mapping of an id with the stamp of the next edit, and with drawn regions, a key and a service, of which half have a
-    /// name that none had before. An eighth are defaults.
+    /// A mapping of an id with the stamp of the next edit, drawn regions, a key and a service. Half of the services
+    /// have a name that none had before. An eighth of the mappings are defaults.
     fn mapping(&mut self, alloc: Global, id: u64) -> io::Result<Mapping> {
         let is_default = self.draws.is_one_of(8);
         let (areas, key) = if is_default {
@@ -140,7 +140,7 @@ impl<K: Kind> Changes<K> {
         Mapping::build(alloc, parts).map_err(|_| unfit())
     }
 
-    /// A service that others have too, or one of the next edit's own.
+    /// A service that others have too, or one that only the next edit has.
     fn service(&mut self, alloc: Global) -> Result<String, AllocError> {
         if self.draws.is_one_of(2) {
             String::from_str(alloc, self.draws.word(&SERVICES))

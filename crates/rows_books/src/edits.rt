@@ -10,7 +10,7 @@ use std::alloc::{AllocError, Global};
 use std::io;
 use test_rows::limits_of;
 
-/// Applies the edits of the input to two books, which each line `limits` begins anew.
+/// Applies the edits of the input to two books. Each line `limits` begins both anew.
 pub(crate) fn edit_books<R: Input + Print + AllocGlobal, A: Kind, B: Kind>(
     rt: &R,
 ) -> io::Result<()> {
@@ -26,8 +26,8 @@ pub(crate) fn edit_books<R: Input + Print + AllocGlobal, A: Kind, B: Kind>(
     Ok(())
 }
 
-/// Applies the edits up to a line that begins both books anew, or to the end: then it prints how many were accepted. Gives
-/// the limits of the next two books.
+/// Applies the edits up to a line that begins both books anew, and gives their limits. At the end of the input, prints
+/// how many edits were accepted, and gives `None`.
 fn edit_pair<R: Input + Print + AllocGlobal, A: Kind, B: Kind>(
     rt: &R,
     pair: &mut Pair<A, B>,
@@ -59,7 +59,7 @@ fn edit_pair<R: Input + Print + AllocGlobal, A: Kind, B: Kind>(
     Ok(None)
 }
 
-/// Applies the edit of a desk line, and prints how that went and what is answered then.
+/// Applies the edit of a desk line. Prints the outcome and the answers after it.
 fn edit_one<R: Print + AllocGlobal, K: Kind>(
     rt: &R,
     book: &mut K,
@@ -79,7 +79,7 @@ fn edit_one<R: Print + AllocGlobal, K: Kind>(
     }
 }
 
-/// What is answered to all questions; where memory is refused for one, says so, and asks all again.
+/// The answers to all questions. If memory is refused for one, prints that and asks all again.
 fn answered<R: Print + AllocGlobal, K: Kind>(
     rt: &R,
     book: &K,
@@ -92,7 +92,7 @@ fn answered<R: Print + AllocGlobal, K: Kind>(
     Ok(all_answers(rt.alloc(), book, publishes)?)
 }
 
-/// What is answered to all questions, and which identities are remembered as withdrawn.
+/// The answers to all questions, and which identities are remembered as withdrawn.
 fn all_answers<K: Kind>(
     alloc: Global,
     book: &K,
@@ -103,7 +103,7 @@ fn all_answers<K: Kind>(
     Ok(text)
 }
 
-/// The edit of a desk line; read again where memory was refused for it.
+/// The edit of a desk line. If memory is refused, reads the line once more.
 pub(crate) fn edit_of(alloc: Global, line: &[u8]) -> Result<Edit, AllocError> {
     for _ in 0..2u8 {
         if let Ok(Some(DeskLine::Edit(edit))) = read_desk(alloc, line) {

@@ -8,14 +8,14 @@ use std::io;
 /// More mappings than a book may hold.
 const MAPPINGS: u32 = 70_000;
 
-/// Fills a book, prints what the next publish is answered, and how that goes once a mapping is withdrawn.
+/// Fills a book. Prints the answer to the next publish, before and after a withdrawal.
 pub(crate) fn print_full<R: Print + AllocGlobal, K: Kind>(rt: &R) -> io::Result<()> {
     let mut book = K::empty(rt.alloc(), Limits::widest())?;
     fill(rt, &mut book)?;
     refill(rt, &mut book)
 }
 
-/// Publishes one small square after another until one is refused, and prints how many were accepted and the refusal.
+/// Publishes small squares until one is refused. Prints how many were accepted, and the refusal.
 fn fill<R: Print + AllocGlobal, K: Kind>(rt: &R, book: &mut K) -> io::Result<()> {
     for number in 0..MAPPINGS {
         if let Err(error) = publish(rt.alloc(), book, number, PUBLISHED)? {

@@ -6,16 +6,16 @@ use std::alloc::{AllocError, Global};
 
 /// A book of one of the two kinds.
 pub(crate) trait Kind: Holdings + Drop {
-    /// Its name in what is printed.
+    /// Its name in the output.
     const NAME: &'static str;
 
-    /// One without mappings, or want of memory.
+    /// A book without mappings.
     fn empty(alloc: Global, limits: Limits) -> Result<Self, AllocError>;
 
-    /// What refuses an edit, if anything does.
+    /// Whether the book would refuse an edit, and why.
     fn check(&self, edit: &Edit) -> Result<(), EditError>;
 
-    /// Applies an edit, which leaves it as it is where it is refused.
+    /// Applies an edit. A refusal leaves the book as it was.
     fn apply(&mut self, edit: Edit) -> Result<(), EditError>;
 }
 

@@ -1,20 +1,19 @@
-//! Rows and runs of edits over the plain book and the indexed one. Each word of the command line is a command, and the
-//! commands run in turn; what a command prints stands under its word. The exit status is 1 where the two books differ, and
-//! 2 where there is no word or one that is unknown.
+//! Rows and runs of edits over the plain book and the indexed one. Each word of the command line is a command. The
+//! commands run in turn, and each prints below its word. The exit status is 1 where the two books differ, and 2 where
+//! there is no word, or an unknown one.
 //!
-//! - `edits`: the desk lines of standard input, which are edits, are applied to both, and what each answers then is printed,
-//!   with the identities whose publish it refuses as withdrawn. A line `limits` begins both anew within its numbers. Where
-//!   memory is refused for an edit, what the book answers then is printed, and the edit is applied again; a question that
-//!   memory was refused for is asked again.
-//! - `full`: the indexed book takes as many mappings as the limits allow, the next publish is refused, and goes once a
-//!   mapping is withdrawn. Then both remember as many withdrawals as the limits allow, the next one is refused, and goes
-//!   once a mapping that was withdrawn is published again.
-//! - `calls`: the calls that take no memory are made, on values that were made before: of a book on those of the table
-//!   `calls.rows`. `prepared` makes the values alone.
-//! - `runs`: the runs of the table `runs.rows` are drawn at random. After each edit both are asked alike, and each answer is
-//!   compared.
-//! - `changes`, `many-changes`: a hundred thousand edits of the indexed book, or a million, after each round of which a thousand
-//!   mappings are held, and then the time that it takes to list the services.
+//! - `edits`: applies the edits of standard input, which are desk lines, to both books. Prints the answers of each,
+//!   with the identities whose publish it refuses as withdrawn. A line `limits` begins both anew with these limits. If
+//!   memory is refused for an edit, prints what the book then answers, and applies the edit again; if for a question,
+//!   asks it again.
+//! - `full`: the indexed book takes as many mappings as the limits allow, refuses the next publish, and accepts it
+//!   after a withdrawal. Then both remember as many withdrawals as the limits allow, refuse the next one, and accept it
+//!   after a withdrawn mapping is published again.
+//! - `calls`: the calls that take no memory, on values made before. The books are those of the table `calls.rows`.
+//!   `prepared` makes the values alone.
+//! - `runs`: the random runs of the table `runs.rows`. After each edit, compares the answers of both books.
+//! - `changes`, `many-changes`: a hundred thousand edits of the indexed book, or a million, with a thousand mappings
+//!   after each round; then the time to list the services.
 //!
 //! All but `prepared`, `changes` and `many-changes` run in the gate.
 #![tactic(auto)]

@@ -1,4 +1,4 @@
-//! Two books of different kinds, which are edited alike.
+//! Two books of different kinds that take the same edits.
 use crate::kinds::Kind;
 use crate::runs::questions::Question;
 use lost_book::{Edit, EditError, Limits};
@@ -13,19 +13,19 @@ pub(crate) struct Pair<A: Kind, B: Kind> {
     pub(crate) second: B,
 }
 
-/// What an edit came to.
+/// The outcome of an edit.
 #[derive(Clone, Copy)]
 pub(crate) enum Outcome {
     /// Both accepted it.
     Accepted,
-    /// Both refused it, for the same cause, and said so before.
+    /// Both refused it for the same cause, and their checks said so before.
     Refused(EditError),
     /// They differ.
     Differs,
 }
 
 impl<A: Kind, B: Kind> Pair<A, B> {
-    /// Two books without mappings, or want of memory.
+    /// Two books without mappings.
     pub(crate) fn empty(alloc: Global, limits: Limits) -> Result<Pair<A, B>, AllocError> {
         Ok(Pair {
             first: A::empty(alloc, limits)?,
@@ -33,7 +33,7 @@ impl<A: Kind, B: Kind> Pair<A, B> {
         })
     }
 
-    /// Checks an edit and applies it, in both, or want of memory.
+    /// Checks an edit and applies it, in both.
     pub(crate) fn apply(&mut self, edit: Edit) -> Result<Outcome, AllocError> {
         let checked = self.first.check(&edit);
         let agree = self.second.check(&edit) == checked;
@@ -52,7 +52,7 @@ impl<A: Kind, B: Kind> Pair<A, B> {
         }
     }
 
-    /// Whether both answer a question alike, or want of memory.
+    /// Whether both answer a question alike.
     pub(crate) fn agree(&self, alloc: Global, question: Question) -> Result<bool, AllocError> {
         Ok(question.answer(alloc, &self.first)? == question.answer(alloc, &self.second)?)
     }

@@ -1,4 +1,4 @@
-//! Withdrawals one after another, until one is refused because as many are remembered as may be.
+//! Withdrawals one after another, until one is refused because no more can be remembered.
 use crate::full::said;
 use crate::kinds::Kind;
 use crate::squares::{PUBLISHED, WITHDRAWN, publish, withdraw};
@@ -15,7 +15,7 @@ const AGAIN: &str = "2025-12-03T00:00:00Z";
 
 const AGAIN_WITHDRAWN: &str = "2025-12-04T00:00:00Z";
 
-/// What is done once as many withdrawals are remembered as may be: whether it is a publish, of which square, and its stamp.
+/// The edits of a book that can remember no more: whether each is a publish, its square and its stamp.
 const EDITS: [(bool, u32, &str); 8] = [
     (true, 0, WITHDRAWN),
     (true, 32_768, WITHDRAWN),
@@ -27,7 +27,7 @@ const EDITS: [(bool, u32, &str); 8] = [
     (false, 0, AGAIN_WITHDRAWN),
 ];
 
-/// Has a book remember as many withdrawals as it may, and prints what the next one is answered, and how edits go then.
+/// Has a book remember as many withdrawals as it may. Prints the answer to the next one, and to the edits after it.
 pub(crate) fn print_remembered<R: Print + AllocGlobal, K: Kind>(rt: &R) -> io::Result<()> {
     let mut book = K::empty(rt.alloc(), Limits::widest())?;
     remember(rt, &mut book)?;
@@ -48,8 +48,8 @@ pub(crate) fn print_remembered<R: Print + AllocGlobal, K: Kind>(rt: &R) -> io::R
     said(rt, &book)
 }
 
-/// Publishes one square after another, each of which is withdrawn before the next, until an edit is refused, and prints how
-/// many were withdrawn and the refusal.
+/// Publishes squares, and withdraws each before the next, until an edit is refused. Prints how many were withdrawn, and
+/// the refusal.
 fn remember<R: Print + AllocGlobal, K: Kind>(rt: &R, book: &mut K) -> io::Result<()> {
     for number in 0..IDENTITIES {
         if let Err(error) = passing(rt.alloc(), book, number)? {
@@ -65,7 +65,7 @@ fn remember<R: Print + AllocGlobal, K: Kind>(rt: &R, book: &mut K) -> io::Result
     println!(rt; "never full")
 }
 
-/// What a book answers to the publish of a square, or, where it accepts that, to its withdrawal.
+/// The answer to the publish of a square or, if the book accepts that, to its withdrawal.
 fn passing<K: Kind>(
     alloc: Global,
     book: &mut K,

@@ -1,4 +1,4 @@
-//! The runs of the table, and what they came to.
+//! The runs of the table, and their results.
 
 mod drawn_edits;
 pub(crate) mod draws;
@@ -24,7 +24,7 @@ use std::rt::Files;
 /// How many rounds of questions follow each edit.
 const ROUNDS: u64 = 20;
 
-/// What an edit is refused for, by code.
+/// The refusals of an edit, by code.
 const REFUSALS: [EditError; 9] = [
     EditError::IdentityHeld,
     EditError::IdentityUnknown,
@@ -37,18 +37,18 @@ const REFUSALS: [EditError; 9] = [
     EditError::TracesFull,
 ];
 
-/// What a run came to.
+/// The result of a run.
 #[derive(Drop)]
 struct Tally {
     accepted: u64,
     refusals: Vec<EditError>,
     questions: u64,
-    /// The edit after which something differed, and what did.
+    /// The edit after which the books differed, and what differed.
     difference: Option<(u64, &'static str)>,
 }
 
 impl Tally {
-    /// Nothing came yet.
+    /// A run without edits.
     fn new(alloc: Global) -> Tally {
         Tally {
             accepted: 0,
@@ -59,8 +59,8 @@ impl Tally {
     }
 }
 
-/// Runs each row, and prints what it came to and how often each refusal came. Says whether nothing differs; what does is
-/// printed, and ends the runs.
+/// Runs each row. Prints its result, and how often each refusal came. Says whether nothing differs; a difference is
+/// printed and ends the runs.
 pub(crate) fn print_runs<R: Files + Print + AllocGlobal, A: Kind, B: Kind>(
     rt: &R,
 ) -> io::Result<bool> {
@@ -90,7 +90,7 @@ pub(crate) fn print_runs<R: Files + Print + AllocGlobal, A: Kind, B: Kind>(
     Ok(true)
 }
 
-/// Runs a row, up to its end or to a difference.
+/// Runs a row to its end, or to a difference.
 fn run<A: Kind, B: Kind>(alloc: Global, row: &Row) -> io::Result<Tally> {
     let mut tally = Tally::new(alloc);
     let mut pair = Pair::<A, B>::empty(alloc, row.limits)?;
@@ -98,7 +98,7 @@ fn run<A: Kind, B: Kind>(alloc: Global, row: &Row) -> io::Result<Tally> {
     Ok(tally)
 }
 
-/// Makes the edits of a row, up to its end or to a difference.
+/// Makes the edits of a row to its end, or to a difference.
 fn run_edits<A: Kind, B: Kind>(
     alloc: Global,
     row: &Row,
@@ -116,7 +116,8 @@ fn run_edits<A: Kind, B: Kind>(
     Ok(())
 }
 
-/// Makes the edit of this number, and asks all rounds after it. Says after which edit something differs, and what does.
+/// Makes the edit of this number, and asks all rounds after it. If something differs, gives the number and what
+/// differs.
 fn run_edit<A: Kind, B: Kind>(
     alloc: Global,
     draws: &mut Draws,
@@ -133,7 +134,7 @@ fn run_edit<A: Kind, B: Kind>(
     asked(alloc, draws, pair, number)
 }
 
-/// Asks all rounds after the edit of this number: the first question to which the answers differ.
+/// Asks all rounds after the edit of this number. Gives the first question to which the answers differ.
 fn asked<A: Kind, B: Kind>(
     alloc: Global,
     draws: &mut Draws,

@@ -10,7 +10,7 @@ pub(crate) const PUBLISHED: &str = "2025-12-01T00:00:00Z";
 /// When they are withdrawn.
 pub(crate) const WITHDRAWN: &str = "2025-12-02T00:00:00Z";
 
-/// What a book answers to the publish of a square, or want of memory.
+/// The answer of a book to the publish of a square.
 pub(crate) fn publish<K: Kind>(
     alloc: Global,
     book: &mut K,
@@ -21,7 +21,7 @@ pub(crate) fn publish<K: Kind>(
     Ok(book.apply(edit_of(alloc, line.as_bytes())?))
 }
 
-/// What a book answers to the withdrawal of a square, or want of memory.
+/// The answer of a book to the withdrawal of a square.
 pub(crate) fn withdraw<K: Kind>(
     alloc: Global,
     book: &mut K,

@@ -4,8 +4,8 @@ use lost_book::{Edit, EditError};
 use lost_mapping::{Mapping, Parts};
 use std::alloc::{AllocError, Global};
 
-/// The identities that are looked for: two mappings of the rows, another source with the sourceId of the first one, and
-/// another sourceId with its source.
+/// The identities that are looked for: two mappings of the rows, and for the first one its sourceId with another source
+/// and its source with another sourceId.
 const IDENTITIES: [(&str, &str); 4] = [
     ("map.example", "A"),
     ("map.example", "B"),
@@ -13,17 +13,17 @@ const IDENTITIES: [(&str, &str); 4] = [
     ("map.example", "a"),
 ];
 
-/// How many days of December 2025 there are with whose first second a publish is stamped, from the first on.
+/// Publishes are stamped with the first second of so many days of December 2025, from the first on.
 const DAYS: u64 = 6;
 
-/// Publishes of the identities, each stamped with the days in turn.
+/// Publishes of the identities, one for each day.
 #[derive(Drop)]
 pub(crate) struct Publishes {
     of_identities: Vec<Vec<Edit>>,
 }
 
 impl Publishes {
-    /// All of them, or want of memory.
+    /// Makes all publishes.
     pub(crate) fn new(alloc: Global) -> Result<Publishes, AllocError> {
         let mut of_identities = Vec::new(alloc);
         for (source, source_id) in IDENTITIES {
@@ -32,7 +32,7 @@ impl Publishes {
         Ok(Publishes { of_identities })
     }
 
-    /// Adds for each identity the last day with whose stamp a book refuses its publish as withdrawn, or a dash.
+    /// Adds for each identity the last day whose publish a book refuses as withdrawn, or a dash.
     pub(crate) fn add_last_refused<K: Kind>(
         &self,
         alloc: Global,

@@ -1,6 +1,6 @@
-//! A desk and two readers: one has a cache of one place, and the other one answers over a keeper of one set that counts its
-//! calls. First come the capacities that are refused, and what the reader that is handed back then answers, and last the
-//! counts. A desk, a cache and a question that are refused for want of memory are asked for again.
+//! A desk and two readers: one has a cache of one place, and the other one answers over a keeper of one set that counts
+//! its calls. First come the capacities that are refused, and what the reader that is handed back then answers, and
+//! last the counts. If memory is refused for a desk, a cache or a question, it is asked for again.
 
 use crate::counting::Counting;
 use crate::orders::{QUESTION, is_ordered, print_reply, say_memory};
@@ -13,7 +13,7 @@ use std::sync::Wait;
 use std::{fs, io};
 use test_rows::{Setting, limits};
 
-/// What parts the sessions of the file.
+/// The line between two sessions of the file.
 const NEXT: &str = "next\n";
 
 /// Runs the sessions of `cache.lines`, each with a desk of its own.
@@ -27,7 +27,7 @@ pub(crate) fn run<R: Files + Wait + Print + AllocGlobal>(rt: &R) -> io::Result<(
     Ok(())
 }
 
-/// Runs the lines of a session; false where its desk is refused, which is said.
+/// Runs the lines of a session. If its desk is refused, prints that and gives false.
 fn is_run<R: Wait + Print + AllocGlobal>(rt: &R, text: &str) -> io::Result<bool> {
     match open_desk(rt, rt.alloc(), limits(), 2) {
         Ok((mut desk, mut readers)) => {
@@ -43,7 +43,7 @@ fn is_run<R: Wait + Print + AllocGlobal>(rt: &R, text: &str) -> io::Result<bool>
     }
 }
 
-/// Takes both readers, says which capacities are refused, and answers lines.
+/// Takes both readers, prints which capacities are refused, and answers lines.
 fn take_and_answer<R: Wait + Print + AllocGlobal>(
     rt: &R,
     desk: &mut Desk,
@@ -60,7 +60,7 @@ fn take_and_answer<R: Wait + Print + AllocGlobal>(
     answer_lines(rt, desk, &mut cached, &mut reader, &setting, text)
 }
 
-/// A reader with a cache of one place, once it was refused caches of too few and too many.
+/// A reader with a cache of one place, after it was refused caches of too few and too many.
 fn cached<R: Print + AllocGlobal>(
     rt: &R,
     readers: &mut Readers,
@@ -81,7 +81,8 @@ fn cached<R: Print + AllocGlobal>(
     }
 }
 
-/// Says how a reader is refused a cache of so many places, and gives the reader that is handed back, once it has answered.
+/// Prints how a reader is refused a cache of so many places, and has the reader that is handed back answer. Gives it
+/// back.
 fn handed_back<R: Print + AllocGlobal>(
     rt: &R,
     refusal: CacheRefusal,

@@ -1,6 +1,6 @@
-//! Calls of a desk and of its readers that take no memory, and what is written of a desk's answers. What they are made on is
-//! made first, by the table `calls.lines`: a line `limits` begins a desk within its numbers, a line `accepted` has an edit
-//! that it accepts, and a line `refused` one that it refuses once those are committed.
+//! Calls of a desk and of its readers that take no memory, and the texts of a desk's answers. The desks are made first,
+//! from the table `calls.lines`: a line `limits` begins a desk with these limits, a line `accepted` has an edit that it
+//! accepts, and a line `refused` one that it refuses after the others are committed.
 ghost use Rattle.std.specs.Prelude.{◌≡◌};
 
 use crate::orders::say_memory;
@@ -15,7 +15,7 @@ use std::sync::Wait;
 use std::{fs, io};
 use test_rows::limits_of;
 
-/// Makes each desk of the table, and prints what is answered to the calls, where they are made.
+/// Makes each desk of the table. If `are_made`, makes the calls too and prints their answers.
 pub(crate) fn run<R: Files + Wait + Print + AllocGlobal>(rt: &R, are_made: bool) -> io::Result<()> {
     let table = fs::read_to_string(rt, "calls.lines")?;
     for part in table.as_str().split("limits ").skip(1) {
@@ -106,7 +106,8 @@ fn stage_line(alloc: Global, desk: &mut Desk, line: &str, refused: &mut Vec<Edit
     }
 }
 
-/// Tells the second reader what is published, and says whether there is a third one; then commits with nothing pending.
+/// Tells the second reader what is published, and prints whether there is a third one; then commits with nothing
+/// pending.
 fn tell_and_learn<R: Wait + Print>(rt: &R, desk: &mut Desk, readers: &mut Readers) -> io::Result<()>
     requires { readers.old.each.opening ≡ desk.old.opening }
 {
@@ -138,7 +139,7 @@ fn refuse<R: Wait + Print>(rt: &R, desk: &mut Desk, refused: Vec<Edit>) -> io::R
     }
 }
 
-/// Prints what is written of a desk's answers.
+/// Prints the texts of a desk's answers.
 fn write_replies<R: Print>(rt: &R) -> io::Result<()> {
     print_written(rt, &write_desk(&DeskReply::Staged(1)))?;
     print_written(rt, &write_desk(&DeskReply::Committed(u64::MAX)))?;

@@ -1,4 +1,4 @@
-//! Sets of places, of which the last one is kept, and how often they were looked for, found and kept.
+//! A keeper of the last set of positions. It counts how often sets are looked for, found and kept.
 ghost use Rattle.std.specs.Prelude.{◌≡◌, None, IfSome};
 ghost use Rattle.lost_query.specs.Place.{place_of};
 ghost use Rattle.lost_desk.specs.Sets.{entry};
@@ -6,7 +6,7 @@ ghost use Rattle.lost_desk.specs.Sets.{entry};
 use lost_desk::PlaceSets;
 use lost_query::Place;
 
-/// The set of a place in the book of so many edits.
+/// The set of a place in the book of an edition.
 #[derive(Drop)]
 pub(crate) struct Kept {
     edition: u64,
@@ -14,7 +14,7 @@ pub(crate) struct Kept {
     set: Vec<usize>,
 }
 
-/// The set that was kept last, and the counts of the calls.
+/// The last set that was kept, and the counts of the calls.
 #[derive(Drop)]
 pub(crate) struct Counting {
     kept: Option<Kept>,
@@ -38,7 +38,7 @@ impl Counting {
         }
     }
 
-    /// The set that is kept, where it is of this edition and place.
+    /// The kept set, if it is of this edition and place.
     fn set_of(&self, edition: u64, place: &Place) -> Option<&[usize]>
         ensures { IfSome result (λ set. IsTheOne self.now.kept (entry edition (place_of place.now) set.now)) }
     {

@@ -1,5 +1,5 @@
-//! A desk and one reader. First come the numbers of workers that are refused, and whether there is a second reader. A desk
-//! that is refused for want of memory is opened again.
+//! A desk and one reader. First come the numbers of workers that are refused, and whether there is a second reader. If
+//! memory is refused for the desk, it is opened again.
 ghost use Rattle.std.specs.Prelude.{◌≡◌};
 
 use crate::orders::{is_ordered, print_reply};
@@ -22,7 +22,7 @@ pub(crate) fn run<R: Files + Wait + Print + AllocGlobal>(rt: &R) -> io::Result<(
     Ok(())
 }
 
-/// Runs lines by a desk of their own; false where it is refused, which is said.
+/// Runs lines by a desk of their own. If it is refused, prints that and gives false.
 fn is_run<R: Wait + Print + AllocGlobal>(rt: &R, text: &str) -> io::Result<bool> {
     match open_desk(rt, rt.alloc(), limits(), 1) {
         Ok((mut desk, mut readers)) => {
@@ -38,7 +38,7 @@ fn is_run<R: Wait + Print + AllocGlobal>(rt: &R, text: &str) -> io::Result<bool>
     }
 }
 
-/// Says how a desk with so many workers is refused.
+/// Prints how a desk with so many workers is refused.
 fn refused<R: Wait + Print + AllocGlobal>(rt: &R, workers: u32) -> io::Result<()> {
     match open_desk(rt, rt.alloc(), limits(), workers) {
         Ok((desk, _readers)) => {
@@ -49,7 +49,7 @@ fn refused<R: Wait + Print + AllocGlobal>(rt: &R, workers: u32) -> io::Result<()
     }
 }
 
-/// Takes the reader, says whether there is a second one, and answers lines.
+/// Takes the reader, prints whether there is a second one, and answers lines.
 fn take_and_answer<R: Wait + Print + AllocGlobal>(
     rt: &R,
     desk: &mut Desk,

@@ -1,14 +1,14 @@
-//! Runs the rows of a desk and its readers. Each word of the command line is a command, and the commands run in turn:
+//! Runs the rows of a desk and its readers. Each word of the command line is a command. The commands run in turn:
 //!
-//! - `desk`: the lines of `desk.lines`, for a desk and one reader. A desk line goes to the desk, `tell` has the reader learn
-//!   what the desk tells, and any other line goes to the reader.
-//! - `cache`: the lines of `cache.lines`, for a desk and two readers, of which one has a cache and the other one counts
-//!   what it finds. A desk line goes to the desk, any other line to both. The line `next` ends a session, and the next one
-//!   has a desk of its own.
+//! - `desk`: the lines of `desk.lines`, for a desk and one reader. A desk line goes to the desk, `tell` has the reader
+//!   learn what the desk tells, and any other line goes to the reader.
+//! - `cache`: the lines of `cache.lines`, for a desk and two readers: one has a cache, the other counts what it finds.
+//!   A desk line goes to the desk, any other line to both. The line `next` ends a session, and the next one has a desk
+//!   of its own.
 //! - `many`: a desk's connection on which two thousand edits are staged before each of two commits.
 //! - `threads`: a desk in one thread and a reader in another, a thousand times.
-//! - `calls`: the calls that take no memory, on the desks of the table `calls.lines` and their readers. `prepared` makes these
-//!   alone.
+//! - `calls`: the calls that take no memory, on the desks of the table `calls.lines` and their readers. `prepared`
+//!   makes these alone.
 //!
 //! Each answer is a line of the output.
 #![tactic(auto)]

@@ -1,5 +1,5 @@
-//! A desk's connection on which many edits are staged before each commit: as many mappings as the desk may hold are
-//! published and committed, and then all of them are replaced and committed. A reader then finds the last one.
+//! A desk's connection that stages many edits before each commit: it publishes and commits as many mappings as the desk
+//! may hold, and then replaces and commits them all. A reader then finds the last one.
 
 use crate::orders::print_reply;
 use lost_book::Limits;
@@ -14,7 +14,7 @@ use test_rows::Setting;
 /// How many mappings there are, and how many edits a commit takes.
 const MAPPINGS: u32 = 2_000;
 
-/// What the edits do, and their stamps.
+/// The verbs of the edits, and their stamps.
 const ROUNDS: [(&str, &str); 2] = [
     ("publish", "2025-12-01T00:00:00Z"),
     ("replace", "2025-12-02T00:00:00Z"),
@@ -61,7 +61,7 @@ fn ask<R: Print + AllocGlobal>(rt: &R, reader: &mut Reader, setting: &Setting) -
     )
 }
 
-/// Serves an edit of each mapping and a commit, and prints how they were answered.
+/// Serves an edit of each mapping and a commit, and prints the answers.
 fn serve_round<R: Wait + Print + AllocGlobal>(
     rt: &R,
     desk: &mut Desk,
@@ -90,8 +90,8 @@ fn lines_of_round(alloc: Global, verb: &str, stamp: &str) -> Result<Vec<u8>, All
     Ok(lines)
 }
 
-/// The line that publishes or replaces a mapping by its number, from 1. Its ring lies between its number of thousands and the
-/// next one, which no other ring does, and its key has the verb.
+/// The line that publishes or replaces a mapping by its number, from 1. No two rings meet: each lies between its number
+/// of thousands and the next one. The key has the verb.
 fn edit_line(alloc: Global, verb: &str, stamp: &str, number: u32) -> Result<String, AllocError> {
     format!(in alloc;
         "{{\"{verb}\":{{\"expires\":\"NO-EXPIRATION\",\"key\":\"{verb}-{number}\",\"lastUpdated\":\"{stamp}\",\"service\":\"urn:service:sos.police\",\"serviceBoundary\":[{{\"polygon\":[[0,{number}000],[0,{number}999],[1000,{number}999],[1000,{number}000],[0,{number}000]],\"profile\":\"geodetic-2d\"}}],\"source\":\"map.example\",\"sourceId\":\"{number}\",\"uri\":[\"sip:{number}@map.example\"]}}}}\n"

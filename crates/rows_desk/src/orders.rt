@@ -1,4 +1,4 @@
-//! What a desk answers to its lines, and how it is printed. A line that is refused for want of memory is answered so.
+//! The answers of a desk to its lines, as they are printed. If memory is refused for a line, the answer says so.
 ghost use Rattle.std.specs.Prelude.{◌≡◌};
 
 use lost_book::EditError;
@@ -14,7 +14,7 @@ use std::sync::Wait;
 pub(crate) const QUESTION: &[u8] =
     br#"{"findService":{"location":[{"id":"p","pos":[5000000,5000000],"profile":"geodetic-2d"}],"service":"urn:service:sos.police"}}"#;
 
-/// Has the desk do what a line orders, and prints what it answers; false where the line is a question.
+/// Has the desk do what a line orders, and prints the answer; false where the line is a question.
 pub(crate) fn is_ordered<R: Wait + Print + AllocGlobal>(
     rt: &R,
     desk: &mut Desk,
@@ -31,7 +31,7 @@ pub(crate) fn is_ordered<R: Wait + Print + AllocGlobal>(
     Ok(true)
 }
 
-/// Gives the desk an order, and prints what it answers.
+/// Gives the desk an order, and prints the answer.
 fn order_desk<R: Wait + Print>(rt: &R, desk: &mut Desk, order: DeskLine) -> io::Result<()>
     ensures { desk.new.opening ≡ desk.old.opening }
 {
@@ -59,7 +59,7 @@ pub(crate) fn print_reply<R: Print>(rt: &R, reply: Result<Vec<u8>, AllocError>) 
     Ok(())
 }
 
-/// Prints the answer to a line that is refused for want of memory.
+/// Prints that memory was refused.
 pub(crate) fn say_memory<R: Print>(rt: &R) -> io::Result<()> {
     println!(rt; "memory ran out")
 }

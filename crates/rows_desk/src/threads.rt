@@ -1,6 +1,6 @@
-//! A desk in one thread and a reader in another, a thousand times: the desk stages an edit, commits it and tells it, and
-//! the reader learns what it was told and answers. No edition falls, and each reply is that of a book beside to which the
-//! same edits were applied.
+//! A desk in one thread and a reader in another, a thousand times: the desk stages an edit, commits it and tells it,
+//! and the reader learns what it was told and answers. No edition falls, and each reply equals that of a second book
+//! with the same edits.
 
 mod answering;
 mod beside;
@@ -38,7 +38,7 @@ pub(crate) fn run<R: Threads + Wait + Sync + Print + AllocGlobal>(rt: &R) -> io:
     }
 }
 
-/// Opens a desk with one reader, and gives how many commits and how many answers there were.
+/// Opens a desk with one reader, and runs all rounds. Gives how many commits and answers there were.
 fn run_rounds<R: Threads + Wait + Sync>(rt: &R, alloc: Global) -> Result<(u64, u64), Fault> {
     let Some(limits) = Limits::new(1, 1_000) else {
         return Err(Fault::Refused);
@@ -54,7 +54,7 @@ fn run_rounds<R: Threads + Wait + Sync>(rt: &R, alloc: Global) -> Result<(u64, u
     by_letters::<Brand, R>(rt, alloc, setting, limits, desk, reader)
 }
 
-/// Has the desk and the reader do all rounds over a channel, and closes the desk.
+/// Has the desk and the reader run all rounds over a channel, and closes the desk.
 fn by_letters<J: Naming + Send + Sync, R: Threads + Wait + Sync>(
     rt: &R,
     alloc: Global,

@@ -1,5 +1,5 @@
-//! Calls that take no memory, over each profile: whether a region contains a location, and the cut and the take of an index.
-//! The values that they are made on are made first.
+//! Calls that take no memory, over each profile: whether a region contains a location, and the cut and the take of an
+//! index. Their values are made first.
 ghost use Rattle.std.specs.Prelude.{◌≡◌, IfOk, length};
 
 use crate::reading::{address, pattern, required};
@@ -15,12 +15,12 @@ use lost_profile::Profile;
 use std::alloc::{AllocError, Global};
 use std::io;
 
-/// The address of the questions, and the elements of it that are required.
+/// The address of the questions, and its required elements.
 const ADDRESS: &str = "country=US;A3= leonia ;HNO=6";
 
 const REQUIRED: &str = "country=US;A3= leonia ;HNO=6 / country A3";
 
-/// Makes the values of each profile, and prints what is answered to the calls, where they are made.
+/// Makes the values of each profile. If `are_made`, makes the calls too and prints their answers.
 pub(crate) fn print_all<R: Print + AllocGlobal>(rt: &R, are_made: bool) -> io::Result<()> {
     let alloc = rt.alloc();
     let place = point(5_000_000, 5_000_000)?;
@@ -35,8 +35,8 @@ pub(crate) fn print_all<R: Print + AllocGlobal>(rt: &R, are_made: bool) -> io::R
     print_calls::<R, Tens>(rt, stretches(alloc)?, &asked, &21, are_made)
 }
 
-/// Makes an index of two regions, and prints which of others contain a location, cuts one of the two away, and takes the
-/// other one out, where the calls are made.
+/// Makes an index of two regions. If `are_made`, prints which of the others contain a location, cuts one of the two
+/// away, and takes the other one out.
 fn print_calls<R: Print + AllocGlobal, P: Profile>(
     rt: &R,
     kept: Vec<P::Region>,
@@ -90,7 +90,7 @@ fn stretches(alloc: Global) -> Result<Vec<Stretch>, AllocError>
     Ok(regions)
 }
 
-/// A text is no pattern and no address, or memory ran out.
+/// A text is no pattern or address, or memory was refused.
 fn unreadable() -> io::Error {
     io::Error::from(io::ErrorKind::InvalidData)
 }

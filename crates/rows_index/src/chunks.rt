@@ -7,10 +7,10 @@ use std::io;
 /// How many elements are pushed first: some chunks, and part of one.
 const PUSHED: usize = 2_000;
 
-/// How far apart the positions of two turns are: a prime, so that they come all over the list.
+/// The distance between the positions of two turns: a prime, so that they spread over the list.
 const STRIDE: usize = 7_919;
 
-/// Edits both, and prints whether they are the same after each edit. Says so too.
+/// Edits both. Prints and returns whether they are the same after each edit.
 pub(crate) fn print_edits<R: Print + AllocGlobal>(rt: &R) -> io::Result<bool> {
     let mut lists = Lists::new(rt.alloc());
     for element in 0..PUSHED {
@@ -57,8 +57,8 @@ impl Lists {
         Ok(())
     }
 
-    /// Changes an element of both, takes one out of both, and every third time pushes one on both. It says whether the
-    /// same was taken out.
+    /// Changes an element of both, takes one out of both, and every third time pushes one on both. Says whether both
+    /// gave the same.
     fn edit(&mut self, turn: usize) -> Result<bool, AllocError> {
         let len = self.tiered.len();
         if len == 0 || self.plain.len() != len {

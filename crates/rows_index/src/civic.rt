@@ -1,11 +1,11 @@
-//! Questions on civic keys, one a line, and their answers. A pattern and an address are written as `NAME=VALUE` with `;`
-//! between them, and elements by their names with spaces between them.
+//! Questions on civic keys, one a line, and their answers. A pattern and an address are written as `NAME=VALUE` with
+//! `;` between them, and elements by their names with spaces between them.
 //!
 //! - `cover PATTERN` and `probes ADDRESS`: the keys of the profile of civic addresses.
 //! - `contains PATTERN / ADDRESS`: whether the pattern contains the address.
 //! - `reference-cover PATTERN` and `reference-probes ADDRESS / ELEMENTS`: the keys of the profile of references, where
 //!   these elements of the address are required.
-//! - `refers PATTERN / ADDRESS / ELEMENTS`: whether the pattern contains them there.
+//! - `refers PATTERN / ADDRESS / ELEMENTS`: whether the pattern contains the address, with these elements required.
 
 use crate::reading::{address, pattern, required};
 use lost_civicdex::{Civic, ElementKey, References};

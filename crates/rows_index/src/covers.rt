@@ -28,7 +28,7 @@ fn print_probes<R: Print + AllocGlobal>(rt: &R) -> io::Result<()> {
     print_cells(rt, "probes of a point", &cells)
 }
 
-/// Prints cells behind their name.
+/// Prints a name and its cells.
 fn print_cells<R: Print + AllocGlobal>(rt: &R, name: &str, cells: &[Cell]) -> io::Result<()> {
     print!(rt; "{name}:")?;
     for cell in cells {

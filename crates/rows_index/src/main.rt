@@ -1,14 +1,14 @@
-//! Rows and runs of the indexes and of what they stand on. Each word of the command line is a command, and the commands
-//! run in turn; what a command prints stands under its word. The exit status is 1 where an answer differs from the plain
-//! one's, and 2 where there is no word or one that is unknown.
+//! Rows and runs of the indexes and of the crates below them. Each word of the command line is a command. The commands
+//! run in turn, and each prints below its word. The exit status is 1 where an answer differs from that of a plain list
+//! or scan, and 2 where there is no word, or an unknown one.
 //!
-//! - `covers`: the cells that rings are kept under, and those that a point is looked up under.
-//! - `index`: a row of edits of the map's index. Where memory is refused for a step, the step is made again.
-//! - `civic`: questions on civic keys, which stand on standard input.
-//! - `tens`: the same row over whole numbers that are kept by their tens, and runs drawn at random beside a scan.
+//! - `covers`: the cells of rings, and those under which a point is looked up.
+//! - `index`: a row of edits of the map's index. A step to which memory is refused is made again.
+//! - `civic`: questions on civic keys, from standard input.
+//! - `tens`: the same row over whole numbers that are kept by their tens, and random runs beside a scan.
 //! - `edits`, `many-edits`: ten thousand edits, or a million, over a thousand such numbers, and then the same scan.
-//! - `chunks`: a list in chunks, which is edited beside a plain list.
-//! - `calls`: the calls that take no memory are made, on values that were made before. `prepared` makes the values alone.
+//! - `chunks`: a list in chunks, edited beside a plain list.
+//! - `calls`: the calls that take no memory, on values made before. `prepared` makes the values alone.
 //!
 //! All but `many-edits` and `prepared` run in the gate.
 #![tactic(auto)]
@@ -41,7 +41,7 @@ const COMMANDS: [&str; 9] = [
     "prepared",
 ];
 
-/// The status where no command is given, or one that is unknown.
+/// The exit status where no command is given, or an unknown one.
 const COMMAND_LINE: u8 = 2;
 
 fn main(rt: HostRuntime) -> io::Result<ExitCode> {
@@ -65,7 +65,7 @@ fn main(rt: HostRuntime) -> io::Result<ExitCode> {
     Ok(ExitCode::from(COMMAND_LINE))
 }
 
-/// Runs a command. Says whether all answers are as they should be.
+/// Runs a command. Says whether all answers are right.
 fn run<R: Input + Print + AllocGlobal>(rt: &R, command: &str) -> io::Result<bool> {
     println!(rt; "== {command}")?;
     match command {

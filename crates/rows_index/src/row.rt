@@ -19,7 +19,7 @@ pub(crate) trait Row: Profile {
     /// A region that is far from it.
     fn far(alloc: Global) -> io::Result<Self::Region>;
 
-    /// The numbers that hold the location, or want of memory.
+    /// The numbers that hold the location.
     fn asked(index: &Index<Self>) -> io::Result<Vec<u64>>;
 }
 
@@ -51,7 +51,7 @@ impl Row for Tens {
     }
 }
 
-/// Prints what the index answers at each step of the row, and then tries each step that takes memory alone.
+/// Prints what the index answers at each step of the row, and then tries alone each step that takes memory.
 pub(crate) fn print_all<R: Print + AllocGlobal, P: Row>(rt: &R) -> io::Result<()> {
     print_row::<R, P>(rt)?;
     try_first_put::<R, P>(rt)?;
@@ -74,8 +74,8 @@ fn print_row<R: Print + AllocGlobal, P: Row>(rt: &R) -> io::Result<()> {
     print_asked(rt, "take", &index)
 }
 
-/// Does the row's first put alone. Only where it is refused for want of memory, prints what the index then answers, puts
-/// again, and prints that answer.
+/// Does the row's first put alone. If memory is refused, prints what the index then answers, puts again, and prints
+/// that answer.
 fn try_first_put<R: Print + AllocGlobal, P: Row>(rt: &R) -> io::Result<()> {
     let alloc = rt.alloc();
     let mut index: Index<P> = Index::new(alloc);
@@ -139,8 +139,7 @@ fn far<P: Row>(alloc: Global) -> io::Result<Vec<P::Region>>
     Ok(regions)
 }
 
-/// Prints the numbers that hold the location after a step. Where they are refused for want of memory, says so and asks
-/// again.
+/// Prints the numbers that hold the location after a step. If memory is refused, prints that and asks again.
 fn print_asked<R: Print + AllocGlobal, P: Row>(
     rt: &R,
     step: &str,
@@ -153,7 +152,7 @@ fn print_asked<R: Print + AllocGlobal, P: Row>(
     print_numbers(rt, step, &P::asked(index)?)
 }
 
-/// Prints numbers behind the name of their step.
+/// Prints the name of a step and its numbers.
 fn print_numbers<R: Print + AllocGlobal>(rt: &R, step: &str, numbers: &[u64]) -> io::Result<()> {
     print!(rt; "{step}:")?;
     for number in numbers {

@@ -1,4 +1,4 @@
-//! Rows of lines, and what a check says of them.
+//! Rows of lines, and what a check reports about them.
 
 mod checked;
 mod large;
@@ -12,8 +12,8 @@ use test_rows::Setting;
 /// The folder of the rows.
 const FOLDER: &str = "checks";
 
-/// Checks the lines of each row of the folder and of three that are made, and prints whether what is said of them is as
-/// expected. Says so too.
+/// Checks the lines of each row of the folder and of three that are made. Prints and returns whether the reports are as
+/// expected.
 pub(crate) fn print_checks<R: Files + Print + AllocGlobal + Clone + Drop>(
     rt: &R,
 ) -> io::Result<bool> {
@@ -40,7 +40,7 @@ fn are_large_said<R: Print + AllocGlobal>(rt: &R, setting: &Setting) -> io::Resu
     )
 }
 
-/// Whether a check says of lines what is expected; says how it went, with what was counted.
+/// Whether the report of a check is as expected. Prints that, and the counts.
 fn is_said<R: Print + AllocGlobal>(
     rt: &R,
     name: &str,

@@ -4,7 +4,8 @@ use std::rt::Files;
 use std::{fs, io};
 use test_rows::limits_of;
 
-/// The limits that the file `NAME.limits` of a folder gives, as [`limits_of`] reads them; `None` where there is no such file.
+/// The limits that the file `NAME.limits` of a folder gives, as [`limits_of`] reads them; `None` where there is no such
+/// file.
 pub(crate) fn limits<R: Files + AllocGlobal>(
     rt: &R,
     folder: &str,

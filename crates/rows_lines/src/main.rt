@@ -1,19 +1,17 @@
-//! Rows of lines. Each word of the command line is a command, and the commands run in turn; what a command prints stands
-//! under its word. The exit status is 1 where something is not as expected, and 2 where there is no word or one that is
-//! unknown.
+//! Rows of lines. Each word of the command line is a command. The commands run in turn, and each prints below its word.
+//! The exit status is 1 where something is not as expected, and 2 where there is no word, or an unknown one.
 //!
-//! - `sessions`: each session of the folder `sessions` is replayed, and then answered by a desk and a reader that keeps 1, 2
-//!   and 1,024 places. `NAME.jsonl` has the lines, `NAME.expected` the replies. A desk has the limits that the file
-//!   `NAME.limits` gives; a session with such a file is not replayed, since a replay has the widest.
+//! - `sessions`: each session of the folder `sessions` is replayed, and then answered by a desk and a reader that keeps
+//!   1, 2 and 1,024 places. `NAME.jsonl` has the lines, `NAME.expected` the replies. A desk has the limits that the
+//!   file `NAME.limits` gives; a session with such a file is not replayed, since a replay has the widest.
 //! - `checks`: the lines of each row of the folder `checks` are checked, and then those of three rows that are made.
-//!   `NAME.jsonl` has the lines, `NAME.expected` what is said of them.
-//! - `worlds`: the worlds of standard input are run, and the events of their steps are printed, one a line. A line
+//!   `NAME.jsonl` has the lines, `NAME.expected` the report.
+//! - `worlds`: runs the worlds of standard input, and prints the events of their steps, one a line. A line
 //!   `world W LIMITS` begins a world of so many workers, and each line after it is a step, until the next world:
 //!   `stage EDIT`, `publish`, `enter W`, `tell W N` or `answer W REQUEST`, with an edit and a request as lines of JSON.
 //!   (Own format.)
 //!
-//! Limits are three numbers: of the mappings that are held, the edits that are accepted and the withdrawn identities that
-//! are remembered.
+//! Limits are three numbers: the most mappings held, edits accepted and withdrawn identities remembered.
 #![tactic(auto)]
 
 mod checks;

@@ -2,15 +2,15 @@
 use std::rt::Files;
 use std::{fs, io};
 
-/// What ends the name of a row's file of lines.
+/// The ending of the name of a row's file of lines.
 const LINES: &str = ".jsonl";
 
 /// A row.
 #[derive(Drop)]
 pub(crate) struct Row {
-    /// The lines, of the file `NAME.jsonl`.
+    /// The lines, from the file `NAME.jsonl`.
     pub(crate) lines: Vec<u8>,
-    /// What is expected of them, of the file `NAME.expected`.
+    /// The expected text, from the file `NAME.expected`.
     pub(crate) expected: Vec<u8>,
 }
 

@@ -1,4 +1,4 @@
-//! Sessions, each answered in several ways, and the replies that are expected.
+//! Sessions, each answered in several ways, and the expected replies.
 
 mod cached;
 mod replayed;
@@ -17,7 +17,7 @@ const FOLDER: &str = "sessions";
 /// How many places the readers keep.
 const PLACES: [u32; 3] = [1, 2, 1_024];
 
-/// Has each session answered in each way, and prints whether all replies are as expected. Says so too.
+/// Has each session answered in each way. Prints and returns whether all replies are as expected.
 pub(crate) fn print_sessions<R: Files + Wait + Print + AllocGlobal + Clone + Drop>(
     rt: &R,
 ) -> io::Result<bool> {
@@ -31,7 +31,7 @@ pub(crate) fn print_sessions<R: Files + Wait + Print + AllocGlobal + Clone + Dro
     Ok(all)
 }
 
-/// Has one session answered in each way, and says how it went.
+/// Has one session answered in each way. Prints and returns whether the replies are as expected.
 fn is_as_expected<R: Files + Wait + Print + AllocGlobal>(
     rt: &R,
     name: &str,
@@ -56,7 +56,7 @@ fn is_as_expected<R: Files + Wait + Print + AllocGlobal>(
     Ok(true)
 }
 
-/// Whether the replies are those that are expected; says so where they are not.
+/// Whether the replies are the expected ones. Prints where they are not.
 fn is_same<R: Print>(
     rt: &R,
     name: &str,

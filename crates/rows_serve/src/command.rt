@@ -1,15 +1,15 @@
-//! Rows of the command line: a row begins after an empty line, and each of its lines begins with a mark.
+//! Rows of the command line. A row begins after an empty line, and each of its lines begins with a mark.
 //!
-//! | Mark | What stands behind it |
+//! | Mark | What follows it |
 //! |---|---|
 //! | `$` | the words, with a space between each two; `''` is an empty one |
 //! | `<` | a line of standard input |
-//! | `@` | what is special: `read N`, the read that fails; `broken`, writes to the output fail; `terminal`, standard error is one |
-//! | `=` | the status that is wanted |
-//! | `>` | a line of the output that is wanted |
-//! | `~` | a text that the output must have; it is not compared with lines then |
-//! | `!` | a line of standard error that is wanted |
-//! | `:` | the order of a server that is wanted |
+//! | `@` | `read N`: this read fails; `broken`: writes to the output fail; `terminal`: standard error is a terminal |
+//! | `=` | the expected status |
+//! | `>` | an expected line of the output |
+//! | `~` | a text that the output must have; its lines are then not compared |
+//! | `!` | an expected line of standard error |
+//! | `:` | the expected order of a server |
 mod console;
 mod exit_reasons;
 mod row;

@@ -38,7 +38,7 @@ const SCENES: [&str; 11] = [
     "health",
 ];
 
-/// Plays each scene, and prints what was replied and counted.
+/// Plays each scene, and prints the replies and the counts.
 pub(crate) fn run<
     R: Net<Listener = TcpListener, Stream = TcpStream>
         + Threads

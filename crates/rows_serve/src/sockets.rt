@@ -1,4 +1,4 @@
-//! Sockets of this machine: Unix sockets at paths of all kinds, addresses of TCP, and bytes over both.
+//! Sockets of this machine: Unix sockets at paths of all kinds, TCP addresses, and bytes over both.
 mod addresses;
 mod files;
 mod paths;
@@ -30,7 +30,7 @@ pub(crate) fn run<
     told
 }
 
-/// Listens at each kind of path and address, and sends bytes over connections. Prints what comes of it.
+/// Listens at each kind of path and address, and sends bytes over connections. Prints the results.
 fn run_rows<
     R: Files
         + Net<Listener = TcpListener, Stream = TcpStream>

@@ -1,15 +1,15 @@
-//! Rows of what an operator watches: a row begins after an empty line, and each of its lines begins with a mark.
+//! Rows of an operator's requests. A row begins after an empty line, and each of its lines begins with a mark.
 //!
-//! | Mark | What stands behind it |
+//! | Mark | What follows it |
 //! |---|---|
 //! | `#` | the name of the row |
-//! | `!` | what happens to a server before it is asked ([`events`] says what that may be) |
+//! | `!` | an event at the server before the request ([`events`] lists them) |
 //! | `$` | a line of the request, which ends in CRLF; `$` alone is the empty line |
 //! | `*` | how many bytes are put in front of the end of the line before |
-//! | `=` | the first line of the answer that is wanted |
-//! | `:` | a field of the answer that is wanted, among others |
-//! | `>` | a line of the answer's text that is wanted, beside which there is no other |
-//! | `~` | a line that the answer's text has; its lines are not compared then |
+//! | `=` | the expected first line of the answer |
+//! | `:` | an expected field of the answer, among others |
+//! | `>` | an expected line of the answer's text, which has no other lines |
+//! | `~` | a line that the answer's text must have; its other lines are then not compared |
 mod events;
 mod row;
 mod scenes;

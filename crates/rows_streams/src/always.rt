@@ -3,7 +3,7 @@ use lost_mapping::Moment;
 use lost_worker::Moments;
 use test_rows::Setting;
 
-/// Gives the same moment each time, and tells none.
+/// Gives the same moment each time.
 #[derive(Drop)]
 pub(crate) struct Always {
     moment: Moment,

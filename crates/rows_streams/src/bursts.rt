@@ -1,4 +1,4 @@
-//! Connections that are served in bursts. Rules without a section are this profile's own.
+//! Connections that are served in bursts.
 use crate::always::moments_of;
 use crate::sipping::{Piecewise, Sipping};
 use lost_connections::{Client, ClientFault, Progress};
@@ -13,9 +13,9 @@ const CHUNK: usize = 1_024;
 /// The most bursts of a connection.
 const MOST_BURSTS: u64 = 10_000_000;
 
-/// Serves a stream by a replier as a whole, and then in bursts, once for each place at which it can be cut into two pieces, by
-/// an output that takes so many bytes at a time. Prints the replies, at how many places it was cut, and at how many of them
-/// the replies were others.
+/// Serves a stream by a replier as a whole, and then in bursts, once for each place where it can be cut in two, by an
+/// output that takes so many bytes at a time. Prints the replies, at how many places it was cut, and at how many of
+/// these the replies differed.
 pub(crate) fn cut_everywhere<R: Print + AllocGlobal, P: Replier>(
     rt: &R,
     replier: &mut P,
@@ -75,7 +75,7 @@ fn write_text<R: Print>(rt: &R, text: &[u8]) -> io::Result<()> {
     Ok(())
 }
 
-/// What is written where a stream is served as a whole.
+/// The text written when a stream is served as a whole.
 fn whole_text<P: Replier>(
     alloc: Global,
     replier: &mut P,
@@ -100,7 +100,7 @@ fn whole_text<P: Replier>(
     }
 }
 
-/// Whether the same is written where the stream comes in two pieces.
+/// Whether the same text is written when the stream comes in two pieces.
 fn is_same<P: Replier>(
     alloc: Global,
     replier: &mut P,

@@ -1,4 +1,4 @@
-//! What serves a stream.
+//! Serves a stream by a replay, a desk or a reader.
 use crate::always::moments_of;
 use lost_book::Limits;
 use lost_desk::{Desk, Readers, open_desk};
@@ -9,7 +9,7 @@ use std::io::Read;
 use std::sync::Wait;
 use test_rows::{Setting, Sink};
 
-/// What serves a stream.
+/// The server of a stream.
 #[derive(Clone, Copy, Drop)]
 pub(crate) enum By {
     /// A replay.
@@ -21,7 +21,7 @@ pub(crate) enum By {
 }
 
 impl By {
-    /// What a word of a command names.
+    /// The server that a word of a command names.
     pub(crate) fn named(word: &str) -> Option<By> {
         match word {
             "replay" => Some(By::Replay),
@@ -42,7 +42,7 @@ pub(crate) struct Outcome {
 }
 
 impl Outcome {
-    /// How a stream was served, by the streams after it.
+    /// How a stream was served, read from the streams after it.
     fn of<R: Read + Drop>(
         served: Result<Counts, ServeError>,
         input: &Watched<R>,
@@ -58,7 +58,7 @@ impl Outcome {
     }
 }
 
-/// Serves a stream from its start, or `None` where memory is refused before it is read.
+/// Serves a stream from its start; `None` where memory is refused before the first read.
 pub(crate) fn served<T: Wait, R: Read + Drop>(
     rt: &T,
     alloc: Global,

@@ -1,4 +1,4 @@
-//! The texts of all faults, and what is answered where memory is refused.
+//! The texts of all faults, and the answers where memory is refused.
 use lost_json::{DeskFault, DeskReply, ReadError, desk_answer, internal_error};
 use lost_lines::Answer;
 use lost_replay::ServeError;
@@ -10,15 +10,15 @@ use std::alloc::{AllocError, Global};
 use std::fmt::Display;
 use std::io;
 
-/// Prints a line for each fault, the crates from the lowest on, and the variants of each enum in their order.
+/// Prints a line for each fault, from the lowest crate on, and the variants of each enum in their order.
 pub(crate) fn tell_faults<R: Print + AllocGlobal>(rt: &R) -> io::Result<()> {
     print!(rt; "{}", value_texts(rt.alloc())?)?;
     print!(rt; "{}", edit_texts(rt.alloc())?)?;
     print!(rt; "{}", line_texts(rt.alloc())?)
 }
 
-/// Prints the answers where the memory for an edit is refused, and where a line could not be kept, and whether each counts
-/// as one for want of memory.
+/// Prints the answers where memory for an edit is refused and where a line could not be kept, and whether each counts
+/// as a refusal of memory.
 pub(crate) fn tell_marks<R: Print>(rt: &R) -> io::Result<()> {
     tell_answer(
         rt,
@@ -27,7 +27,7 @@ pub(crate) fn tell_marks<R: Print>(rt: &R) -> io::Result<()> {
     tell_answer(rt, &internal_error())
 }
 
-/// Prints an answer, and whether it counts as one for want of memory.
+/// Prints an answer, and whether it counts as a refusal of memory.
 fn tell_answer<R: Print>(rt: &R, answer: &Answer) -> io::Result<()> {
     if let Ok(text) = std::str::from_utf8(answer.bytes()) {
         print!(rt; "{text}")?;
@@ -47,7 +47,7 @@ fn add<F: Display + Copy>(
     Ok(())
 }
 
-/// The texts of what texts, points, rings and pairs are refused for.
+/// The texts of the refusals of texts, points, rings and pairs.
 fn value_texts(alloc: Global) -> Result<String, AllocError> {
     let mut text = String::new(alloc);
     add(
@@ -89,7 +89,7 @@ fn value_texts(alloc: Global) -> Result<String, AllocError> {
     Ok(text)
 }
 
-/// The texts of what mappings and edits are refused for.
+/// The texts of the refusals of mappings and edits.
 fn edit_texts(alloc: Global) -> Result<String, AllocError> {
     let mut text = String::new(alloc);
     add(
@@ -129,7 +129,7 @@ fn edit_texts(alloc: Global) -> Result<String, AllocError> {
     Ok(text)
 }
 
-/// The texts of what lines and streams end in.
+/// The texts of the faults of lines and streams.
 fn line_texts(alloc: Global) -> Result<String, AllocError> {
     let mut text = String::new(alloc);
     add(

@@ -41,7 +41,7 @@ fn serve<R: Wait + Print + AllocGlobal>(
     }
 }
 
-/// Serves a stream by whom and how two words say.
+/// Serves a stream as two words say: by whom, and how.
 fn serve_by<R: Wait + Print + AllocGlobal>(
     rt: &R,
     setting: &Setting,

@@ -1,4 +1,4 @@
-//! Two connections of one worker that take turns while a desk commits. Rules without a section are this profile's own.
+//! Two connections of one worker that take turns while a desk commits.
 use crate::always::moments_of;
 use crate::sipping::Sipping;
 use lost_connections::{Client, Clients};
@@ -20,10 +20,10 @@ const CHUNK: usize = 64;
 /// The most bytes of a write.
 const SIP: usize = 16;
 
-/// How often a connection is served after each line: its output takes less than the reply then.
+/// How often a connection is served after each line: its output then takes less than the reply.
 const BURSTS: u64 = 4;
 
-/// The bytes that were put in, which would wait where there are none.
+/// The bytes that were put in. A read of none would block.
 #[derive(Drop)]
 struct Inbox {
     bytes: VecDeque<u8>,
@@ -41,8 +41,8 @@ impl Read for Inbox {
 /// The connections of a worker in memory.
 type InMemory = Clients<Inbox, Sipping, ()>;
 
-/// Has a worker serve two connections in turn, a line of each at a time, while the desk publishes a mapping after each line,
-/// and prints what was written to each.
+/// Has a worker serve two connections in turn, a line of each at a time. The desk publishes a mapping after each line.
+/// Prints what was written to each connection.
 pub(crate) fn take_turns<R: Wait + Print + AllocGlobal, P: Replier>(
     rt: &R,
     desk: &mut Desk,
@@ -68,7 +68,7 @@ pub(crate) fn take_turns<R: Wait + Print + AllocGlobal, P: Replier>(
     Ok(())
 }
 
-/// A connection of which nothing has come.
+/// A connection that has sent nothing.
 fn client_of(alloc: Global) -> Client<Inbox, Sipping> {
     let inbox = Inbox {
         bytes: VecDeque::new(alloc),
@@ -76,7 +76,7 @@ fn client_of(alloc: Global) -> Client<Inbox, Sipping> {
     Client::new(alloc, inbox, Sipping::new(alloc, SIP))
 }
 
-/// Has a connection send a question, whose path has this name.
+/// Has a connection send a question whose path has this name.
 fn ask(alloc: Global, clients: &mut InMemory, key: usize, name: &str) -> io::Result<()> {
     let line = format!(in alloc; "{{\"listServices\":{{\"path\":[\"{name}\"]}}}}\n")?;
     match clients.get_mut(key) {
@@ -97,7 +97,7 @@ fn serve<P: Replier>(
     let mut chunk = [0u8; CHUNK];
     for _ in 0..bursts {
         let mut moments = moments_of(setting);
-        // What becomes of it is seen by what is written.
+        // The written text shows the result.
         let _burst = clients.serve(key, alloc, &mut chunk, replier, &setting.name, &mut moments);
     }
 }

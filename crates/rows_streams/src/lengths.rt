@@ -5,7 +5,7 @@ use lost_lines::{Answer, Answerer, Text};
 use lost_text::DeskText;
 use std::alloc::{AllocError, Global};
 
-/// Answers a line by its length: one that was kept whole, by a text of each kind.
+/// Answers a line with its length. Lines that were kept whole get texts of each kind.
 #[derive(Drop)]
 pub(crate) struct Lengths;
 

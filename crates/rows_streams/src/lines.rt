@@ -1,11 +1,11 @@
 //! The commands of the script of lines. Each line is answered by its length.
 //!
-//! `text TEXT` begins a stream, in which `\n` and `\r` are spelled, and `add NUMBER TEXT` adds to it so many times a text. It
-//! stays for the commands after it. `serve` serves it as the words behind it say, and prints what was written, how it ended,
-//! and the flags that were left. `note` prints what happened too, in order: each read, how many bytes were sent in all by a
-//! flush, and each line that the gate was asked for and told of. The words behind a command are
+//! `text TEXT` begins a stream, in which `\n` and `\r` are spelled, and `add NUMBER TEXT` adds a text to it so many
+//! times. The stream stays for the commands after it. `serve` serves it as its words say, and prints what was written,
+//! how it ended, and the flags that were left. `note` also prints what happened, in order: each read, how many bytes a
+//! flush has sent in all, and each line that the gate was asked for and told of. The words of a command are
 //!
-//! - `whole`, which says nothing; `reading=N`, to read at most so many bytes at once; `pieces=N`, to write so, too;
+//! - `whole`, which changes nothing; `reading=N`, to read at most so many bytes at once; `pieces=N`, to write so too;
 //! - `read-fails=N`, `read-interrupted=N`, `write-fails=N`, `write-takes-none=N`, `flush-fails=N`: which call fails;
 //! - `lines=N`, `reads=N`: how many lines are answered, and how many reads are made, at most;
 //! - `refuse=N`, for a gate that refuses a line and all after it, and `gate`, for one that refuses none;
@@ -54,7 +54,7 @@ pub(crate) fn run<R: Print + AllocGlobal>(rt: &R, script: &str) -> io::Result<()
     Ok(())
 }
 
-/// Adds so many times a text, in which `\n` and `\r` are spelled.
+/// Adds a text so many times; `\n` and `\r` are spelled in it.
 fn add(bytes: &mut Vec<u8>, count: u64, spelled: &str) -> Result<(), AllocError> {
     for _ in 0..count {
         add_spelled(bytes, spelled)?;

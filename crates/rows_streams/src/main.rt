@@ -1,21 +1,22 @@
-//! Serves streams, and prints how each went. Each word of the command line is a command, and the commands run in turn:
+//! Serves streams, and prints how each went. Each word of the command line is a command. The commands run in turn:
 //!
-//! - `streams`: the script `streams.lines`, over a desk and two readers that stay. `desk`, `queries`, `pair` and `workers`
-//!   serve a stream: by the desk, by a reader, by two readers in two threads, of which the first waits until the second has
-//!   answered, and by two workers whose first line waits until another was answered. `bursts NUMBER` serves it in bursts, cut
-//!   at every byte, by an output that takes so many bytes at a time, and `cut NUMBER` cut at one place; `turns` has one worker
-//!   serve two connections in turn while the desk commits.
-//! - `hostile`: the script `hostile.lines`, over readers and writers that fail. A command that begins with `replay`, `desk`
-//!   or `queries` has a stream served by a replay, by a desk or by a reader of a desk: `whole`; `bytes`, a byte at a time;
-//!   `reads NUMBER`, in pieces of so many bytes, once for each read, which fails; `writes`, once for each write, which fails
-//!   or takes no byte; `prefixes`, each proper prefix alone; `spaces`, where spaces come for ever. `worker` has one worker serve it twice, first where the first
-//!   read fails. `faults` prints the texts of all faults, and `marks` the answers where memory is refused.
+//! - `streams`: the script `streams.lines`, over a desk and two readers that stay. `desk` serves a stream by the desk,
+//!   `queries` by a reader, `pair` by two readers in two threads, of which the first waits until the second has
+//!   answered, and `workers` by two workers whose first line waits until another was answered. `bursts NUMBER` serves
+//!   it in bursts, cut at every byte, by an output that takes so many bytes at a time, and `cut NUMBER` cut at one
+//!   place; `turns` has one worker serve two connections in turn while the desk commits.
+//! - `hostile`: the script `hostile.lines`, over readers and writers that fail. A command that begins with `replay`,
+//!   `desk` or `queries` has a stream served by a replay, by a desk or by a reader of a desk: `whole`; `bytes`, a byte
+//!   at a time; `reads NUMBER`, in pieces of so many bytes, once for each read, which fails; `writes`, once for each
+//!   write, which fails or takes no byte; `prefixes`, each proper prefix alone; `spaces`, where spaces come for ever.
+//!   `worker` has one worker serve it twice, first where the first read fails. `faults` prints the texts of all faults,
+//!   and `marks` the answers where memory is refused.
 //! - `lines`: the script `lines.lines`, whose lines are answered by their lengths. [`lines`] says how it is written.
 //!
-//! Other lines of the first two scripts prepare the next stream: `line TEXT`, `last TEXT` (without byte 10), `long NUMBER` (so
-//! many bytes), `byte NUMBER`, `filled NUMBER TEXT` (with spaces behind it, so many bytes in all) and `each NUMBER TEXT` (so
-//! many times, with the number of the time for `#`) add to it; `turns LINES` says how many lines are answered at most; `refuse
-//! LINE` has the gate refuse a line.
+//! Other lines of the first two scripts prepare the next stream. `line TEXT`, `last TEXT` (without byte 10),
+//! `long NUMBER` (so many bytes), `byte NUMBER`, `filled NUMBER TEXT` (with spaces after it, so many bytes in all) and
+//! `each NUMBER TEXT` (so many times, with the number of the time for `#`) add to it. `turns LINES` says how many lines
+//! are answered at most. `refuse LINE` has the gate refuse a line and all after it.
 #![tactic(auto)]
 
 mod always;

@@ -2,7 +2,7 @@
 use lost_lines::Gate;
 use test_rows::{Diary, Event};
 
-/// A gate that notes in a diary what it is asked and told, and refuses the line with a number, and all after it.
+/// Notes in a diary what it is asked and told, and refuses the line with a number and all after it.
 #[derive(Drop)]
 pub(crate) struct Noting<'d> {
     pub(crate) diary: &'d Diary,

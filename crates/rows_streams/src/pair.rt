@@ -13,7 +13,7 @@ use std::thread::{Threads, join_mut};
 use std::time::Clock;
 use test_rows::{Answered, Setting};
 
-/// What the thread of a connection has, and what it wrote.
+/// The values of a connection's thread, and what it wrote.
 #[derive(Drop)]
 struct Serving<'a, R: Clock> {
     alloc: Global,
@@ -24,7 +24,7 @@ struct Serving<'a, R: Clock> {
     written: Vec<u8>,
 }
 
-/// Serves a stream twice by [`serve_lines`], by two readers in two threads: the first waits with its first line until the
+/// Serves a stream twice by [`serve_lines`], by two readers in two threads: the first holds its first line until the
 /// second has answered a line. Prints what each wrote, and how it ended.
 pub(crate) fn serve_pair<R: Threads + Clock + Sync + Print + AllocGlobal>(
     rt: &R,

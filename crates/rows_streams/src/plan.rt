@@ -3,8 +3,8 @@ use lost_worker::Turns;
 use std::io;
 use test_rows::{Feed, NEVER, Sink};
 
-/// How a stream of lines is served: in which pieces it comes and goes, which call fails, how long it is served at most, and
-/// what its gate does.
+/// How a stream of lines is served: the pieces of its input and output, which call fails, how long it is served at
+/// most, and what its gate does.
 #[derive(Clone, Copy, Drop)]
 pub(crate) struct Plan {
     pub(crate) most_read: usize,
@@ -36,7 +36,7 @@ impl Plan {
         }
     }
 
-    /// How the words of a command say that a stream is served, or `None` where one of them says nothing.
+    /// The plan of a command's words, or `None` where one of them is unknown.
     pub(crate) fn of(words: &str) -> Option<Plan> {
         let mut plan = Plan::new();
         for word in words.split(' ') {
@@ -48,7 +48,7 @@ impl Plan {
         Some(plan)
     }
 
-    /// Takes what a word says; false where it says nothing.
+    /// Takes a word; false where it is unknown.
     fn sets(&mut self, name: &str, number: u64) -> bool {
         match name {
             "whole" => {}
@@ -67,7 +67,7 @@ impl Plan {
         true
     }
 
-    /// Takes which call fails; false where a word does not say it.
+    /// Takes a word that says which call fails; false for any other word.
     fn fails(&mut self, name: &str, number: u64) -> bool {
         match name {
             "read-fails" => self.failing_read = number,
@@ -94,7 +94,7 @@ impl Plan {
         feed
     }
 
-    /// Has a writer take what is written as the plan says.
+    /// Sets how a writer takes bytes and fails.
     pub(crate) fn spoil(self, sink: &mut Sink) {
         sink.most = self.most_written;
         sink.failing_write = self.failing_write;

@@ -1,9 +1,9 @@
-//! The ends of a connection in memory on which nothing waits. Rules without a section are this profile's own.
+//! The ends of a connection in memory that never block.
 use std::alloc::Global;
 use std::io;
 use std::io::{ErrorKind, Read, Write};
 
-/// Gives the bytes up to a place, then would wait once, and then gives the others.
+/// Gives the bytes up to a place, then would block once, and then gives the others.
 #[derive(Drop)]
 pub(crate) struct Piecewise<'a> {
     text: &'a [u8],
@@ -42,17 +42,17 @@ impl Read for Piecewise<'_> {
     }
 }
 
-/// Takes so many bytes at a time, and would wait at each second write.
+/// Takes so many bytes at a time, and would block at each second write.
 #[derive(Drop)]
 pub(crate) struct Sipping {
-    /// What it has taken.
+    /// The bytes that it has taken.
     pub(crate) text: Vec<u8>,
     most: usize,
     is_full: bool,
 }
 
 impl Sipping {
-    /// One that has taken nothing.
+    /// A writer that has taken nothing.
     pub(crate) fn new(alloc: Global, most: usize) -> Sipping {
         Sipping {
             text: Vec::new(alloc),

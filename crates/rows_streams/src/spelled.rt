@@ -15,7 +15,7 @@ pub(crate) fn add_spelled(bytes: &mut Vec<u8>, spelled: &str) -> Result<(), Allo
     Ok(())
 }
 
-/// The byte that a byte stands for behind a `\`.
+/// The byte that a byte stands for after a `\`.
 fn escaped(byte: u8) -> u8 {
     match byte {
         b'n' => b'\n',

@@ -1,4 +1,4 @@
-//! A stream that is prepared.
+//! A stream that a script prepares.
 use crate::spelled::add_spelled;
 use lost_worker::Turns;
 use std::alloc::{AllocError, Global};
@@ -48,7 +48,7 @@ impl Stream {
         Ok(true)
     }
 
-    /// Adds a line of a text and of spaces behind it, of at least so many bytes in all.
+    /// Adds a line of a text and spaces after it, of at least so many bytes in all.
     fn add_filled(&mut self, text: &str, least: u64) -> Result<(), AllocError> {
         self.bytes.extend_from_slice(text.as_bytes())?;
         for _ in text.len() as u64..least {
@@ -58,7 +58,7 @@ impl Stream {
         Ok(())
     }
 
-    /// Adds so many times a text and byte 10, where `#` in the text stands for the number of the time, from 1, and `\n` and
+    /// Adds a text and byte 10 so many times. In the text, `#` stands for the number of the time, from 1, and `\n` and
     /// `\r` are spelled.
     fn add_each(&mut self, count: u64, text: &str) -> io::Result<()> {
         for number in 1..=count {

@@ -1,4 +1,4 @@
-//! The commands of the script of streams: what is served, by whom.
+//! The commands of the script of streams: what is served, and by whom.
 use crate::always::moments_of;
 use crate::bursts::{cut_everywhere, cut_once};
 use crate::holding::Holding;

@@ -8,7 +8,7 @@ use std::io;
 use std::sync::Wait;
 use test_rows::{Feed, NEVER, Setting, Sink, Spaces};
 
-/// Who serves a stream, and its bytes.
+/// The server of a stream, and the stream's bytes.
 #[derive(Drop)]
 pub(crate) struct Sweep<'a> {
     pub(crate) setting: &'a Setting,
@@ -26,7 +26,7 @@ pub(crate) fn whole<R: Wait + Print + AllocGlobal>(
     tell(rt, &run(rt, sweep, feed, most, NEVER, false)?)
 }
 
-/// Serves a stream in pieces of at most so many bytes, once for each read, which fails.
+/// Serves a stream in pieces of at most so many bytes, once for each read: that read fails.
 pub(crate) fn reads<R: Wait + Print + AllocGlobal>(
     rt: &R,
     sweep: &Sweep,
@@ -56,8 +56,8 @@ pub(crate) fn reads<R: Wait + Print + AllocGlobal>(
     )
 }
 
-/// Serves a stream once for each write, which fails, and once more where it takes no byte. After a failed write the input
-/// is not read to its end.
+/// Serves a stream twice for each write: once it fails, once it takes no byte. After a failed write the input is not
+/// read to its end.
 pub(crate) fn writes<R: Wait + Print + AllocGlobal>(rt: &R, sweep: &Sweep) -> io::Result<()> {
     let feed = Feed::of(sweep.bytes, PIECE);
     let good = run(rt, sweep, feed, usize::MAX, NEVER, false)?;
@@ -83,7 +83,7 @@ pub(crate) fn writes<R: Wait + Print + AllocGlobal>(rt: &R, sweep: &Sweep) -> io
     Ok(())
 }
 
-/// Serves each proper prefix of a stream as a stream of its own, and prints what was written in all, how many lines were
+/// Serves each proper prefix of a stream as a stream of its own. Prints what was written in all, how many lines were
 /// answered, and for how many prefixes nothing was written.
 pub(crate) fn prefixes<R: Wait + Print + AllocGlobal>(rt: &R, sweep: &Sweep) -> io::Result<()> {
     let mut text = Vec::new(rt.alloc());
@@ -121,8 +121,8 @@ pub(crate) fn spaces<R: Wait + Print + AllocGlobal>(rt: &R, sweep: &Sweep) -> io
 /// The most bytes of a read where writes fail.
 const PIECE: usize = 100;
 
-/// Serves a stream as it is read, over a writer that takes at most so many bytes at once and fails, or takes nothing, at one
-/// of its writes.
+/// Serves a stream as it is read, over a writer that takes at most so many bytes at once and fails, or takes nothing,
+/// at one of its writes.
 fn run<R: Wait + AllocGlobal>(
     rt: &R,
     sweep: &Sweep,

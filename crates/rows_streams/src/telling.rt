@@ -1,4 +1,4 @@
-//! How a stream was served, as it is printed.
+//! Prints how a stream was served.
 use lost_spec::Coded;
 use lost_worker::{Counts, ServeError};
 use std::io;
@@ -33,7 +33,7 @@ pub(crate) fn tell_counts<R: Print>(rt: &R, counts: Counts) -> io::Result<()> {
     )
 }
 
-/// Prints what was written, with a line that comes several times in a row once, and how often.
+/// Prints what was written. A line that comes several times in a row is printed once, with how often.
 pub(crate) fn tell_folded<R: Print>(rt: &R, written: &[u8]) -> io::Result<()> {
     let Ok(text) = std::str::from_utf8(written) else {
         return Ok(());

@@ -45,7 +45,7 @@ impl Counting {
         })
     }
 
-    /// One that counts to the same sums.
+    /// A second counter of the same sums.
     fn shared(&self) -> Result<Counting, AllocError> {
         Ok(Counting {
             bytes: self.bytes.clone()?,
@@ -70,11 +70,11 @@ impl Write for Counting {
     }
 }
 
-/// What goes over the channel.
+/// The connections on the channel.
 type InMemory = Connection<Given, Counting>;
 
-/// Has one worker serve a stream over a connection whose first read fails, and then over a good one; prints its counts, and
-/// how much was written.
+/// Has one worker serve a stream over a connection whose first read fails, and then over a good one. Prints its counts,
+/// and how much was written.
 pub(crate) fn work<R: Wait + Print + AllocGlobal>(
     rt: &R,
     setting: &Setting,

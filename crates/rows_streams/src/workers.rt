@@ -17,10 +17,10 @@ use std::thread::{Threads, join_mut};
 use std::time::Clock;
 use test_rows::{Meeting, Setting};
 
-/// What goes over the channel: a stream in memory, and where its replies go.
+/// The connections on the channel: a stream in memory, and where its replies go.
 type InMemory = Connection<VecDeque<u8>, Vec<u8>>;
 
-/// What the thread of a worker has.
+/// The values of a worker's thread.
 #[derive(Drop)]
 struct Working<'a, R: Clock> {
     alloc: Global,
@@ -31,8 +31,8 @@ struct Working<'a, R: Clock> {
     stream: &'a Stream,
 }
 
-/// Serves a stream twice, by two workers that take connections from one channel: whichever line is asked for first waits
-/// until the other was answered. Prints the sum of their counts.
+/// Serves a stream twice, by two workers that take connections from one channel. The line that is asked for first waits
+/// until the other is answered. Prints the sum of their counts.
 pub(crate) fn serve_two<R: Threads + Wait + Clock + Sync + Print + AllocGlobal>(
     rt: &R,
     first: &mut Reader,

@@ -4,7 +4,7 @@ use std::process::ExitCode;
 use std::rt::Env;
 use std::{env, io};
 
-/// The words behind the program's name, with a space between each two.
+/// The words after the program's name, with a space between each two.
 ///
 /// # Errors
 /// That of the arguments, and `OutOfMemory` where memory runs out.
@@ -19,7 +19,7 @@ pub fn words<R: Env + AllocGlobal>(rt: &R) -> io::Result<String> {
     Ok(words)
 }
 
-/// Says on standard error which words there are, and gives status 2.
+/// Prints the usage on standard error, and gives status 2.
 ///
 /// # Errors
 /// That of standard error.

@@ -1,5 +1,5 @@
-//! A map of districts that adjoin, each with a ring of 20 to 400 positions: two neighbours share each position of the side
-//! between them.
+//! A map of districts that adjoin, each with a ring of 20 to 400 positions: two neighbours share each position of the
+//! side between them.
 
 use crate::numbers::below;
 use std::alloc::{AllocError, Global};
@@ -10,7 +10,7 @@ pub const SIDE: u32 = 500_000;
 /// How far a side strays from the straight line, upwards or to the right, in 1e-7 degrees.
 pub const STRAY: u32 = 60_000;
 
-/// The least number of positions within a side, and by how many it may have more.
+/// A side has at least `LEAST` positions between its corners, and fewer than `MORE` above that.
 const LEAST: u32 = 4;
 
 const MORE: u32 = 94;
@@ -18,7 +18,7 @@ const MORE: u32 = 94;
 /// A side of a district, between two corners.
 #[derive(Clone, Copy)]
 struct Side {
-    /// The row and the column of the corner that it begins at.
+    /// The row and the column of the corner where it begins.
     row: u32,
     column: u32,
     /// Whether it leads to the corner above, and not to the one to the right.
@@ -28,7 +28,7 @@ struct Side {
 }
 
 impl Side {
-    /// How many positions it has within.
+    /// How many positions lie between its corners.
     fn len(self) -> u32 {
         if self.is_straight {
             return 0;
@@ -36,7 +36,7 @@ impl Side {
         LEAST.saturating_add(below(MORE, self.seed(), 0))
     }
 
-    /// The latitude and the longitude of a position of it, by its number: 0 is the corner that it begins at.
+    /// The latitude and the longitude of a position by its number: 0 is the corner where the side begins.
     fn at(self, number: u32) -> (u32, u32) {
         let way = number
             .saturating_mul(SIDE)
@@ -56,7 +56,7 @@ impl Side {
         }
     }
 
-    /// A number for it alone.
+    /// A number of its own.
     fn seed(self) -> u32 {
         self.row
             .saturating_mul(2_000)
@@ -65,18 +65,13 @@ impl Side {
     }
 }
 
-/// The ring of the district at a row and a column: latitudes and longitudes in 1e-7 degrees, the first at the end again.
-///
-/// # Errors
-/// `AllocError` where memory runs out.
+/// The ring of the district at a row and a column: latitudes and longitudes in 1e-7 degrees, the first at the end
+/// again.
 pub fn ring(alloc: Global, row: u32, column: u32) -> Result<Vec<(u32, u32)>, AllocError> {
     drawn(alloc, row, column, false)
 }
 
 /// The ring of a district that is drawn anew, with straight sides between its four corners.
-///
-/// # Errors
-/// `AllocError` where memory runs out.
 pub fn straight_ring(alloc: Global, row: u32, column: u32) -> Result<Vec<(u32, u32)>, AllocError> {
     drawn(alloc, row, column, true)
 }
@@ -113,10 +108,7 @@ fn drawn(
     Ok(ring)
 }
 
-/// The ring of a square between two corners, the lower left and the upper right one, with the first position at the end again.
-///
-/// # Errors
-/// `AllocError` where memory runs out.
+/// The ring of a square from its lower left to its upper right corner, with the first position at the end again.
 pub fn square(
     alloc: Global,
     (south, west): (u32, u32),
@@ -134,7 +126,7 @@ pub fn square(
     )
 }
 
-/// Adds the corner that a side begins at, and the positions within.
+/// Adds the corner where a side begins, and the positions within.
 fn push_forth(ring: &mut Vec<(u32, u32)>, side: Side) -> Result<(), AllocError> {
     for number in 0..side.len().saturating_add(1) {
         ring.push(side.at(number))?;
@@ -142,7 +134,7 @@ fn push_forth(ring: &mut Vec<(u32, u32)>, side: Side) -> Result<(), AllocError> 
     Ok(())
 }
 
-/// Adds the corner that a side leads to, at which `next` begins, and the positions within, from the last to the first.
+/// Adds the corner where a side ends and `next` begins, and then the positions within, from the last to the first.
 fn push_back(ring: &mut Vec<(u32, u32)>, side: Side, next: Side) -> Result<(), AllocError> {
     ring.push(next.at(0))?;
     for number in 0..side.len() {

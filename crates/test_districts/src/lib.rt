@@ -1,4 +1,4 @@
-//! What the benches share (own rules): a map of districts and its lines, numbers that look like chance, spans of time,
+//! What the benches share (own rules): a map of districts and its lines, numbers that look random, spans of time,
 //! memory that empties the processor's caches, and the words of the command line. Only benches use this crate.
 #![tactic(auto)]
 

@@ -9,11 +9,8 @@ pub const SERVICE: &str = "urn:service:sos.police";
 /// The line that publishes all that is staged.
 pub const COMMIT: &str = "{\"commit\":{}}";
 
-/// The line that publishes a mapping of one ring, or replaces it, as the verb says. Its name is its sourceId. With another
+/// The line that publishes or replaces a mapping of one ring, as the verb says. The name is its sourceId. With another
 /// ring it has another key.
-///
-/// # Errors
-/// `AllocError` where memory runs out.
 pub fn edit_line(
     alloc: Global,
     verb: &str,
@@ -39,9 +36,6 @@ pub fn edit_line(
 }
 
 /// The line that withdraws a mapping by its name.
-///
-/// # Errors
-/// `AllocError` where memory runs out.
 pub fn withdraw_line(alloc: Global, name: &str, updated: &str) -> Result<String, AllocError> {
     format!(in alloc;
         "{{\"withdraw\":{{\"lastUpdated\":\"{updated}\",\"source\":\"map.example\",\"sourceId\":\"{name}\"}}}}"
@@ -49,9 +43,6 @@ pub fn withdraw_line(alloc: Global, name: &str, updated: &str) -> Result<String,
 }
 
 /// The line that asks for a service at a latitude and a longitude in 1e-7 degrees.
-///
-/// # Errors
-/// `AllocError` where memory runs out.
 pub fn find_line(alloc: Global, service: &str, lat: i64, lon: i64) -> Result<String, AllocError> {
     format!(in alloc;
         "{{\"findService\":{{\"location\":[{{\"id\":\"p\",\"pos\":[{lat},{lon}],\"profile\":\"geodetic-2d\"}}],\"service\":\"{service}\"}}}}"

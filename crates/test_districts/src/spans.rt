@@ -1,4 +1,4 @@
-//! Spans of time, what stands at a place among them, and what they are of each other.
+//! Spans of time: their percentiles, means, shares and rates.
 
 use std::alloc::{AllocError, Global};
 use std::time::Duration;
@@ -17,23 +17,20 @@ impl Spans {
     }
 
     /// A copy of these spans, in order.
-    ///
-    /// # Errors
-    /// `AllocError` where memory runs out.
     pub fn copied(alloc: Global, spans: &[u64]) -> Result<Spans, AllocError> {
         let mut copy = Vec::new(alloc);
         copy.extend_from_slice(spans)?;
         Ok(Spans::of(copy))
     }
 
-    /// The span that so many of a hundred are not longer than, in nanoseconds; 0 where there are none.
+    /// A percentile of the spans, in nanoseconds; 0 where there are none.
     pub fn at(&self, percent: usize) -> u64 {
         let place = self.spans.len().saturating_mul(percent) / 100;
         let last = self.spans.len().saturating_sub(1);
         self.spans.get(place.min(last)).copied().unwrap_or(0)
     }
 
-    /// The mean of all spans but the tenth that are longest, in nanoseconds; 0 where there are none.
+    /// The mean of all spans but the longest tenth, in nanoseconds; 0 where there are none.
     pub fn trimmed_mean(&self) -> u64 {
         let count = self.spans.len().saturating_sub(self.spans.len() / 10);
         let mut whole: u64 = 0;
@@ -54,17 +51,17 @@ pub fn nanoseconds(span: Duration) -> u64 {
     u64::try_from(span.as_nanos()).unwrap_or(u64::MAX)
 }
 
-/// So many nanoseconds for each of so many; 0 where there are none.
+/// Nanoseconds for each of `count`; 0 where `count` is 0.
 pub fn mean(spent: u64, count: u32) -> u64 {
     spent.checked_div(u64::from(count)).unwrap_or(0)
 }
 
-/// So many of a hundred; 0 where the whole is.
+/// A part of a whole in percent; 0 where the whole is 0.
 pub fn share(part: u64, whole: u64) -> u64 {
     part.saturating_mul(100).checked_div(whole).unwrap_or(0)
 }
 
-/// How many a second, where so many took so many nanoseconds; 0 where they took less than a microsecond.
+/// How many a second, where `count` took so many nanoseconds; 0 where they took less than a microsecond.
 pub fn a_second(count: u64, nanoseconds: u64) -> u64 {
     count
         .saturating_mul(1_000_000)

@@ -3,7 +3,7 @@ use std::sync::atomic::{AtomicU64, Ordering};
 use std::thread::sleep;
 use std::time::{Clock, Duration};
 
-/// How often it is looked whether a line was answered.
+/// How often a wait looks whether a line was answered.
 const TURNS: u64 = 10_000;
 
 /// How many lines were answered.
@@ -14,7 +14,7 @@ pub struct Answered<'r, R: Clock> {
 }
 
 impl<'r, R: Clock> Answered<'r, R> {
-    /// None was answered yet.
+    /// A count of 0.
     pub fn new(rt: &'r R) -> Answered<'r, R> {
         Answered {
             rt,
@@ -55,12 +55,12 @@ impl<'r, R: Clock> Meeting<'r, R> {
         }
     }
 
-    /// Holds the first line that comes until another was answered; false where none is in time.
+    /// Holds the first line until another was answered. False where none is answered in time.
     pub fn come(&self) -> bool {
         self.asked.fetch_add(1, Ordering::SeqCst) > 0 || self.answered.wait()
     }
 
-    /// A line was answered.
+    /// Notes that a line was answered.
     pub fn leave(&self) {
         self.answered.count();
     }

@@ -3,7 +3,7 @@ use std::process::ExitCode;
 use std::rt::Env;
 use std::{env, io};
 
-/// The status where no command is given, or one that is unknown.
+/// The exit status where no command is given, or an unknown one.
 const COMMAND_LINE: u8 = 2;
 
 /// How a program ends.
@@ -15,10 +15,10 @@ pub struct End<'a> {
     is_right: bool,
 }
 
-/// The words of the command line, up to the first that is none of the commands; and how the program ends.
+/// The words of the command line up to the first that is no command, and how the program ends.
 ///
 /// # Errors
-/// Those of the command line, and want of memory.
+/// Those of the command line, and `OutOfMemory`.
 pub fn given<'a, R: Env + AllocGlobal>(
     rt: &R,
     program: &'a str,
@@ -43,13 +43,13 @@ pub fn given<'a, R: Env + AllocGlobal>(
 }
 
 impl End<'_> {
-    /// Takes what a command says of its rows: whether all are as they should be.
+    /// Notes whether all rows of a command are right.
     pub fn note(&mut self, is_right: bool) {
         self.is_right = self.is_right && is_right;
     }
 
-    /// The exit status: 2 where no word was given, or one that is no command, which is said on standard error; or else 1
-    /// where a command said that something is not as it should be.
+    /// The exit status: 2 where no word was given, or one that is no command (standard error then names the commands);
+    /// otherwise 1 where a row is wrong.
     ///
     /// # Errors
     /// Those of standard error.

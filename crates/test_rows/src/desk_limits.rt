@@ -8,9 +8,9 @@ pub fn limits() -> Limits {
         .unwrap_or(Limits::widest())
 }
 
-/// The limits of a text of two or three numbers with a space between each two: how many mappings are held, how many edits
-/// accepted, and how many traces remembered at most, where they are allowed. Without the third they are those that the
-/// first two give.
+/// The limits in a text of two or three numbers with a space between each two: the most mappings held, edits accepted
+/// and traces remembered. Without the third number, the first two set the traces. `None` for limits that are not
+/// allowed, and for any other text.
 pub fn limits_of(text: &str) -> Option<Limits> {
     let mut words = text.split(' ');
     let mappings = words.next()?.parse::<u32>().ok()?;

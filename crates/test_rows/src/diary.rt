@@ -9,7 +9,7 @@ use std::io::{Read, Write};
 pub enum Event {
     /// A read was made.
     Read,
-    /// A flush sent what was written before it, so that so many bytes are sent in all.
+    /// A flush sent what was written before it: so many bytes in all by now.
     Sent(usize),
     /// A gate was asked for the line with this number.
     Asked(u64),
@@ -31,7 +31,7 @@ impl Diary {
         }
     }
 
-    /// Notes what happens. Where memory is refused the event is missing.
+    /// Notes an event. If memory is refused, the event is missing.
     pub fn note(&self, event: Event) {
         if let Ok(mut events) = self.events.try_borrow_mut() {
             let _ = events.push(event);

@@ -6,7 +6,7 @@ use std::io::{BufRead, Read};
 /// Gives the bytes of a text, at most so many at once, and fails at one of its reads.
 #[derive(Drop)]
 pub struct Feed<'a> {
-    /// What is left to give.
+    /// The bytes left to give.
     pub text: &'a [u8],
     /// The most bytes of one read.
     pub most: usize,
@@ -19,7 +19,7 @@ pub struct Feed<'a> {
 }
 
 impl Feed<'_> {
-    /// All of a text, at most so many bytes at once, with no fault.
+    /// A whole text, at most so many bytes at once, with no fault.
     pub fn of(text: &[u8], most: usize) -> Feed<'_> {
         Feed {
             text,

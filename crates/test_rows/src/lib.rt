@@ -1,7 +1,6 @@
-//! What the programs of rows share (own rules): the words of the command line, which are commands; the server of every row,
-//! and the limits of its desks; readers and writers in memory, which move as many bytes at once as they are told, count
-//! their calls, and fail at the call that they are told; a diary of what happens to them; and what lines of two threads wait
-//! for. Only they use this crate.
+//! What the programs of rows share (own rules): the commands of the command line; the server of every row, and the
+//! limits of its desks; readers and writers in memory that move at most so many bytes at once, count their calls, and
+//! fail at a given call; a diary of these calls; and waits between two threads. Only those programs use this crate.
 #![tactic(auto)]
 
 mod answered;

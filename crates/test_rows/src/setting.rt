@@ -12,7 +12,7 @@ pub struct Setting {
 }
 
 impl Setting {
-    /// The server of every row, at its moment, or want of memory.
+    /// The server of every row, at its moment.
     pub fn new(alloc: Global) -> Result<Setting, AllocError> {
         let Ok(name) = Source::parse(alloc, b"lost.example") else {
             return Err(AllocError);

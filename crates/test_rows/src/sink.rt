@@ -1,20 +1,20 @@
-//! A writer that keeps what is written.
+//! A writer that keeps its bytes.
 use crate::NEVER;
 use std::alloc::{AllocError, Global};
 use std::io;
 use std::io::Write;
 
-/// Keeps what is written, at most so many bytes at once, and fails, or takes no byte, at one of its writes, or fails at
-/// one of its flushes.
+/// Keeps what is written, at most so many bytes at once. One of its writes fails or takes no byte, or one of its
+/// flushes fails.
 #[derive(Drop)]
 pub struct Sink {
-    /// What was written.
+    /// The bytes written.
     pub text: Vec<u8>,
     /// The most bytes of one write.
     pub most: usize,
     /// The number of the write that fails, from 1.
     pub failing_write: u64,
-    /// Whether that write takes no byte, and does not fail otherwise.
+    /// Whether that write takes no byte, instead of failing.
     pub takes_none: bool,
     /// The number of the flush that fails, from 1.
     pub failing_flush: u64,
@@ -25,7 +25,7 @@ pub struct Sink {
 }
 
 impl Sink {
-    /// A writer that takes at most so many bytes at once, with no fault, or want of memory.
+    /// A writer that takes at most so many bytes at once, with no fault.
     pub fn new(alloc: Global, most: usize) -> Result<Sink, AllocError> {
         Ok(Sink {
             text: Vec::with_capacity(alloc, 4096)?,

@@ -1,4 +1,4 @@
-//! What finds the boundaries at a point: an index, or a list in which the district of the point is known.
+//! Two ways to find the boundaries at a point: an index, and a list where the district of the point is known.
 
 ghost use Rattle.lost_index.specs.Entries.{IsAbove};
 
@@ -10,7 +10,7 @@ use std::alloc::{AllocError, Global};
 use std::io;
 use test_districts::SIDE;
 
-/// What finds the boundaries at a point.
+/// A way to find the boundaries at a point.
 pub(crate) trait Finding {
     /// How many boundaries hold a point.
     fn count(&self, point: &GeoPoint) -> io::Result<usize>;
@@ -25,7 +25,7 @@ pub(crate) struct Map {
 }
 
 impl Map {
-    /// An empty one.
+    /// An empty map.
     pub(crate) fn new(alloc: Global) -> Map {
         Map {
             index: Index::new(alloc),
@@ -52,7 +52,7 @@ impl Finding for Map {
     }
 }
 
-/// The rings of so many rows and columns of districts, of which only that of a point's district is looked at.
+/// The rings of so many rows and columns of districts. A question looks only at the ring of its point's district.
 #[derive(Drop)]
 pub(crate) struct Rings {
     rings: Vec<Polygon>,

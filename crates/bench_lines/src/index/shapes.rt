@@ -1,11 +1,12 @@
-//! The ring of a district, and rings that cost most: many over one place, and the longest and thinnest that are accepted.
+//! The ring of a district, and the rings that cost most: many over one place, and the longest and thinnest accepted
+//! ones.
 
 use lost_geo::{GeoPoint, Polygon};
 use std::alloc::Global;
 use std::io;
 use test_districts::ring;
 
-/// How many steps a sliver takes on its way over the earth: with the way back and the end, 4,096 positions.
+/// How many steps a sliver takes across the earth: with the way back and the end, 4,096 positions.
 const STEPS: u32 = 2_047;
 
 /// The position at so many 1e-7 degrees north and east.
@@ -43,7 +44,7 @@ pub(crate) fn square(alloc: Global, half: u32) -> io::Result<Polygon> {
     Polygon::new(ring).map_err(|_| io::Error::from(io::ErrorKind::InvalidInput))
 }
 
-/// A sliver from the one end of the earth to the other, of 4,096 positions.
+/// A sliver from one end of the earth to the other, of 4,096 positions.
 pub(crate) fn sliver(alloc: Global) -> io::Result<Polygon> {
     let mut ring = Vec::with_capacity(alloc, 4_096)?;
     for step in 0..STEPS + 1 {
@@ -56,14 +57,14 @@ pub(crate) fn sliver(alloc: Global) -> io::Result<Polygon> {
     Polygon::new(ring).map_err(|_| io::Error::from(io::ErrorKind::InvalidInput))
 }
 
-/// The position at a step of the diagonal over the earth, so far to its left.
+/// The position at a step of the diagonal across the earth, so far to its left.
 fn along(step: u32, left: i64) -> io::Result<GeoPoint> {
     let lat = share_of(1_800_000_000, step).saturating_sub(900_000_000);
     let lon = share_of(3_600_000_000, step).saturating_sub(1_800_000_000);
     place(lat, lon.saturating_sub(left).max(-1_800_000_000))
 }
 
-/// What so many steps are of the whole way.
+/// The part of the whole way after so many steps.
 fn share_of(whole: i64, step: u32) -> i64 {
     whole
         .saturating_mul(i64::from(step))

@@ -1,4 +1,4 @@
-//! Calls on books: what they hold, and each refusal but want of memory.
+//! Calls on books: what they hold, and each refusal but that of memory.
 use crate::edits::edit_of;
 use crate::kinds::Kind;
 use crate::runs::words::unfit;
@@ -10,10 +10,10 @@ use std::alloc::Global;
 use std::io;
 use test_rows::limits_of;
 
-/// The day, from 1970-01-01, at whose first moment a book is asked.
+/// A book is asked at the first moment of this day, in days from 1970-01-01.
 const DAY: i32 = 20_454;
 
-/// The key that is asked for.
+/// The key of the question.
 const KEY: &str = "B-1";
 
 /// A book, and edits that it refuses.
@@ -23,7 +23,7 @@ struct Refusing<K: Kind> {
     refused: Vec<Edit>,
 }
 
-/// Books, and what they are asked for.
+/// Books, and what the questions are about.
 #[derive(Drop)]
 pub(crate) struct Refusals<K: Kind> {
     books: Vec<Refusing<K>>,
@@ -32,8 +32,8 @@ pub(crate) struct Refusals<K: Kind> {
 }
 
 impl<K: Kind> Refusals<K> {
-    /// The books of a table. A line `limits` begins one within its numbers; a line `accepted` has an edit that it accepts,
-    /// and a line `refused` one that it refuses then.
+    /// The books of a table. A line `limits` begins a book with these limits. A line `accepted` has an edit that it
+    /// accepts, and a line `refused` one that it refuses after them.
     pub(crate) fn read(alloc: Global, table: &str) -> io::Result<Refusals<K>> {
         let mut books = Vec::new(alloc);
         for part in table.split("limits ").skip(1) {
@@ -52,7 +52,7 @@ impl<K: Kind> Refusals<K> {
         })
     }
 
-    /// Makes the calls, and prints what is answered.
+    /// Makes the calls, and prints the answers.
     pub(crate) fn print<R: Print>(self, rt: &R) -> io::Result<()> {
         let Refusals {
             books,
@@ -117,7 +117,7 @@ fn code_of(answer: Result<(), EditError>) -> u8 {
     }
 }
 
-/// Prints what a book holds: the sourceId of the first mapping, and where the one with the key stands.
+/// Prints what a book holds: the sourceId of the first mapping, and the position of the one with the key.
 fn print_held<R: Print, K: Kind>(
     rt: &R,
     book: &K,

@@ -12,7 +12,7 @@ use std::cmp::Ordering;
 use std::hash::{DefaultHasher, Hash, Hasher};
 use std::io;
 
-/// A mapping with all that a mapping may have.
+/// A mapping with every part that a mapping may have.
 const MAPPING: &[u8] =
     br#"{"publish":{"displayName":[{"lang":"en","text":"Police"}],"expires":"2026-06-01T00:00:00Z","key":"A-1","lastUpdated":"2025-12-01T00:00:00.5Z","service":"urn:service:SOS.Police","serviceBoundary":[{"polygon":[[0,0],[0,10000000],[10000000,10000000],[10000000,0],[0,0]],"profile":"geodetic-2d"},{"pattern":{"A3":"Leonia","country":"US"},"profile":"civic"}],"serviceNumber":"112","source":"Map.Example","sourceId":"A","uri":["sip:A@map.example","tel:112"]}}"#;
 
@@ -35,7 +35,7 @@ const LAST_NANOSECOND: u64 = 86_399_999_999_999;
 /// One byte more than a value of a pattern may have.
 const LONG: usize = 513;
 
-/// What the calls are made on.
+/// The values of the calls.
 #[derive(Drop)]
 pub(crate) struct Values {
     mapping: Mapping,
@@ -50,7 +50,7 @@ pub(crate) struct Values {
 }
 
 impl Values {
-    /// All of them.
+    /// Makes all values.
     pub(crate) fn new(alloc: Global) -> io::Result<Values> {
         let Edit::Publish(mapping) = edit_of(alloc, MAPPING)? else {
             return Err(unfit());
@@ -68,7 +68,7 @@ impl Values {
         })
     }
 
-    /// Makes the calls, and prints what is answered.
+    /// Makes the calls, and prints the answers.
     pub(crate) fn print<R: Print>(self, rt: &R) -> io::Result<()> {
         let Values {
             mapping,
@@ -99,7 +99,7 @@ fn service(alloc: Global, text: &str) -> io::Result<ServiceUrn> {
     ServiceUrn::parse(alloc, text.as_bytes()).map_err(|_| unfit())
 }
 
-/// The parts of a mapping, and then of one whose number is none.
+/// The parts of a mapping, and of one whose number is invalid.
 fn parts(alloc: Global) -> Result<Vec<Parts>, AllocError> {
     let mut parts = Vec::new(alloc);
     for number in ["112", "11x"] {
@@ -170,7 +170,7 @@ fn pair(alloc: Global, name: &str, value: &str) -> Result<(String, String), Allo
     ))
 }
 
-/// Prints what a service, one above it and the same one once more are.
+/// Prints a service, one above it and the same one once more.
 fn print_services<R: Print>(
     rt: &R,
     service: &ServiceUrn,
@@ -201,7 +201,7 @@ fn hash_of(service: &ServiceUrn) -> u64 {
     hasher.finish()
 }
 
-/// Prints what points there are.
+/// Prints which pairs of numbers are points.
 fn print_points<R: Print>(rt: &R) -> io::Result<()> {
     for (lat, lon) in [
         (900_000_000, 1_800_000_000),
@@ -273,7 +273,7 @@ fn print_civic<R: Print>(
     Ok(())
 }
 
-/// Prints which pairs a pattern takes: one, one with a name of no element, and one with a long value.
+/// Prints which pairs a pattern takes: a good one, one whose name is no element, and one with a long value.
 fn print_pairs<R: Print>(rt: &R, long: &str) -> io::Result<()> {
     println!(rt;
         "pairs taken {} {} {}",

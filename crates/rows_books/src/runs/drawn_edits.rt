@@ -8,7 +8,7 @@ use lost_query::Holdings;
 use std::alloc::{AllocError, Global};
 use std::io;
 
-/// By how much the stamps of two edits that follow one another differ, in nanoseconds, and how far a stamp may be ahead.
+/// How far the stamps of two successive edits are apart, and how far a stamp may be ahead, in nanoseconds.
 pub(crate) const PACE: u64 = 3;
 
 const AHEAD: u64 = 30;
@@ -38,7 +38,7 @@ pub(crate) fn edit<H: Holdings>(
     }
 }
 
-/// What names a mapping, and when it was last changed.
+/// The name of a mapping, and when it was last changed.
 #[derive(Drop)]
 struct Name {
     source: &'static str,
@@ -47,7 +47,7 @@ struct Name {
 }
 
 impl Name {
-    /// A drawn name, with a stamp about the time of the edit of a number.
+    /// A drawn name, with a stamp about the time of this edit.
     fn drawn(alloc: Global, draws: &mut Draws, number: u64) -> Result<Name, AllocError> {
         let source = draws.word(&SOURCES);
         let source_id = source_id(alloc, draws)?;
@@ -72,7 +72,7 @@ impl Name {
     }
 }
 
-/// When a mapping expires, its service, and where that is reached.
+/// When a mapping expires, its service, and the service's URIs.
 #[derive(Drop)]
 struct Terms {
     expires: String,
@@ -81,7 +81,7 @@ struct Terms {
 }
 
 impl Terms {
-    /// Drawn ones, for the edit of a number.
+    /// Drawn terms for this edit.
     fn drawn(alloc: Global, draws: &mut Draws, number: u64) -> Result<Terms, AllocError> {
         let expires = expires(alloc, draws, number)?;
         let service = String::from_str(alloc, draws.word(&SERVICES))?;
@@ -119,7 +119,7 @@ struct Area {
     key: Option<String>,
 }
 
-/// Regions and a key: perhaps the regions, the key or both of the mapping that is held.
+/// Regions and a key: perhaps the regions, the key or both of the held mapping.
 fn drawn_area(
     alloc: Global,
     draws: &mut Draws,
@@ -145,7 +145,7 @@ fn drawn_area(
     })
 }
 
-/// The key of the mapping that is held.
+/// The key of the held mapping.
 fn kept_key<'a>(held: Option<&'a Mapping>) -> Option<&'a str> {
     match held {
         Some(mapping) => mapping.key(),
@@ -153,7 +153,7 @@ fn kept_key<'a>(held: Option<&'a Mapping>) -> Option<&'a str> {
     }
 }
 
-/// When a mapping expires: never, or at a time around those that are asked for.
+/// When a mapping expires: never, or near the times of the questions.
 fn expires(alloc: Global, draws: &mut Draws, number: u64) -> Result<String, AllocError> {
     match draws.below(4) {
         0 => String::from_str(alloc, "NO-CACHE"),
@@ -167,7 +167,7 @@ fn expires(alloc: Global, draws: &mut Draws, number: u64) -> Result<String, Allo
     }
 }
 
-/// Where the service is reached.
+/// The URIs of the service.
 fn uris(alloc: Global, draws: &mut Draws) -> Result<Vec<String>, AllocError> {
     let number = draws.below(1_000);
     let mut uris = Vec::new(alloc);
@@ -175,7 +175,7 @@ fn uris(alloc: Global, draws: &mut Draws) -> Result<Vec<String>, AllocError> {
     Ok(uris)
 }
 
-/// The mapping that is held with this identity.
+/// The held mapping with this identity.
 fn held<'a, H: Holdings>(holdings: &'a H, identity: &Identity) -> Option<&'a Mapping> {
     for position in 0..holdings.len() {
         let mapping = holdings.mapping(position);

@@ -1,6 +1,6 @@
-//! Numbers that look like chance, and are the same at each run.
+//! Numbers that look random, and are the same at each run.
 
-/// What the next draw is made of.
+/// The state that the next draw is made from.
 #[derive(Drop)]
 pub(crate) struct Draws {
     state: u64,
@@ -35,7 +35,7 @@ impl Draws {
         (self.state >> 11).checked_rem(limit).unwrap_or(0)
     }
 
-    /// Whether a draw of so many is the one that counts.
+    /// True with a chance of one in so many.
     pub(crate) fn is_one_of(&mut self, many: u64) -> bool {
         self.below(many) == 0
     }

@@ -68,7 +68,7 @@ impl Question<'_> {
         }
     }
 
-    /// What the holdings answer, or want of memory.
+    /// The answer of the holdings.
     pub(crate) fn answer<H: Holdings>(
         self,
         alloc: Global,
@@ -102,7 +102,7 @@ impl Question<'_> {
     }
 }
 
-/// The mapping at a position as a text, or none, or want of memory.
+/// The mapping at a position as a text, or `None`.
 fn shown_at<H: Holdings>(
     alloc: Global,
     holdings: &H,

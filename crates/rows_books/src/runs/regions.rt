@@ -1,5 +1,5 @@
-//! Rings and patterns, and points and addresses to ask for. They lie on a coarse grid, so that points meet edges and
-//! corners; one corner of it is in the middle of the plane, and one in each of two corners of the plane.
+//! Rings and patterns, and points and addresses to ask for. They lie on coarse grids, so that points meet edges and
+//! corners: one grid begins in the middle of the plane, and two in opposite corners.
 use crate::runs::draws::Draws;
 use crate::runs::words::{pairs, unfit};
 use lost_civic::CivicAddress;
@@ -36,7 +36,7 @@ pub(crate) fn regions(alloc: Global, draws: &mut Draws) -> Result<Vec<Region>, A
     Ok(regions)
 }
 
-/// The regions of a mapping once more.
+/// A copy of a mapping's regions.
 pub(crate) fn regions_of(alloc: Global, mapping: &Mapping) -> Result<Vec<Region>, AllocError> {
     let mut regions = Vec::new(alloc);
     for polygon in mapping.polygons() {
@@ -76,7 +76,7 @@ pub(crate) fn address(alloc: Global, pairs: Vec<(String, String)>) -> io::Result
     CivicAddress::from_pairs(alloc, pairs).map_err(|_| unfit())
 }
 
-/// Where the grid crosses itself.
+/// A point where two lines of a grid cross.
 fn corner(draws: &mut Draws) -> (i64, i64) {
     let lat = draws.step(LINES).saturating_mul(STEP);
     let lon = draws.step(LINES).saturating_mul(STEP);
@@ -97,7 +97,7 @@ fn stray(draws: &mut Draws) -> i64 {
     }
 }
 
-/// The number, or the end of the range below or above it.
+/// The number, or the nearer end of the range if it lies outside.
 fn within(number: i64, limit: i64) -> i64 {
     number.min(limit).max(limit.saturating_neg())
 }

@@ -1,4 +1,4 @@
-//! A round of questions: each kind once, at a place, a moment and a service that are drawn.
+//! A round of questions: each kind, at a drawn place, moment and service.
 use crate::kinds::Kind;
 use crate::pair::Pair;
 use crate::runs::drawn_edits::PACE;
@@ -19,7 +19,7 @@ pub(crate) const QUESTIONS: u64 = 12;
 /// How far before and after the last edit's stamp a moment may be, in nanoseconds.
 const REACH: u64 = 200;
 
-/// What a round asks about.
+/// The subjects of a round's questions.
 #[derive(Drop)]
 struct Round {
     place: Place,
@@ -50,7 +50,7 @@ impl Named {
 }
 
 impl Round {
-    /// A round after the edit of a number.
+    /// A round after this edit.
     fn drawn(alloc: Global, draws: &mut Draws, number: u64) -> io::Result<Round> {
         let passed = number
             .saturating_mul(PACE)
@@ -71,7 +71,7 @@ impl Round {
         })
     }
 
-    /// Its questions.
+    /// The questions of the round.
     fn questions(&self) -> [Question<'_>; QUESTIONS as usize] {
         let elements = self.named.elements.as_slice();
         [
@@ -91,7 +91,7 @@ impl Round {
     }
 }
 
-/// Asks a round after the edit of this number: the name of the first question to which the answers differ.
+/// Asks a round after the edit of this number. Gives the name of the first question to which the answers differ.
 pub(crate) fn difference<A: Kind, B: Kind>(
     alloc: Global,
     draws: &mut Draws,

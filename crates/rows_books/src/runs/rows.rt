@@ -1,5 +1,5 @@
-//! The table of runs: each row has a seed, how many edits are drawn, how many ids a source has, and the limits of mappings, of
-//! accepted edits and of traces.
+//! The table of runs. A row has a seed, how many edits are drawn, how many ids a source has, and the limits of
+//! mappings, accepted edits and traces.
 use crate::runs::words::unfit;
 use lost_book::Limits;
 use std::rt::Files;
@@ -12,17 +12,17 @@ const TABLE: &'static str = "runs.rows";
 /// A run.
 #[derive(Clone, Copy, Drop)]
 pub(crate) struct Row {
-    /// What the draws begin with.
+    /// The seed of the draws.
     pub(crate) seed: u64,
     /// How many edits are drawn.
     pub(crate) edits: u64,
     /// How many ids a source has.
     pub(crate) ids: u64,
-    /// How many mappings may be held, how many edits accepted, and how many traces remembered.
+    /// The most mappings held, edits accepted and traces remembered.
     pub(crate) limits: Limits,
 }
 
-/// The rows of the table. An empty line is none, nor is one that begins with `#`.
+/// The rows of the table, without empty lines and lines that begin with `#`.
 pub(crate) fn rows<R: Files + AllocGlobal>(rt: &R) -> io::Result<Vec<Row>> {
     let table = fs::read_to_string(rt, TABLE)?;
     let mut rows = Vec::new(rt.alloc());
@@ -52,7 +52,7 @@ fn read_row(line: &str) -> io::Result<Row> {
     }
 }
 
-/// The number that a word is.
+/// The number that a word spells.
 fn number(word: Option<&str>) -> io::Result<u64> {
     match word.unwrap_or("").parse::<u64>() {
         Ok(number) => Ok(number),

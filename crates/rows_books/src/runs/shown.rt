@@ -1,10 +1,10 @@
-//! A mapping as a text that has all of it.
+//! A mapping as a text with each of its parts.
 use lost_civic::CivicPattern;
 use lost_geo::Polygon;
 use lost_mapping::{Expires, Mapping};
 use std::alloc::{AllocError, Global};
 
-/// All that a mapping is asked for.
+/// The text of a mapping.
 pub(crate) fn shown(alloc: Global, mapping: &Mapping) -> Result<String, AllocError> {
     let mut text = head(alloc, mapping)?;
     push_end(&mut text, mapping)?;
@@ -17,7 +17,7 @@ pub(crate) fn shown(alloc: Global, mapping: &Mapping) -> Result<String, AllocErr
     Ok(text)
 }
 
-/// What names it, when it was last changed, its service and its key, or a dash where it has none.
+/// Its identity, stamp, service and key; a dash where it has no key.
 fn head(alloc: Global, mapping: &Mapping) -> Result<String, AllocError> {
     let identity = mapping.identity();
     let (source, source_id) = (identity.source().text(), identity.source_id());
@@ -26,7 +26,7 @@ fn head(alloc: Global, mapping: &Mapping) -> Result<String, AllocError> {
     format!(in alloc; "{source} {source_id} {stamp} {service} {key}")
 }
 
-/// Adds when it expires, whether it is a default, and where the service is reached.
+/// Adds when it expires, whether it is a default, and the service's URIs.
 fn push_end(text: &mut String, mapping: &Mapping) -> Result<(), AllocError> {
     text.push_str(match mapping.expires() {
         Expires::NoCache => " not kept",

@@ -20,7 +20,7 @@ pub(crate) const SERVICES: [&'static str; 7] = [
     "urn:service:SOS.Police.Local",
 ];
 
-/// The services that are asked for beside those: below some that are held, and of no kin.
+/// More services to ask for: some below held ones, and some unrelated.
 const OTHERS: [&'static str; 4] = [
     "urn:service:sos.police.local.night",
     "urn:service:sos.ambulance",
@@ -37,7 +37,7 @@ const ELEMENTS: [Element; 5] = [
     Element::Hno,
 ];
 
-/// Their values: two that differ, each in two spellings that are compared as one.
+/// Their values: two that differ, each in two spellings that compare equal.
 const VALUES: [&'static str; 4] = ["Fort Lee", " fort  lee", "Leonia", "LEONIA "];
 
 /// 2025-12-01, in days from 1970-01-01. All stamps and moments are of this day.
@@ -107,7 +107,7 @@ pub(crate) fn elements(alloc: Global, draws: &mut Draws) -> Result<Vec<Element>,
     Ok(elements)
 }
 
-/// What is drawn is not what it should be, or memory ran out.
+/// A drawn value is not as it should be, or memory was refused.
 pub(crate) fn unfit() -> io::Error {
     io::Error::from(io::ErrorKind::InvalidData)
 }

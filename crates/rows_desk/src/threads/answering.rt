@@ -13,7 +13,7 @@ use std::alloc::Global;
 use std::sync::Wait;
 use test_rows::Setting;
 
-/// What the thread of the reader has.
+/// The values of the reader's thread.
 #[derive(Drop)]
 pub(crate) struct Answering<J: Naming> {
     pub(crate) alloc: Global,
@@ -61,7 +61,7 @@ fn answer_each<J: Naming, R: Wait>(
     Ok(ROUNDS)
 }
 
-/// Learns what was told, answers the question, and compares the reply with that of the book beside.
+/// Learns what was told, answers the question, and compares the reply with that of the second book.
 fn answer(
     alloc: Global,
     setting: &Setting,

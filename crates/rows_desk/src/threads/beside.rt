@@ -1,4 +1,4 @@
-//! The book beside, to which the reader's thread applies the same edits.
+//! The second book, to which the reader's thread applies the same edits.
 use super::fault::Fault;
 use crate::orders::QUESTION;
 use lost_book::{Book, Edit, Limits};
@@ -6,8 +6,8 @@ use lost_json::{DeskLine, read_desk, reply_line};
 use std::alloc::Global;
 use test_rows::Setting;
 
-/// The edit of a round, which makes the next edition: an even round publishes the mapping, and an odd one withdraws it. Each
-/// edit has a later stamp than the one before.
+/// The edit of a round, which makes the next edition: an even round publishes the mapping, an odd one withdraws it.
+/// Each edit has a later stamp than the one before.
 pub(crate) fn edit_before(alloc: Global, round: u64) -> Result<Edit, Fault> {
     let fraction = round.saturating_add(100_000_000);
     let line = if round % 2 == 0 {

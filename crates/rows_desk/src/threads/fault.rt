@@ -1,4 +1,4 @@
-//! What may go wrong.
+//! The faults of a run.
 use std::alloc::AllocError;
 use thiserror::Error;
 

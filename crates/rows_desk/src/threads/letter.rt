@@ -1,5 +1,5 @@
-//! What goes through the channel. A channel's type can't carry a fact about a desk that is opened later, so the letter's
-//! type names the opening, which the call that runs both threads picks.
+//! The letters on the channel. A channel's type can't carry a fact about a desk that is opened later, so the letter's
+//! type names the opening. The call that runs both threads picks it.
 ghost use Rattle.std.specs.Prelude.{◌≡◌};
 
 use lost_desk::Told;

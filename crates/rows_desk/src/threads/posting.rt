@@ -10,7 +10,7 @@ use lost_desk::Desk;
 use std::alloc::Global;
 use std::sync::Wait;
 
-/// What the thread of the desk has. It is not `Drop`, since the desk is not.
+/// The values of the desk's thread. It is not `Drop`, since the desk is not.
 pub(crate) struct Posting<J: Naming> {
     pub(crate) alloc: Global,
     pub(crate) desk: Desk,

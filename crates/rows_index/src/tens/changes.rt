@@ -10,7 +10,7 @@ use lost_index::Index;
 use std::alloc::{AllocError, Global};
 use std::collections::BTreeMap;
 
-/// Does one change to both, or want of memory.
+/// Does one change to both.
 pub(crate) fn change(
     index: &mut Index<Tens>,
     lines: &mut BTreeMap<u64, Line>,
@@ -40,7 +40,7 @@ pub(crate) fn change(
     Ok(())
 }
 
-/// A number that is held; 0 where none is.
+/// A drawn number that is held; 0 where none is.
 fn drawn(lines: &BTreeMap<u64, Line>, draws: &mut Draws) -> u64 {
     let mut left = draws.below(lines.len() as u64);
     for (number, _) in lines {
@@ -52,7 +52,7 @@ fn drawn(lines: &BTreeMap<u64, Line>, draws: &mut Draws) -> u64 {
     0
 }
 
-/// Puts a new number with drawn stretches into both, or want of memory.
+/// Puts a new number with drawn stretches into both.
 pub(crate) fn put(
     index: &mut Index<Tens>,
     lines: &mut BTreeMap<u64, Line>,
@@ -71,7 +71,7 @@ pub(crate) fn put(
     plain::put(lines, number, Line::of(stretches))
 }
 
-/// Adds drawn stretches to a number in both, or want of memory.
+/// Adds drawn stretches to a number in both.
 pub(crate) fn add(
     index: &mut Index<Tens>,
     lines: &mut BTreeMap<u64, Line>,

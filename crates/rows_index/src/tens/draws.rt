@@ -1,11 +1,11 @@
-//! Numbers that look like chance, and are the same at each run.
+//! Numbers that look random, and are the same at each run.
 use crate::tens::stretch::Stretch;
 use std::alloc::{AllocError, Global};
 
-/// The locations and the ends of stretches are below this number, or little above it.
+/// The locations and the ends of stretches are below this number, or a little above it.
 const PLACES: u64 = 90;
 
-/// What the next draw is made of.
+/// The state that the next draw is made from.
 #[derive(Drop)]
 pub(crate) struct Draws {
     state: u64,
@@ -30,7 +30,7 @@ impl Draws {
         u32::try_from(self.below(PLACES)).unwrap_or(0)
     }
 
-    /// None to three stretches, or want of memory.
+    /// None to three stretches.
     pub(crate) fn stretches(&mut self, alloc: Global) -> Result<Vec<Stretch>, AllocError> {
         let mut stretches = Vec::new(alloc);
         for _ in 0..self.below(4) {

@@ -1,4 +1,4 @@
-//! Long runs of edits over few numbers. A run is measured from outside: its memory must not grow with the edits.
+//! Long runs of edits over few numbers. A check measures the memory of a run: it must not grow with the edits.
 ghost use Rattle.std.specs.Prelude.{◌≡◌, OnOk};
 
 use crate::tens::changes::{add, put};
@@ -23,7 +23,7 @@ const HELD: u64 = 1_000;
 /// How many edits a round has: a put, an add, a cut and a take.
 const ROUND: u64 = 4;
 
-/// Makes so many edits, and prints how many numbers are then held, and whether the answers are as the scan's.
+/// Makes so many edits. Prints how many numbers are then held, and whether the answers are those of the scan.
 pub(crate) fn print_edits<R: Print + AllocGlobal>(rt: &R, edits: u64) -> io::Result<bool> {
     let alloc = rt.alloc();
     let mut draws = Draws::new(0x9e37_79b9_7f4a_7c15);
@@ -40,7 +40,7 @@ pub(crate) fn print_edits<R: Print + AllocGlobal>(rt: &R, edits: u64) -> io::Res
     Ok(true)
 }
 
-/// Puts the numbers that are held at first, or want of memory.
+/// Puts the numbers that are held at first.
 fn fill(
     index: &mut Index<Tens>,
     lines: &mut BTreeMap<u64, Line>,
@@ -56,7 +56,7 @@ fn fill(
     Ok(())
 }
 
-/// Makes so many rounds of edits, or want of memory.
+/// Makes so many rounds of edits.
 fn edit(
     index: &mut Index<Tens>,
     lines: &mut BTreeMap<u64, Line>,
@@ -75,7 +75,7 @@ fn edit(
     Ok(())
 }
 
-/// Adds drawn stretches to a drawn number and cuts those away that it had, or want of memory.
+/// Adds drawn stretches to a drawn number, and cuts away those that it had.
 fn replace(
     index: &mut Index<Tens>,
     lines: &mut BTreeMap<u64, Line>,

@@ -35,7 +35,7 @@ impl Line {
         self.stretches.len()
     }
 
-    /// Puts more stretches behind, or want of memory.
+    /// Appends more stretches.
     pub(crate) fn append(&mut self, more: Line) -> Result<(), AllocError>
         ensures { OnOk result (self.new ≡ self.old ++ more) }
     {
@@ -65,7 +65,7 @@ impl Line {
     }
 }
 
-/// The same stretches once more, or want of memory.
+/// A copy of the stretches.
 pub(crate) fn copied(alloc: Global, stretches: &[Stretch]) -> Result<Vec<Stretch>, AllocError>
     ensures { IfOk result (λ copy. copy.items ≡ stretches.now) }
 {

@@ -1,4 +1,4 @@
-//! Numbers with their stretches, held plainly: what an index is compared with.
+//! Numbers with their stretches in a plain map, to compare an index with.
 ghost use Rattle.std.specs.Prelude.{◌≡◌, ◌≤◌, ◌++◌, ◌∷◌, [], length, Some, cond, IfOk, OnOk, IfSome};
 ghost use Rattle.std.specs.BTreeMap.{get, is_at};
 ghost use Rattle.std.specs.List.{slice_range};
@@ -9,7 +9,7 @@ use crate::tens::line::Line;
 use std::alloc::AllocError;
 use std::collections::BTreeMap;
 
-/// A number above all that are held, unless the greatest is.
+/// A number above all held ones, or `None` where the greatest number is held.
 pub(crate) fn next(plain: &BTreeMap<u64, Line>) -> Option<u64>
     ensures { IfSome result (λ number. IsAbove number plain.now.entries) }
 {
@@ -27,13 +27,13 @@ pub(crate) fn count(plain: &BTreeMap<u64, Line>, number: u64) -> Option<usize>
     ensures held { IfSome result (λ count. IsHeld number plain.now.entries) }
     ensures count { IfSome result (λ count. HasRegions count number plain.now.entries) }
 {
-    // Shows to the proof that the numbers rise.
+    // Shows the proof that the numbers rise.
     let _count = plain.len();
     let line = plain.get(&number)?;
     Some(line.len())
 }
 
-/// Puts a number with its stretches behind all, or want of memory.
+/// Puts a number with its stretches after all others.
 pub(crate) fn put(
     plain: &mut BTreeMap<u64, Line>,
     number: u64,
@@ -48,7 +48,7 @@ pub(crate) fn put(
     }
 }
 
-/// Puts more stretches behind those of a number that is held, or want of memory.
+/// Adds stretches to a held number.
 pub(crate) fn add(
     plain: &mut BTreeMap<u64, Line>,
     number: u64,

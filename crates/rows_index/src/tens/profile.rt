@@ -6,8 +6,8 @@ use crate::tens::stretch::Stretch;
 use lost_profile::Profile;
 use std::alloc::{AllocError, Global};
 
-/// Whole numbers among short stretches of them. A stretch is kept under the tens of its ends, and a number is looked up
-/// under its tens. An outline is the pair of the ends.
+/// Whole numbers, with short stretches as regions. A stretch is kept under the tens of its ends, and a number is looked
+/// up under its tens. An outline is the pair of the ends.
 pub(crate) struct Tens;
 
 impl Profile for Tens {

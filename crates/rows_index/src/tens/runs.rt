@@ -1,4 +1,4 @@
-//! Runs drawn at random: after each change an index is asked beside a scan of plain lines.
+//! Random runs: after each change, the answers of an index are compared with a scan of plain lines.
 ghost use Rattle.std.specs.Prelude.{◌≡◌};
 
 use crate::tens::changes::change;
@@ -19,7 +19,7 @@ const CHANGES: u64 = 40;
 /// How many places are asked for after each change.
 const ASKED: u64 = 10;
 
-/// Prints whether all answers are as the scan's, and says so; the first difference is printed too.
+/// Prints and returns whether all answers are those of the scan. Prints the first difference.
 pub(crate) fn print_runs<R: Print + AllocGlobal>(rt: &R) -> io::Result<bool> {
     for run in 0..RUNS {
         if let Some(place) = first_difference(rt.alloc(), run)? {
@@ -32,7 +32,7 @@ pub(crate) fn print_runs<R: Print + AllocGlobal>(rt: &R) -> io::Result<bool> {
     Ok(true)
 }
 
-/// The first place of a run at which the index does not answer as the scan, or want of memory.
+/// The first place of a run at which the index and the scan differ.
 fn first_difference(alloc: Global, run: u64) -> Result<Option<u32>, AllocError> {
     let mut draws = Draws::new(run.wrapping_add(1).wrapping_mul(0x9e37_79b9_7f4a_7c15));
     let mut index: Index<Tens> = Index::new(alloc);
@@ -46,7 +46,7 @@ fn first_difference(alloc: Global, run: u64) -> Result<Option<u32>, AllocError> 
     Ok(None)
 }
 
-/// The first of some drawn places at which the index does not answer as the scan, or want of memory.
+/// The first of some drawn places at which the index and the scan differ.
 pub(crate) fn difference(
     index: &Index<Tens>,
     lines: &BTreeMap<u64, Line>,
@@ -62,7 +62,7 @@ pub(crate) fn difference(
     Ok(None)
 }
 
-/// The numbers with a stretch that holds the place, by a look at each line, or want of memory.
+/// The numbers with a stretch that holds the place, found by a look at each line.
 fn scanned(alloc: Global, lines: &BTreeMap<u64, Line>, place: u32) -> Result<Vec<u64>, AllocError> {
     let mut found = Vec::new(alloc);
     for (number, line) in lines {

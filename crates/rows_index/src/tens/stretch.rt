@@ -24,7 +24,7 @@ impl Model for Stretch {
 impl Stretch {
     ghost use Rattle.rows_index.specs.Tens.{IsShort};
 
-    /// The stretch from `low`, with at most nine numbers more; it ends at the greatest number at the latest.
+    /// The stretch from `low`, with at most nine numbers more. It ends at the greatest number at the latest.
     pub(crate) fn of(low: u32, more: u32) -> Stretch {
         Stretch {
             low,
@@ -32,7 +32,7 @@ impl Stretch {
         }
     }
 
-    /// The same stretch once more.
+    /// A copy of the stretch.
     pub(crate) fn again(&self) -> Stretch
         ensures { result ≡ self.now }
     {

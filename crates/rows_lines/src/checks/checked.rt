@@ -4,18 +4,18 @@ use lost_replay::{Counts, NoGate, Turns, Watched};
 use std::alloc::Global;
 use test_rows::Setting;
 
-/// What a check came to.
+/// The result of a check.
 #[derive(Drop)]
 pub(crate) struct Checked {
-    /// What was counted of the lines.
+    /// The counts of the lines.
     pub(crate) counts: Counts,
-    /// What was found of them.
+    /// The findings.
     pub(crate) found: Findings,
-    /// What was said of them.
+    /// The report.
     pub(crate) said: Vec<u8>,
 }
 
-/// What a check of lines comes to, or `None` where it ends in a fault.
+/// The result of a check of lines, or `None` where it ends in a fault.
 pub(crate) fn check(alloc: Global, lines: &[u8], setting: &Setting) -> Option<Checked> {
     let mut input = Watched::new(lines);
     let mut output = Watched::new(Vec::new(alloc));

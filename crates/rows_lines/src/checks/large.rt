@@ -10,15 +10,15 @@ const MAX_TRACES: u32 = 65_536;
 /// The most bytes of a line.
 const MAX_LINE: usize = 1_048_576;
 
-/// What is said of the line after as many mappings as may be.
+/// The report on the line after as many mappings as may be held.
 pub(crate) const SAID_OF_FULL: &[u8] =
     b"line 65537: 18 Full: 65536 mappings are held, and no more may be\n";
 
-/// What is said of the withdrawal after as many as are remembered.
+/// The report on the withdrawal after as many as can be remembered.
 pub(crate) const SAID_OF_GONE: &[u8] =
     b"line 131074: 22 TracesFull: 65,536 withdrawn mappings are remembered, and no more can be: publish one of them again\n";
 
-/// What is said of a line over the limit.
+/// The report on a line over the limit.
 pub(crate) const SAID_OF_LONG: &[u8] =
     b"line 1: badRequest: the line has more than 1048576 bytes\n";
 
@@ -31,8 +31,8 @@ pub(crate) fn full(alloc: Global) -> Result<Vec<u8>, AllocError> {
     Ok(lines)
 }
 
-/// One withdrawal more than is remembered, each of a mapping that was published before it. Then a mapping is published
-/// again, and the last withdrawal comes once more.
+/// One withdrawal more than can be remembered, each of a mapping that was published before it. Then a mapping is
+/// published again, and the last withdrawal comes once more.
 pub(crate) fn gone(alloc: Global) -> Result<Vec<u8>, AllocError> {
     let mut lines = Vec::new(alloc);
     for number in 0..=MAX_TRACES {

@@ -12,7 +12,7 @@ use std::alloc::Global;
 use std::sync::Wait;
 use test_rows::Setting;
 
-/// What answers the lines of a session: desk lines by the desk, and other lines by the reader.
+/// Answers the lines of a session: desk lines by the desk, and other lines by the reader.
 #[derive(Drop)]
 struct Cached<'r, 'd, 's, R: Wait> {
     rt: &'r R,
@@ -70,8 +70,8 @@ fn request(alloc: Global, reader: &mut CachedReader, setting: &Setting, line: &[
     }
 }
 
-/// The replies to the lines of a session, by a desk of these limits and a reader that keeps so many places, or `None` where
-/// the run ends in a fault.
+/// The replies to the lines of a session, by a desk of these limits and a reader that keeps so many places, or `None`
+/// where the run ends in a fault.
 pub(crate) fn replies<R: Wait + AllocGlobal>(
     rt: &R,
     lines: &[u8],

@@ -6,7 +6,7 @@ use lost_mapping::{MappingError, Moment};
 use std::alloc::{AllocError, Global};
 use test_rows::limits_of;
 
-/// What a line of standard input says.
+/// A line of standard input.
 #[derive(Drop)]
 pub(crate) enum Line {
     /// A world of so many workers, whose book has these limits, begins.

@@ -1,4 +1,4 @@
-//! A console that gives lines, and keeps what is printed on it.
+//! A console that gives lines and keeps the text printed on it.
 use std::alloc::{Alloc, Allocator, Global};
 use std::cell::Cell;
 use std::fmt::Display;
@@ -35,7 +35,7 @@ impl<'a> Console<'a> {
         }
     }
 
-    /// Makes it special in the way that is written: `read N`, `broken` or `terminal`.
+    /// Sets a fault or a terminal: `read N`, `broken` or `terminal`.
     pub(crate) fn prepare(&mut self, special: &str) {
         match special {
             "broken" => self.is_output_broken = true,
@@ -48,12 +48,12 @@ impl<'a> Console<'a> {
         }
     }
 
-    /// What standard output got.
+    /// The text on standard output.
     pub(crate) fn output(&self) -> String {
         self.output.take().unwrap_or(String::new(self.alloc))
     }
 
-    /// What standard error got.
+    /// The text on standard error.
     pub(crate) fn errors(&self) -> String {
         self.errors.take().unwrap_or(String::new(self.alloc))
     }

@@ -5,7 +5,7 @@ use lost_command::ExitReason;
 use lost_lines::ServeError;
 use std::io;
 
-/// Prints the status of each, and what is said of it on standard error.
+/// Prints the status of each, and its text on standard error.
 pub(crate) fn tell<R: Print + AllocGlobal>(rt: &R) -> io::Result<()> {
     let alloc = rt.alloc();
     for reason in [

@@ -5,7 +5,7 @@ use std::alloc::{Alloc, AllocError, Global};
 use std::io;
 use std::process::ExitCode;
 
-/// What came of a command line.
+/// The result of a command line.
 #[derive(Drop)]
 struct Ending {
     status: String,
@@ -14,7 +14,7 @@ struct Ending {
     order: String,
 }
 
-/// Obeys the words of a row, and prints whether what comes of it is what the row wants.
+/// Obeys the words of a row, and prints whether the result is as the row expects.
 pub(crate) fn run<R: Print + AllocGlobal>(rt: &R, row: &str) -> io::Result<()> {
     let input = behind(rt.alloc(), row, "< ")?;
     let mut console = Console::new(rt.alloc(), input.as_str());
@@ -58,7 +58,7 @@ fn words_of(alloc: Global, row: &str) -> Result<Vec<String>, AllocError> {
     Ok(words)
 }
 
-/// What is ordered of a server, as a line. What is left out is a hyphen.
+/// The order of a server as a line, with a hyphen for each missing part.
 fn order_text(alloc: Global, order: &ServeOrder<'_>) -> Result<String, AllocError> {
     let connections = match order.connections {
         Some(connections) => format!(in alloc; "{connections}"),
@@ -94,7 +94,7 @@ pub(crate) fn status_of(alloc: Global, code: ExitCode) -> Result<String, AllocEr
     format!(in alloc; "{}\n", number.unwrap_or(text.as_str()))
 }
 
-/// Prints whether what came is what a row wants, and what differs.
+/// Prints whether the result is as a row expects, and what differs.
 fn compare<R: Print + AllocGlobal>(rt: &R, row: &str, ending: &Ending) -> io::Result<()> {
     let output = ending.output.as_str();
     let mut is_wanted = is_output(rt.alloc(), row, output)?;
@@ -118,7 +118,7 @@ fn compare<R: Print + AllocGlobal>(rt: &R, row: &str, ending: &Ending) -> io::Re
     )
 }
 
-/// Whether an output is what a row wants: all its lines, or a text that has some others.
+/// Whether an output is as a row expects: it equals the row's lines, or contains each of the row's texts.
 fn is_output(alloc: Global, row: &str, output: &str) -> Result<bool, AllocError> {
     let texts = behind(alloc, row, "~ ")?;
     if texts.is_empty() {
@@ -127,7 +127,7 @@ fn is_output(alloc: Global, row: &str, output: &str) -> Result<bool, AllocError>
     Ok(texts.as_str().lines().all(|text| output.contains(text)))
 }
 
-/// What stands behind a mark in the lines of a row, each with byte 10.
+/// The texts after a mark in the lines of a row, each with byte 10.
 fn behind(alloc: Global, row: &str, mark: &str) -> Result<String, AllocError> {
     let mut text = String::new(alloc);
     for line in row.lines() {

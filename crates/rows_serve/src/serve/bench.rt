@@ -1,4 +1,4 @@
-//! Where a server listens, and the ends of connections to it.
+//! The listeners of a server, and the clients' ends of its connections.
 use lost_mapping::Source;
 use std::alloc::{AllocError, Global};
 use std::io;
@@ -6,7 +6,7 @@ use std::io::{Read, Write};
 use std::net::{Net, SocketAddr, TcpListener, TcpStream};
 use std::time::Duration;
 
-/// How long a client waits for a reply, or until what it sends is taken, in seconds.
+/// How long a client waits for a reply, or until its bytes are taken, in seconds.
 const PATIENCE: u64 = 20;
 
 /// The most bytes of a reply.
@@ -36,7 +36,7 @@ impl Bench {
     }
 }
 
-/// A client's end of a connection, with the bytes that were read and not used.
+/// A client's end of a connection, with the bytes read but not yet used.
 #[derive(Drop)]
 pub(crate) struct Line {
     stream: TcpStream,
@@ -83,13 +83,13 @@ impl Line {
         self.stream.write_all(bytes)
     }
 
-    /// Whether the connection ends with no further byte, before the client loses its patience.
+    /// Whether the connection ends without another byte, within the client's patience.
     pub(crate) fn is_ended(&mut self) -> bool {
         let mut chunk = [0u8; 64];
         matches!(self.stream.read(&mut chunk), Ok(0))
     }
 
-    /// The next reply, without its byte 10. Where the connection ends or waits for too long, an error.
+    /// The next reply, without its byte 10. An error if the connection ends, or if the client waits too long.
     pub(crate) fn reply(&mut self, alloc: Global) -> io::Result<String> {
         for _ in 0..MAX_REPLY {
             if let Some(end) = self
@@ -110,7 +110,7 @@ impl Line {
         Err(io::Error::from(io::ErrorKind::UnexpectedEof))
     }
 
-    /// Takes the first bytes and the byte 10 after them, and gives them as a text.
+    /// Takes the first bytes and the byte 10 after them. Gives the bytes as a text.
     fn cut(&mut self, alloc: Global, end: usize) -> io::Result<String> {
         let mut text = String::new(alloc);
         let mut rest = Vec::new(alloc);

@@ -1,4 +1,4 @@
-//! What clients do.
+//! The work of clients.
 use super::bench::Line;
 use super::lines::{QUESTION, edition_of};
 use std::alloc::Global;
@@ -10,7 +10,7 @@ pub(crate) const LINES: u64 = 1_000;
 /// How many lines a client that sends several at a time sends before it reads.
 const AT_A_TIME: u64 = 50;
 
-/// What a client found: how many replies were right for their edition, and how often an edition fell.
+/// A client's counts: how many replies were right for their edition, and how often an edition fell.
 #[derive(Clone, Copy, Default)]
 pub(crate) struct Found {
     pub(crate) right: u64,
@@ -18,7 +18,7 @@ pub(crate) struct Found {
 }
 
 impl Found {
-    /// Both together.
+    /// The sum of both.
     pub(crate) fn plus(self, other: Found) -> Found {
         Found {
             right: self.right.saturating_add(other.right),
@@ -27,7 +27,7 @@ impl Found {
     }
 }
 
-/// Sends the question as often as a client does, one by one or several at a time, and looks at each reply.
+/// Sends the question as often as a client does, one by one or several at a time, and checks each reply.
 pub(crate) fn ask_all(alloc: Global, line: &mut Line, is_one_by_one: bool) -> io::Result<Found> {
     let at_a_time = if is_one_by_one { 1 } else { AT_A_TIME };
     let mut found = Found::default();

@@ -1,4 +1,4 @@
-//! What desks do.
+//! The work of desks.
 use super::bench::Line;
 use super::lines::{COMMIT, PUBLISH, WITHDRAW, stamped};
 use std::alloc::Global;
@@ -15,8 +15,8 @@ pub(crate) fn ask(alloc: Global, desk: &mut Line, line: &[u8]) -> io::Result<Str
     desk.reply(alloc)
 }
 
-/// Publishes the mapping and withdraws it, in turn, each with a later stamp and with a commit of its own. Says whether each
-/// edit was staged and each commit gave the next edition.
+/// Publishes the mapping and withdraws it, in turn, each with a later stamp and its own commit. Says whether each edit
+/// was staged and each commit gave the next edition.
 pub(crate) fn commit_all<R: Clock>(rt: &R, alloc: Global, desk: &mut Line) -> io::Result<bool> {
     for edition in 1..=EDITIONS {
         let edit = if edition % 2 == 1 { PUBLISH } else { WITHDRAW };

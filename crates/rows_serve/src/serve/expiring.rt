@@ -1,5 +1,5 @@
-//! Mappings that expire while a client asks for them. What is right for a reply is told by the machine's clock before and
-//! after it, so that a slow machine gives the same output.
+//! Mappings that expire while a client asks for them. The machine's clock, read before and after a reply, decides
+//! whether the reply is right, so a slow machine gives the same output.
 use super::bench::{Bench, Line};
 use super::desks::ask;
 use super::lines::{COMMIT, QUESTION, WITHDRAW, is_found, is_nothing, publish_until, stamped};
@@ -13,8 +13,8 @@ use std::time::{Clock, Duration};
 /// A moment that has passed.
 const LONG_AGO: &str = "2020-01-01T00:00:00Z";
 
-/// In how many seconds a mapping expires, in one attempt after another: where a machine is too slow to be answered before
-/// that, the next attempt is made.
+/// In how many seconds a mapping expires, attempt by attempt. If the machine is too slow to answer before that, the
+/// next attempt begins.
 const SECONDS: [u64; 5] = [2, 4, 8, 16, 32];
 
 /// How often a mapping is asked for in an attempt, at most.
@@ -23,18 +23,18 @@ const ROUNDS: u64 = 10_000;
 /// How long to wait before a mapping is asked for again, in milliseconds.
 const PAUSE: u64 = 20;
 
-/// What was seen of a mapping that expires.
+/// The replies about a mapping that expires.
 #[derive(Clone, Copy, Default)]
 pub(crate) struct Seen {
-    /// Whether it was answered before it expired.
+    /// Whether the mapping was found before it expired.
     pub(crate) is_answered: bool,
-    /// Whether it was not answered any more after that.
+    /// Whether it was no longer found after that.
     pub(crate) is_gone: bool,
     /// How many replies were wrong for their moment.
     pub(crate) wrong: u64,
 }
 
-/// The reply about a mapping that expired long ago, and what was seen of one that expires while it is asked for. The
+/// The reply about a mapping that expired long ago, and the replies about one that expires while it is asked for. The
 /// desk's connection ends last.
 pub(crate) fn desk_and_expiry<R: Net<Listener = TcpListener, Stream = TcpStream> + Clock>(
     rt: &R,
@@ -55,8 +55,8 @@ pub(crate) fn desk_and_expiry<R: Net<Listener = TcpListener, Stream = TcpStream>
     Ok((long_ago, seen))
 }
 
-/// Publishes a mapping that expires in so many seconds, and asks for it until it has. Its stamps are those of the number of
-/// seconds and of the next one.
+/// Publishes a mapping that expires in so many seconds, and asks for it until it has expired. The number of seconds and
+/// the next number give its stamps.
 fn attempt<R: Clock>(
     rt: &R,
     alloc: Global,
@@ -76,7 +76,7 @@ fn attempt<R: Clock>(
     withdraw(alloc, desk, seconds.saturating_add(1))
 }
 
-/// Asks for a mapping that expires at `end`, and keeps what was seen. Says whether it had expired before.
+/// Asks for a mapping that expires at `end`, and notes the reply. Says whether it had expired before.
 fn is_over<R: Clock>(
     rt: &R,
     alloc: Global,
@@ -121,7 +121,7 @@ fn publish(alloc: Global, desk: &mut Line, expires: &str, number: u64) -> io::Re
     Ok(())
 }
 
-/// Withdraws the mapping, with the stamp of a number, and commits that.
+/// Withdraws the mapping, with the stamp of a number, and commits.
 fn withdraw(alloc: Global, desk: &mut Line, number: u64) -> io::Result<()> {
     let line = stamped(alloc, WITHDRAW, number)?;
     let _staged = ask(alloc, desk, line.as_bytes())?;

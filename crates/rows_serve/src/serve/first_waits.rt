@@ -3,7 +3,7 @@ use lost_server::Gate;
 use std::time::Clock;
 use test_rows::Meeting;
 
-/// Holds the first line that it is asked for until another was answered, and refuses it where none is in time.
+/// Holds the first line that it is asked for until another was answered. Refuses it if none is answered in time.
 #[derive(Drop)]
 pub(crate) struct FirstWaits<'r, R: Clock>(pub(crate) Meeting<'r, R>);
 

@@ -1,4 +1,4 @@
-//! Those that a server without an end serves.
+//! The clients and desks of a server that runs until it is told to end.
 use super::bench::Line;
 use super::desks::ask;
 use super::lines::{COMMIT, PUBLISH, QUESTION, WITHDRAW, is_found, stamped};
@@ -12,10 +12,10 @@ use std::time::Clock;
 /// How many clients come one after another.
 const CLIENTS: u32 = 200;
 
-/// What asks whether a server is up.
+/// The request that asks whether a server is up.
 const HEALTH: &[u8] = b"GET /health HTTP/1.1\r\nHost: lost.example\r\n\r\n";
 
-/// What guests give, once the server was told that it is over.
+/// The result of the guests, after the server was told to end.
 pub(crate) fn then_end<R: Net<Listener = TcpListener, Stream = TcpStream> + Clock, T: Drop>(
     rt: &R,
     alloc: Global,
@@ -23,7 +23,7 @@ pub(crate) fn then_end<R: Net<Listener = TcpListener, Stream = TcpStream> + Cloc
     given: io::Result<T>,
 ) -> io::Result<T> {
     ports.is_over.store(true, Ordering::SeqCst);
-    // It sees that it is over when the next connection comes.
+    // The server sees that when the next connection comes.
     drop(Line::to(rt, alloc, ports.queries(rt)?)?);
     given
 }
@@ -38,7 +38,7 @@ pub(crate) fn one_client<R: Net<Listener = TcpListener, Stream = TcpStream> + Cl
     ask(alloc, &mut client, QUESTION)
 }
 
-/// How many of many clients, one after another, were told of the mapping.
+/// How many of many clients, one after another, found the mapping.
 pub(crate) fn many_clients<R: Net<Listener = TcpListener, Stream = TcpStream> + Clock>(
     rt: &R,
     alloc: Global,
@@ -53,8 +53,8 @@ pub(crate) fn many_clients<R: Net<Listener = TcpListener, Stream = TcpStream> + 
     Ok(count)
 }
 
-/// The replies to three desks and then to a client: the first desk publishes and commits, the second withdraws and goes
-/// without a commit, and the third withdraws and commits.
+/// The replies to three desks and then to a client. The first desk publishes and commits, the second withdraws and
+/// leaves without a commit, and the third withdraws and commits.
 pub(crate) fn three_desks<R: Net<Listener = TcpListener, Stream = TcpStream> + Clock>(
     rt: &R,
     alloc: Global,
@@ -85,7 +85,7 @@ fn one_desk<R: Net<Listener = TcpListener, Stream = TcpStream> + Clock>(
     Ok(())
 }
 
-/// The first lines of what a server answers of its health before it reads its map, and once it is ready.
+/// The first lines of a server's health answers, before it reads its map and once it is ready.
 pub(crate) fn two_probes<R: Net<Listener = TcpListener, Stream = TcpStream> + Clock>(
     rt: &R,
     alloc: Global,
@@ -98,7 +98,7 @@ pub(crate) fn two_probes<R: Net<Listener = TcpListener, Stream = TcpStream> + Cl
     Ok((before?, after))
 }
 
-/// The first line of what a server answers of its health.
+/// The first line of a server's health answer.
 fn health<R: Net<Listener = TcpListener, Stream = TcpStream> + Clock>(
     rt: &R,
     alloc: Global,

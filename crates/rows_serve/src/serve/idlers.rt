@@ -1,4 +1,4 @@
-//! Clients on whose connections nothing moves.
+//! Clients with idle connections.
 use super::bench::{Bench, Line};
 use super::desks::ask;
 use super::lines::{COMMIT, PUBLISH, QUESTION};
@@ -9,11 +9,11 @@ use std::net::{Net, TcpListener, TcpStream};
 /// How many questions are sent at once by a client that takes no reply.
 const AT_ONCE: usize = 64;
 
-/// How often it sends so many, at most: more than what a connection keeps on its way.
+/// How often it sends so many, at most: more than a connection buffers.
 const TIMES: u64 = 8_192;
 
-/// A desk that publishes, a client that sends nothing, and one that sends questions and takes no reply. Says of the silent
-/// one and of the other whether the server ended the connection.
+/// A desk that publishes, a client that sends nothing, and one that sends questions and takes no reply. Says for the
+/// silent client and for the other whether the server ended the connection.
 pub(crate) fn two_idlers<R: Net<Listener = TcpListener, Stream = TcpStream>>(
     rt: &R,
     alloc: Global,
@@ -30,7 +30,7 @@ pub(crate) fn two_idlers<R: Net<Listener = TcpListener, Stream = TcpStream>>(
     Ok((is_silent_ended, is_greedy_ended))
 }
 
-/// Sends questions until that fails, and says whether it did since the connection was ended.
+/// Sends questions until that fails. Says whether it failed because the connection was ended.
 fn is_ended_in_questions(alloc: Global, line: &mut Line) -> io::Result<bool> {
     let mut questions = Vec::new(alloc);
     for _ in 0..AT_ONCE {

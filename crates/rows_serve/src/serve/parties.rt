@@ -1,4 +1,4 @@
-//! Those that a server serves.
+//! The clients and desks of a server.
 use super::bench::{Bench, Line};
 use super::clients::{Found, ask_all};
 use super::desks::{ask, commit_all};
@@ -12,7 +12,8 @@ use std::time::Clock;
 /// How many clients there are beside the commits.
 const CLIENTS: usize = 8;
 
-/// The replies to an edit, a commit and a query, and to edits that are not committed, in this order. The desk's connection ends last.
+/// The replies to an edit, a commit and a query, and to edits that are not committed, in this order. The desk's
+/// connection ends last.
 pub(crate) fn desk_and_query<R: Net<Listener = TcpListener, Stream = TcpStream>>(
     rt: &R,
     alloc: Global,
@@ -71,7 +72,7 @@ pub(crate) fn two_queries<R: Net<Listener = TcpListener, Stream = TcpStream>>(
     Ok(u32::from(first) + u32::from(second))
 }
 
-/// What the desk and the clients give, each in a thread of its own.
+/// The results of the desk and of the clients, each in a thread of its own.
 pub(crate) fn beside_commits<
     R: Net<Listener = TcpListener, Stream = TcpStream> + Threads + Clock + Sync,
 >(rt: &R, alloc: Global, bench: &Bench) -> (io::Result<bool>, io::Result<Found>) {
@@ -122,8 +123,8 @@ fn client<R: Net<Listener = TcpListener, Stream = TcpStream>>(
     ask_all(alloc, &mut line, number % 2 == 0)
 }
 
-/// As many connections at a time as there are workers, so that each worker has one of them, ask once. Gives how many
-/// replies are right for this edition.
+/// Asks once over each of as many connections as there are workers, so that each worker has one. Gives how many replies
+/// are right for this edition.
 pub(crate) fn ask_each_worker<R: Net<Listener = TcpListener, Stream = TcpStream>>(
     rt: &R,
     alloc: Global,

@@ -1,4 +1,4 @@
-//! Where a server that was started listens, and how far it is. Rules without a section are this profile's own.
+//! The ports of a started server, and how far it is.
 use lost_server::{Doors, Ready};
 use lost_sockets::Listener;
 use std::io;
@@ -7,7 +7,7 @@ use std::sync::atomic::{AtomicBool, AtomicU64, Ordering};
 use std::thread::sleep;
 use std::time::{Clock, Duration};
 
-/// How often it is looked, once in a millisecond, whether something has come.
+/// How often a wait looks whether something has come, once in a millisecond.
 const LOOKS: u64 = 20_000;
 
 /// The ports of this machine that a server listens on, once it does, and how far it and its clients are.
@@ -22,7 +22,7 @@ pub(crate) struct Ports {
 }
 
 impl Ports {
-    /// Those of a server that does not listen yet.
+    /// The ports of a server that does not listen yet.
     pub(crate) fn new() -> Ports {
         Ports {
             queries: AtomicU64::new(0),
@@ -34,17 +34,17 @@ impl Ports {
         }
     }
 
-    /// Where clients ask, once it is ready.
+    /// The address for clients, once the server is ready.
     pub(crate) fn queries<R: Clock>(&self, rt: &R) -> io::Result<SocketAddr> {
         address_of(rt, &self.queries)
     }
 
-    /// Where a desk edits, once it is ready.
+    /// The address for desks, once the server is ready.
     pub(crate) fn desk<R: Clock>(&self, rt: &R) -> io::Result<SocketAddr> {
         address_of(rt, &self.desk)
     }
 
-    /// Where its status is answered, from its beginning.
+    /// The address for its status, from the start.
     pub(crate) fn status<R: Clock>(&self, rt: &R) -> io::Result<SocketAddr> {
         address_of(rt, &self.status)
     }
@@ -61,7 +61,8 @@ fn address_of<R: Clock>(rt: &R, port: &AtomicU64) -> io::Result<SocketAddr> {
     Err(io::Error::from(io::ErrorKind::TimedOut))
 }
 
-/// Tells the ports how far a server is. One with a status goes on once it was asked for it.
+/// Tells the ports how far a server is. A server with a status first waits until it is asked for it, for 20,000 looks
+/// at most.
 #[derive(Drop)]
 pub(crate) struct Teller<'a, R> {
     pub(crate) rt: &'a R,

@@ -1,4 +1,4 @@
-//! The scenes: a server in one thread, and those that it serves in others.
+//! The scenes: a server in one thread, and its clients and desks in others.
 use super::bench::Bench;
 use super::desks::EDITIONS;
 use super::expiring::desk_and_expiry;
@@ -150,8 +150,8 @@ impl<
         self.tell_faults(served)
     }
 
-    /// Eight clients of four workers, half of which send one line at a time, while a desk commits; at the end each worker
-    /// is asked for the last edition.
+    /// Eight clients of four workers, half of which send one line at a time, while a desk commits; at the end each
+    /// worker is asked for the last edition.
     pub(crate) fn eight_clients(&self) -> io::Result<()> {
         let (rt, bench) = (self.rt, self.bench);
         let (served, ((committed, found), last)) = join(
@@ -173,7 +173,7 @@ impl<
         self.tell(served)
     }
 
-    /// Prints how many connections ended in a fault, where the number of lines goes by the machine.
+    /// Prints how many connections ended in a fault, where the number of lines depends on the machine.
     fn tell_faults(&self, served: Result<Counts, RunFault>) -> io::Result<()> {
         match served {
             Ok(counts) => println!(self.rt; "faults {}", counts.faults),
@@ -181,7 +181,7 @@ impl<
         }
     }
 
-    /// Prints what was counted.
+    /// Prints the counts.
     fn tell(&self, served: Result<Counts, RunFault>) -> io::Result<()> {
         match served {
             Ok(counts) => println!(self.rt;

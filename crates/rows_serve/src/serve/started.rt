@@ -1,4 +1,4 @@
-//! Servers that are started as they are ordered.
+//! Servers that start as ordered.
 use super::guests::{many_clients, one_client, then_end, three_desks, two_probes};
 use super::ports::{Ports, Teller};
 use lost_mapping::Source;
@@ -118,7 +118,7 @@ impl<
         self.tell(served)
     }
 
-    /// Three desks one after another, of which the second goes without a commit.
+    /// Three desks one after another, of which the second leaves without a commit.
     pub(crate) fn desks(&self) -> io::Result<()> {
         let (rt, ports) = (self.rt, Ports::new());
         let mut order = self.order(None);
@@ -164,7 +164,7 @@ impl<
         self.tell(served)
     }
 
-    /// What a server says of its health before it reads its map, and once it is ready.
+    /// The health answers of a server, before it reads its map and once it is ready.
     pub(crate) fn health(&self) -> io::Result<()> {
         let (rt, ports) = (self.rt, Ports::new());
         let mut order = self.order(Some(MAP));
@@ -189,7 +189,7 @@ impl<
         self.tell(served)
     }
 
-    /// Prints what was counted, or why the server did not start.
+    /// Prints the counts, or why the server did not start.
     fn tell(&self, served: Result<Counts, ServerFault>) -> io::Result<()> {
         match served {
             Ok(counts) => println!(self.rt; "lines {} faults {}", counts.lines, counts.faults),
@@ -222,7 +222,7 @@ fn serve_told<
     run_server(rt, order, &teller, &ports.is_over)
 }
 
-/// What a fault is called here.
+/// The name of a fault in the output.
 fn fault_text(fault: ServerFault) -> &'static str {
     match fault {
         ServerFault::Map(MapFault::Unopened(_)) => "the map was not opened",

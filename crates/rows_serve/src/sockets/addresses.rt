@@ -1,4 +1,4 @@
-//! Addresses of TCP. What a machine may lack, as IPv6 and names, is no row.
+//! TCP addresses. No row needs what a machine may lack, such as IPv6 and names.
 use super::files::tell;
 use lost_sockets::{Address, Listener, listen, remove_socket};
 use std::io;
@@ -6,7 +6,8 @@ use std::net::{Net, TcpListener, TcpStream};
 use std::random::RandomSource;
 use std::rt::Files;
 
-/// What is no address of this machine: one that is for documents, one with no port, ports that are none, and no text.
+/// Texts that are no address of this machine: one for documentation, two without a port, two with a bad port, and an
+/// empty one.
 const OTHERS: [&str; 6] = [
     "192.0.2.1:0",
     "127.0.0.1",
@@ -16,7 +17,7 @@ const OTHERS: [&str; 6] = [
     "",
 ];
 
-/// Runs the rows, and prints what comes of each.
+/// Runs the rows, and prints the result of each.
 pub(crate) fn run<
     R: Files + Net<Listener = TcpListener, Stream = TcpStream> + RandomSource + Print + AllocGlobal,
 >(rt: &R) -> io::Result<()> {

@@ -5,16 +5,16 @@ use std::io;
 use std::os::unix::fs::{FileTypeExt, PermissionsExt};
 use std::rt::Files;
 
-/// The folder of the rows, in that in which the program runs.
+/// The folder of the rows, in the current folder.
 const FOLDER: &str = "rows_serve.sockets";
 
-/// Makes the folder, in the place of one that a run left which was stopped.
+/// Makes the folder, in place of one that a stopped run left.
 pub(crate) fn make_folder<R: Files + AllocGlobal>(rt: &R) -> io::Result<()> {
     let _removed = remove_folder(rt);
     create_dir(rt, FOLDER)
 }
 
-/// Removes the folder, and what is in it.
+/// Removes the folder and its files.
 pub(crate) fn remove_folder<R: Files + AllocGlobal>(rt: &R) -> io::Result<()> {
     remove_dir_all(rt, FOLDER)
 }
@@ -31,7 +31,7 @@ pub(crate) fn tell<R: Print>(
     }
 }
 
-/// Prints what stands at a path, who may use it, and how many files are in the folder of the rows.
+/// Prints the kind and the mode of the file at a path, and how many files are in the folder of the rows.
 pub(crate) fn tell_file<R: Files + Print + Clone + Drop + AllocGlobal>(
     rt: &R,
     path: &str,

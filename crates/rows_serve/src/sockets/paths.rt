@@ -10,19 +10,19 @@ use std::os::unix::net::UnixStream;
 use std::random::RandomSource;
 use std::rt::Files;
 
-/// The path of a socket, as an address and as it is.
+/// The path of a socket, as an address and alone.
 const ADDRESS: &str = "unix:rows_serve.sockets/a.sock";
 
 const SOCKET: &str = "rows_serve.sockets/a.sock";
 
-/// A path of 96 bytes, which has no byte to spare, and one of 97.
+/// A path of 96 bytes, the most that are allowed, and one of 97.
 const LONG: &str =
     "rows_serve.sockets/000000000100000000020000000003000000000400000000050000000006000000000700.sock";
 
 const TOO_LONG: &str =
     "rows_serve.sockets/0000000001000000000200000000030000000004000000000500000000060000000007000.sock";
 
-/// Runs the rows, and prints what comes of each.
+/// Runs the rows, and prints the result of each.
 pub(crate) fn run<
     R: Files
         + Net<Listener = TcpListener, Stream = TcpStream>
@@ -39,7 +39,8 @@ pub(crate) fn run<
     println!(rt; "files in the folder {}", count_files(rt)?)
 }
 
-/// One path, at which a server begins, another one tries while it lives, a third one begins when it is dead, and ends.
+/// One path: a server begins there, a second one tries while the first lives, and a third begins and ends after it is
+/// dead.
 fn one_path<
     R: Files
         + Net<Listener = TcpListener, Stream = TcpStream>
@@ -74,7 +75,7 @@ fn one_path<
     println!(rt; "removed: files in the folder {}", count_files(rt)?)
 }
 
-/// Whether the next connection ends with no byte.
+/// Whether the next connection ends without a byte.
 fn is_ended(listener: &Listener) -> bool {
     let mut byte = [0u8; 1];
     match listener.accept_once() {
@@ -83,7 +84,7 @@ fn is_ended(listener: &Listener) -> bool {
     }
 }
 
-/// Whether a client that connects to the path comes to this listener.
+/// Whether a client that connects to the path reaches this listener.
 fn is_reached<R: Net>(rt: &R, listener: &Listener) -> io::Result<bool> {
     let _client = UnixStream::connect(rt, SOCKET)?;
     Ok(listener.accept_once().is_ok())
@@ -97,7 +98,7 @@ fn is_refused<R: Net>(rt: &R) -> bool {
     }
 }
 
-/// What is no socket stands at the path: a file, an empty folder, and links, one of which leads to a socket. Each stays.
+/// Something at the path is no socket: a file, an empty folder, and links, one of which leads to a socket. Each stays.
 fn in_the_way<
     R: Files
         + Net<Listener = TcpListener, Stream = TcpStream>
@@ -128,7 +129,7 @@ fn in_the_way<
     Ok(())
 }
 
-/// The folder of the path is not there, or is a file.
+/// The folder of the path is missing, or is a file.
 fn no_such_folder<
     R: Files + Net<Listener = TcpListener, Stream = TcpStream> + RandomSource + Print + AllocGlobal,
 >(rt: &R) -> io::Result<()> {
@@ -141,7 +142,7 @@ fn no_such_folder<
     Ok(())
 }
 
-/// Paths of no byte, of as many as are allowed, and of one more.
+/// Paths of no byte, of as many bytes as are allowed, and of one more.
 fn lengths<
     R: Files + Net<Listener = TcpListener, Stream = TcpStream> + RandomSource + Print + AllocGlobal,
 >(rt: &R) -> io::Result<()> {

@@ -17,16 +17,16 @@ const SOCKET: &str = "rows_serve.sockets/b.sock";
 /// For how long a read or a write may wait, in milliseconds.
 const SHORT_WAIT: u64 = 50;
 
-/// The most bytes of a row, which are read at once.
+/// The most bytes of a row. They are read at once.
 const MAX_BYTES: usize = 16;
 
 /// How many bytes are written at once to a client that takes none.
 const AT_ONCE: usize = 4_096;
 
-/// How often so many are written, at most: more than what a connection keeps on its way.
+/// How often so many are written, at most: more than a connection buffers.
 const TIMES: u64 = 100_000;
 
-/// Runs the rows over each kind, and prints what comes of each.
+/// Runs the rows over each kind, and prints the result of each.
 pub(crate) fn run<
     R: Files
         + Net<Listener = TcpListener, Stream = TcpStream>
@@ -101,7 +101,7 @@ fn is_told<R: Print>(rt: &R, peer: Peer, client: &Stream) -> io::Result<bool> {
     }
 }
 
-/// Whether what is written at one end is read at the other.
+/// Whether the bytes written at one end are read at the other.
 fn is_carried(from: &Stream, to: &Stream, bytes: &[u8]) -> bool {
     let mut buffer = [0u8; MAX_BYTES];
     let (mut from, mut to) = (from, to);
@@ -124,7 +124,7 @@ fn are_carried<R: Threads + Sync>(rt: &R, server: &Stream, client: &Stream) -> b
     there && back
 }
 
-/// Reads and writes that wait for too long.
+/// Reads and writes that wait too long.
 fn wait<R: Print>(rt: &R, server: &Stream) -> io::Result<()> {
     println!(rt; "no limit can be set: {}", server.limit_waiting(None))?;
     println!(rt;
@@ -143,7 +143,7 @@ fn wait<R: Print>(rt: &R, server: &Stream) -> io::Result<()> {
     )
 }
 
-/// Whether a read fails since it waits too long.
+/// Whether a read fails because it waits too long.
 fn is_read_late(mut stream: &Stream) -> bool {
     let mut buffer = [0u8; MAX_BYTES];
     match stream.read(&mut buffer) {
@@ -152,7 +152,7 @@ fn is_read_late(mut stream: &Stream) -> bool {
     }
 }
 
-/// Whether one of many writes fails since it waits too long.
+/// Whether one of many writes fails because it waits too long.
 fn is_written_late(mut stream: &Stream) -> bool {
     for _ in 0..TIMES {
         if let Err(error) = stream.write(&[b'x'; AT_ONCE]) {

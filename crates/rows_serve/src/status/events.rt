@@ -1,24 +1,24 @@
-//! What happens to a server: each event is a line of words, with a space between each two.
+//! Events at a server: each is a line of words, with a space between each two.
 //!
-//! | Event | What it is |
+//! | Event | Meaning |
 //! |---|---|
 //! | `ready` | the server answers from its map |
 //! | `reply WORKER LINE` | a worker gives a reply |
 //! | `busy WORKER`, `idle WORKER` | a worker takes a connection, and is done with it |
-//! | `hits WORKER COUNT` | a worker's cache was of use so often |
-//! | `accepted`, `taken`, `ended`, `failed` | a query connection is accepted, is taken by a worker, ends well or in a fault |
-//! | `turned away` | a query connection is refused |
+//! | `hits WORKER COUNT` | a worker's cache counts so many hits |
+//! | `accepted`, `taken`, `ended`, `failed` | a query connection is accepted, is taken by a worker, ends well or in a
+//! fault | | `turned away` | a query connection is refused |
 //! | `refused CODE` | the desk refuses a line |
-//! | `book EDITION MAPPINGS PENDING` | what the desk holds |
+//! | `book EDITION MAPPINGS PENDING` | the desk's edition, and how many mappings and pending edits it has |
 //! | `commit SECONDS` | the desk commits so many seconds after 1970 |
-//! | `desk`, `no desk` | a desk connects, and goes |
+//! | `desk`, `no desk` | a desk connects, and leaves |
 //! | `after SECONDS` | so many seconds pass |
 use super::watch::Watch;
 use lost_status::{Status, WorkerCounts};
 use std::alloc::{AllocError, Global};
 use std::time::Duration;
 
-/// Lets an event happen. One that is none of the table does not.
+/// Lets an event happen. Any other line counts as `no desk`.
 pub(crate) fn happen(
     alloc: Global,
     event: &str,
@@ -40,7 +40,7 @@ pub(crate) fn happen(
     Ok(())
 }
 
-/// Lets happen what a worker does.
+/// Lets an event of a worker happen.
 fn at_worker(alloc: Global, word: &str, rest: &str, status: &Status) -> Result<(), AllocError> {
     let (number, rest) = rest.split_once(' ').unwrap_or((rest, ""));
     let Some(worker) = status.worker(number.parse::<usize>().unwrap_or(usize::MAX)) else {
@@ -61,7 +61,7 @@ fn count(alloc: Global, worker: &WorkerCounts, line: &str) -> Result<(), AllocEr
     Ok(())
 }
 
-/// Lets happen what the desk tells.
+/// Lets an event of the desk happen.
 fn at_desk(event: &str, status: &Status) {
     let (word, rest) = event.split_once(' ').unwrap_or((event, ""));
     match word {
@@ -72,14 +72,14 @@ fn at_desk(event: &str, status: &Status) {
     }
 }
 
-/// Says what the desk holds.
+/// Sets the desk's numbers.
 fn set_book(numbers: &str, status: &Status) {
     let (edition, rest) = numbers.split_once(' ').unwrap_or((numbers, ""));
     let (mappings, pending) = rest.split_once(' ').unwrap_or((rest, ""));
     status.set_book(number_of(edition), number_of(mappings), number_of(pending));
 }
 
-/// A number; 0 where it is none.
+/// A number; 0 where the text is none.
 fn number_of(text: &str) -> u64 {
     text.parse::<u64>().unwrap_or(0)
 }

@@ -12,7 +12,7 @@ use test_rows::{Feed, Sink};
 /// How many workers the server of a row has.
 const WORKERS: u32 = 2;
 
-/// What a server answered.
+/// The answer of a server.
 #[derive(Drop)]
 pub(crate) struct Answer {
     /// Its first line, and then its fields.
@@ -21,7 +21,7 @@ pub(crate) struct Answer {
     text: String,
 }
 
-/// Asks the server of a row, and prints whether it answers as the row wants.
+/// Asks the server of a row, and prints whether it answers as the row expects.
 pub(crate) fn run<R: Print + RandomSource + AllocGlobal>(rt: &R, row: &str) -> io::Result<()> {
     let alloc = rt.alloc();
     let name = row.lines().find_map(|line| line.strip_prefix("# "));
@@ -65,7 +65,7 @@ fn request_of(alloc: Global, row: &str) -> Result<String, AllocError> {
     Ok(request)
 }
 
-/// What a server answers to the bytes of a request. They come seven at a time, and go so too.
+/// The answer of a server to the bytes of a request. It reads and writes at most seven bytes at a time.
 pub(crate) fn answer_to(
     alloc: Global,
     keys: RandomState,
@@ -86,7 +86,7 @@ pub(crate) fn answer_to(
     })
 }
 
-/// Whether an answer is what a row wants.
+/// Whether an answer is as a row expects.
 fn is_wanted(alloc: Global, row: &str, answer: &Answer) -> Result<bool, AllocError> {
     let mut head = answer.head.as_str().lines();
     let first = row.lines().find_map(|line| line.strip_prefix("= "));
@@ -101,7 +101,7 @@ fn is_wanted(alloc: Global, row: &str, answer: &Answer) -> Result<bool, AllocErr
     Ok(has_fields && is_text(alloc, row, answer.text.as_str())?)
 }
 
-/// Whether the text of an answer is what a row wants: just its lines, or some lines among others.
+/// Whether the text of an answer is as a row expects: exactly its lines, or its lines among others.
 fn is_text(alloc: Global, row: &str, text: &str) -> Result<bool, AllocError> {
     let mut wanted = String::new(alloc);
     for line in row.lines().filter_map(|line| line.strip_prefix("> ")) {

@@ -1,4 +1,4 @@
-//! What no row can say: a client that sends a byte a second, and two workers that count at once.
+//! Scenes that no row can describe: a client that sends a byte a second, and two workers that count at once.
 use super::watch::{STARTED, Watch};
 use lost_status::{Deadline, Status, serve_status};
 use std::alloc::Global;
@@ -16,10 +16,10 @@ const LIMIT: u64 = 10;
 /// How many replies each worker counts.
 const REPLIES: u32 = 10_000;
 
-/// What the clients send.
+/// The request that the clients send.
 const REQUEST: &[u8] = b"GET /health HTTP/1.1\r\nHost: localhost\r\n\r\n";
 
-/// Plays the scenes, and prints what came of them.
+/// Plays the scenes, and prints their results.
 pub(crate) fn play<R: Print + RandomSource + Threads + AllocGlobal + Sync>(
     rt: &R,
 ) -> io::Result<()> {
@@ -41,7 +41,7 @@ pub(crate) fn play<R: Print + RandomSource + Threads + AllocGlobal + Sync>(
     Ok(())
 }
 
-/// Counts as a worker does that serves a connection for each reply.
+/// Counts like a worker that serves a connection for each reply.
 fn count(status: &Status, number: usize) {
     for _ in 0..REPLIES {
         status.count_accepted();
@@ -52,7 +52,7 @@ fn count(status: &Status, number: usize) {
     }
 }
 
-/// Gives a byte at each read, for each of which a second passes.
+/// Gives a byte at each read. A second passes for each.
 #[derive(Drop)]
 struct Dripping<'w> {
     feed: Feed<'w>,
@@ -66,7 +66,7 @@ impl Read for Dripping<'_> {
     }
 }
 
-/// How many reads are made of a client that sends a byte a second, and how many bytes it gets.
+/// How many reads the server makes from a client that sends a byte a second, and how many bytes the client gets.
 fn slow_client(alloc: Global, keys: RandomState, status: &Status) -> io::Result<(u64, usize)> {
     let watch = Watch::new();
     let limit = Duration::from_secs(LIMIT);

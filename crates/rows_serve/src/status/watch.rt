@@ -3,7 +3,7 @@ use std::io;
 use std::sync::atomic::{AtomicU64, Ordering};
 use std::time::{Clock, Duration};
 
-/// The first second of 2026, since 1970.
+/// The first second of 2026, in seconds since 1970.
 pub(crate) const STARTED: u64 = 1_767_225_600;
 
 /// A clock that begins at the first second of 2026.
