@@ -17,6 +17,7 @@ pub(crate) fn said(alloc: Global, call: &str, fields: &Fields) -> Result<String,
             let positions = number_pairs(alloc, text)?;
             owned(alloc, yes_or_no(is_ring(positions.as_slice())))
         }
+        "geo decimal" => decimal(alloc, fields.bytes(1)?),
         "geo positions" => shown_positions(alloc, polygon(alloc, text)?.positions()),
         "geo bounds" => shown_bounds(alloc, &polygon(alloc, text)?),
         "geo inside" => {
@@ -56,6 +57,14 @@ fn new_point(alloc: Global, numbers: (i64, i64)) -> Result<String, Trouble> {
             Ok(format!(in alloc; "{lat},{lon} normally {normal_lat},{normal_lon}")?)
         }
         Err(refusal) => refused(alloc, refusal.code()),
+    }
+}
+
+/// The numbers that a text of degrees spells, or `none`.
+fn decimal(alloc: Global, text: &[u8]) -> Result<String, Trouble> {
+    match GeoPoint::decimal(text) {
+        Some((lat, lon)) => Ok(format!(in alloc; "{lat},{lon}")?),
+        None => owned(alloc, "none"),
     }
 }
 

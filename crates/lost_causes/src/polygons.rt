@@ -1,10 +1,15 @@
 //! Code 9: polygons.
 use crate::hints::{number_hint, pair_hint};
 use crate::object::Object;
+use crate::quoting::quoted;
 use crate::stop::{Stop, found};
 use lost_geo::{GeoPoint, MAX_POSITIONS, MIN_POSITIONS};
+use lost_reading::position;
 use serde_json::Value;
 use std::alloc::Global;
+
+/// What a text must be.
+const DEGREES: &str = "a text of degrees such as 48.1371 11.5754";
 
 /// Why the polygon of a region is refused.
 pub(crate) fn polygon(region: &Object<'_>) -> Result<(), Stop> {
@@ -14,7 +19,7 @@ pub(crate) fn polygon(region: &Object<'_>) -> Result<(), Stop> {
     for (place, item) in items.iter().enumerate() {
         if !is_point(item) {
             let name = format!(in alloc; "{owner}.polygon[{place}]")?;
-            position(alloc, name.as_str(), item)?;
+            refused(alloc, name.as_str(), item)?;
         }
     }
     ring(alloc, owner, items)
@@ -41,32 +46,27 @@ fn ring(alloc: Global, owner: &str, items: &[Value]) -> Result<(), Stop> {
 
 fn is_closed(items: &[Value]) -> bool {
     match (items.first(), items.last()) {
-        (Some(first), Some(last)) => numbers(first) == numbers(last),
+        (Some(first), Some(last)) => position(first) == position(last),
         _ => false,
-    }
-}
-
-/// The latitude and the longitude of a list of two whole numbers.
-fn numbers(value: &Value) -> Option<(i64, i64)> {
-    match value.as_array()?.as_slice() {
-        [lat, lon] => Some((lat.as_i64()?, lon.as_i64()?)),
-        _ => None,
     }
 }
 
 /// Whether a value is a position in range.
 fn is_point(value: &Value) -> bool {
-    match numbers(value) {
+    match position(value) {
         Some((lat, lon)) => GeoPoint::new(lat, lon).is_ok(),
         None => false,
     }
 }
 
-/// Why a value is no position.
-fn position(alloc: Global, name: &str, value: &Value) -> Result<(), Stop> {
+/// Why a value is no position in range.
+fn refused(alloc: Global, name: &str, value: &Value) -> Result<(), Stop> {
+    if let Some(text) = value.as_str() {
+        return spelled(alloc, name, text);
+    }
     let Some(items) = value.as_array() else {
         return Err(found(format!(in alloc;
-            "{name}: a list of two whole numbers is wanted, latitude and longitude"
+            "{name}: a list of two whole numbers is wanted, latitude and longitude, or {DEGREES}"
         )));
     };
     match items.as_slice() {
@@ -80,10 +80,26 @@ fn position(alloc: Global, name: &str, value: &Value) -> Result<(), Stop> {
     }
 }
 
+/// Why a text spells no position in range.
+fn spelled(alloc: Global, name: &str, text: &str) -> Result<(), Stop> {
+    match GeoPoint::decimal(text.as_bytes()) {
+        Some((lat, lon)) => in_range(alloc, name, lat, lon),
+        None => {
+            let shown = quoted(alloc, text)?;
+            Err(found(format!(in alloc; "{name}: {shown} is not {DEGREES}")))
+        }
+    }
+}
+
 /// Why two values are no latitude and longitude.
 fn coordinates(alloc: Global, name: &str, lat: &Value, lon: &Value) -> Result<(), Stop> {
     let lat = whole_number(alloc, name, "latitude", lat)?;
     let lon = whole_number(alloc, name, "longitude", lon)?;
+    in_range(alloc, name, lat, lon)
+}
+
+/// Why two whole numbers make no point.
+fn in_range(alloc: Global, name: &str, lat: i64, lon: i64) -> Result<(), Stop> {
     match GeoPoint::new(lat, lon) {
         Ok(_) => Ok(()),
         Err(fault) => {

@@ -117,9 +117,10 @@ impl Kind for (i64, i64) {
     }
 }
 
-/// The position that a value is: a list of two whole numbers, or a text of decimal degrees. It takes no memory.
+/// The latitude and the longitude that a value is, in whole 1e-7 degrees: a list of two whole numbers, or a text as
+/// [`GeoPoint::decimal`] reads it (own format). It takes no memory.
 #[tactic(auto, using(crate::proofs::PositionLemmas::positions))]
-pub(crate) fn position(value: &Value) -> Option<(i64, i64)>
+pub fn position(value: &Value) -> Option<(i64, i64)>
     ensures { result ≡ position_in (view value.now) }
 {
     match value.as_str() {

@@ -16,6 +16,7 @@ mod services;
 mod tree;
 
 pub use desk::{DeskFault, DeskLine, read_desk};
+pub use kinds::position;
 pub use line::{Line, read_line_by_tree};
 pub use locations::{CIVIC, GEODETIC, KNOWN_SYSTEM, MAX_LOCATIONS, are_locations};
 pub use options::{MAX_NAMES, by_value};
