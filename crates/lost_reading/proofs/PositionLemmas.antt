@@ -1,5 +1,5 @@
 -- Positions as pairs and as texts: what is the one is not the other.
-use Rattle.std.proofs.Common.{◌≡◌, ℤ, Option, Some, None, option_and_then, refl, sym, ap, ◌∙◌}
+use Rattle.std.proofs.Common.{◌≡◌, ℤ, Option, Some, None, option_and_then, refl, ap, ◌∙◌}
 use Rattle.std.specs.Option.{option_or}
 use Rattle.serde_json.specs.Data.{Data, null, boolean, number, string, array, object}
 use Rattle.serde_json.specs.Find.{as_str}
