@@ -22,6 +22,8 @@ PACE = 0.25
 # A crate that took less than this was there already, and says nothing about the pace.
 QUICK = 10.0
 KILLED = (-9, 137)
+# Words before the command of a crate that another one, with a longer chain above it, must not wait for.
+YIELDS = ["nice", "-n", "10"]
 
 
 class Job:
@@ -95,9 +97,12 @@ class Proving:
 
     def _begin(self, processor: str) -> None:
         jobs = {name: job.jobs for name, job in self.running.items()}
-        for name, given in self.schedule.next(self.done, jobs):
+        begun = self.schedule.next(self.done, jobs)
+        at_work = {*jobs, *(name for name, _ in begun)}
+        for name, given in begun:
             folder = self.copies.begin(name)
-            words = [*ends_with_us(), *words_of(self.kit, name, given, processor)]
+            yields = [] if self.schedule.leads(name, at_work) else YIELDS
+            words = [*yields, *ends_with_us(), *words_of(self.kit, name, given, processor)]
             self.running[name] = job = Job(name, given, folder, started(words, f"{folder}/crates/{name}"))
             self.log.write(name, f"begins, with {given} job{'s' * (given > 1)}, in {folder}")
             threading.Thread(target=self._read, args=(job,), daemon=True).start()

@@ -42,21 +42,36 @@ class Schedule:
         found = [name for name, used in self.uses.items() if name not in taken and used <= ended]
         return sorted(found, key=lambda name: (-self.chain(name), name))
 
+    def leads(self, name: str, others: Iterable[str]) -> bool:
+        """Whether a crate is the first of those with the longest chain above them: the build takes as long as that chain."""
+        return all((-self.chain(name), name) <= (-self.chain(other), other) for other in others)
+
     def next(self, done: Iterable[str], running: Mapping[str, int]) -> List[Tuple[str, int]]:
-        """What begins now, each with its jobs: the idle processors and the memory are shared among those that can begin."""
-        ready, idle = self.ready(done, running), self.processors - sum(running.values())
+        """What begins now, each with its jobs. The leader gets all processors, as far as memory goes, and counts as one: the
+        others share the rest, and yield to it where they are proved with less priority."""
+        ready = self.ready(done, running)
+        leads = {name: self.leads(name, {*ready, *running}) for name in {*ready, *running}}
+        idle = self.processors - sum(1 if leads[name] else jobs for name, jobs in running.items())
         room = self.memory - sum(self.takes(name, jobs) for name, jobs in running.items())
         begun: List[Tuple[str, int]] = []
         for place, name in enumerate(ready):
-            jobs = max(idle // (len(ready) - place), 1)
-            while jobs > 1 and self.takes(name, jobs) > room:
+            jobs = self.processors if leads[name] else max(idle // (len(ready) - place), 1)
+            left = room - self._beside(name, ready[place + 1 : place + idle], room) if leads[name] else room
+            while jobs > 1 and self.takes(name, jobs) > left:
                 jobs -= 1
             # (a crate that lacks memory waits, and nothing overtakes it; alone it always runs)
             if idle < 1 or (self.takes(name, jobs) > room and (running or begun)):
                 break
             begun.append((name, jobs))
-            idle, room = idle - jobs, room - self.takes(name, jobs)
+            idle, room = idle - (1 if leads[name] else jobs), room - self.takes(name, jobs)
         return begun
+
+    def _beside(self, leader: str, others: Iterable[str], room: float) -> float:
+        """The megabytes to leave for the crates that fit beside the leader, each on one processor."""
+        taken = self.takes(leader, 1)
+        for name in others:
+            taken += self.takes(name, 1) if taken + self.takes(name, 1) <= room else 0.0
+        return taken - self.takes(leader, 1)
 
     def left(self, done: Iterable[str], running: Mapping[str, float], pace: float) -> float:
         """How many seconds the rest takes at a pace of so many seconds a line; `running` has the seconds spent on each."""

@@ -56,10 +56,10 @@ class Build(Checkout):
         self.assertEqual(self.run_script("lostd", "--version")[:2], (0, "lostd 0.0.7\n"))
         self.assertEqual(self.proved(), [])
 
-    def test_a_crate_that_is_alone_gets_all_jobs(self) -> None:
+    def test_the_crate_with_the_longest_chain_gets_all_jobs(self) -> None:
         self.build("--jobs", "4")
         jobs = {line.split()[0]: line.split()[3] for line in self.proved()}
-        self.assertEqual(jobs, {"lost_low": "4", "lost_left": "2", "lost_right": "2", "lostd": "4"})
+        self.assertEqual(jobs, {"lost_low": "4", "lost_left": "4", "lost_right": "3", "lostd": "4"})
 
     def test_only_what_changed_is_proved_again_over_its_kept_work(self) -> None:
         self.build()

@@ -28,10 +28,12 @@ class Order(unittest.TestCase):
         self.assertEqual(schedule.ready(["low", "short", "long", "above"], ["other"]), [])
 
     def test_idle_processors_are_shared(self) -> None:
+        # the leader, above which the longest chain is, gets all processors and counts as one
         self.assertEqual(schedule_of(1).next([], {}), [("low", 1)])
-        self.assertEqual(schedule_of(4).next([], {}), [("low", 2), ("other", 2)])
-        self.assertEqual(schedule_of(5).next(["low"], {"other": 2}), [("long", 1), ("short", 2)])
-        self.assertEqual(schedule_of(4).next([], {"low": 2, "other": 2}), [])
+        self.assertEqual(schedule_of(4).next([], {}), [("low", 4), ("other", 3)])
+        self.assertEqual(schedule_of(5).next(["low"], {"other": 2}), [("long", 5), ("short", 2)])
+        self.assertEqual(schedule_of(4).next([], {"low": 4, "other": 3}), [])
+        self.assertEqual(schedule_of(4).next(["low", "other", "long"], {"short": 1}), [("above", 4)])
 
     def test_memory_is_shared(self) -> None:
         # low takes 1,200 + 0.8 x 1,000 + 0.1 x 1,000 = 2,100 MB, and each further processor 1,260
@@ -39,13 +41,13 @@ class Order(unittest.TestCase):
         self.assertEqual(schedule_of(8, 3_359, 1_000).next([], {}), [("low", 1)])
         self.assertEqual(schedule_of(8, 3_360, 1_000).next([], {}), [("low", 2)])
         self.assertEqual(schedule_of(2, 4_200, 1_000).next([], {}), [("low", 1), ("other", 1)])
-        self.assertEqual(schedule_of(2, 4_199, 1_000).next([], {}), [("low", 1)])
+        self.assertEqual(schedule_of(2, 4_199, 1_000).next([], {}), [("low", 2)])
         self.assertEqual(schedule_of(2, 1_000, 1_000).next([], {"low": 1}), [])
 
     def test_the_rest_takes_as_long_as_its_longest_chain(self) -> None:
         self.assertEqual(schedule_of(1).left([], {}, 0.1), 600)
-        # low beside other, long beside short, above while short still has the other processor, and top on both
-        self.assertAlmostEqual(schedule_of(2).left([], {}, 0.1), 300 + 100 / 1.5)
+        # low beside other, long beside short, above and top, each on both processors
+        self.assertAlmostEqual(schedule_of(2).left([], {}, 0.1), 4 * 100 / 1.5)
         self.assertEqual(schedule_of(2).left(["low", "other", "short", "long", "above"], {"top": 40.0}, 0.1), 60)
         self.assertEqual(schedule_of(2).left(list(USES), {}, 0.1), 0)
 
