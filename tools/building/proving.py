@@ -22,8 +22,6 @@ PACE = 0.25
 # A crate that took less than this was there already, and says nothing about the pace.
 QUICK = 10.0
 KILLED = (-9, 137)
-# Words before the command of a crate that another one, with a longer chain above it, must not wait for.
-YIELDS = ["nice", "-n", "10"]
 
 
 class Job:
@@ -49,6 +47,11 @@ class Event(NamedTuple):
 def ends_with_us() -> List[str]:
     """Words before a command that have it end where this process is killed."""
     return ["setpriv", "--pdeathsig", "TERM"] if shutil.which("setpriv") else []
+
+
+def yields() -> List[str]:
+    """Words before a command that have it take what others leave of the processors."""
+    return ["nice", "-n", "10"] if shutil.which("nice") else []
 
 
 def words_of(kit: Kit, name: str, jobs: int, processor: str) -> List[str]:
@@ -101,8 +104,8 @@ class Proving:
         at_work = {*jobs, *(name for name, _ in begun)}
         for name, given in begun:
             folder = self.copies.begin(name)
-            yields = [] if self.schedule.leads(name, at_work) else YIELDS
-            words = [*yields, *ends_with_us(), *words_of(self.kit, name, given, processor)]
+            first = [] if self.schedule.leads(name, at_work) else yields()
+            words = [*first, *ends_with_us(), *words_of(self.kit, name, given, processor)]
             self.running[name] = job = Job(name, given, folder, started(words, f"{folder}/crates/{name}"))
             self.log.write(name, f"begins, with {given} job{'s' * (given > 1)}, in {folder}")
             threading.Thread(target=self._read, args=(job,), daemon=True).start()
