@@ -6,6 +6,7 @@ pub mod Ring
 pub mod Civic
 pub mod Moment
 pub mod Mapping
+pub mod Token
 pub mod Book
 pub mod Find
 pub mod Validation
@@ -19,6 +20,7 @@ pub mod OwnRows
 pub mod BoundRows
 pub mod MoreRows
 pub mod TraceRows
+pub mod TokenRows
 pub mod Laws
 pub mod FindLaws
 pub mod BookLaws

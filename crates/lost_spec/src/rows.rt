@@ -6,6 +6,7 @@ ghost use Rattle.lost_spec.specs.OwnRows.{FirstFaults, LabelOrder, Comparison, E
 ghost use Rattle.lost_spec.specs.BoundRows.{StampFractions, StampBounds, DayOrder, ServiceBounds, TextBounds, UriBounds, PlaceBounds, PairBounds, PartsBounds, CivicNames};
 ghost use Rattle.lost_spec.specs.MoreRows.{Slopes, KeptAsGiven, FreedKey, PatternChange, LaterDay, Expired, OtherReference, DefaultAsked, DeepServices, Paths, UnfittingBodies, Additive, ExactCase};
 ghost use Rattle.lost_spec.specs.TraceRows.{PublishedAgain, TracesLimit, WithdrawnBeforeFull, AllowedTraces, TraceOrder, OtherIdentities, WhichTraces};
+ghost use Rattle.lost_spec.specs.TokenRows.{TokenBounds, TokenSetBounds, TokenMembers};
 
 /// A text spells a service URN, or is refused by the first check that fails.
 pub fn urn()
@@ -330,4 +331,19 @@ pub fn other_identities()
 /// A withdrawal adds a trace behind, a replacement changes none, and a publish takes its own away.
 pub fn which_traces()
     ensures { WhichTraces }
+{}
+
+/// Tokens at their bounds and past them, and the bytes that no token has.
+pub fn token_bounds()
+    ensures { TokenBounds }
+{}
+
+/// The largest token set and a larger list, and lists that are none.
+pub fn token_set_bounds()
+    ensures { TokenSetBounds }
+{}
+
+/// Which tokens a set contains.
+pub fn token_members()
+    ensures { TokenMembers }
 {}
