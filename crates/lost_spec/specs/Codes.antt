@@ -12,6 +12,8 @@ use Rattle.lost_spec.specs.declared.faults.SourceError.{SourceError}
 use Rattle.lost_spec.specs.declared.faults.SourceError.TheVariants.{Bad as SourceBad, Memory as SourceMemory}
 use Rattle.lost_spec.specs.declared.faults.StampError.{StampError}
 use Rattle.lost_spec.specs.declared.faults.StampError.TheVariants.{Bad as StampBad, Memory as StampMemory}
+use Rattle.lost_spec.specs.declared.faults.TokenError.{TokenError}
+use Rattle.lost_spec.specs.declared.faults.TokenError.TheVariants.{Bad as TokenBad, Memory as TokenMemory}
 use Rattle.lost_spec.specs.declared.faults.MappingError.{MappingError}
 use Rattle.lost_spec.specs.declared.faults.MappingError.TheVariants.{BadSource, BadSourceId, BadStamp, BadExpires, BadService, BadUri, BadNumber, BadRegion, RegionMissing, TooLarge, BadKey, Memory as MappingMemory}
 use Rattle.lost_spec.specs.declared.faults.EditError.{EditError}
@@ -55,6 +57,11 @@ source_code SourceMemory = 2
 abbrev pub stamp_code : StampError → ℕ
 stamp_code StampBad = 1
 stamp_code StampMemory = 2
+
+-- why a text is no token, or a list of tokens no token set
+abbrev pub token_code : TokenError → ℕ
+token_code TokenBad = 1
+token_code TokenMemory = 2
 
 -- why parts are no mapping
 abbrev pub mapping_code : MappingError → ℕ

@@ -7,6 +7,7 @@ pub mod Civic
 pub mod Moment
 pub mod Decimal
 pub mod Mapping
+pub mod Token
 pub mod Book
 pub mod Find
 pub mod Validation
@@ -21,6 +22,7 @@ pub mod BoundRows
 pub mod MoreRows
 pub mod TraceRows
 pub mod DecimalRows
+pub mod TokenRows
 pub mod Laws
 pub mod FindLaws
 pub mod BookLaws

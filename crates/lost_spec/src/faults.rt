@@ -169,6 +169,29 @@ impl Coded for StampError {
     }
 }
 
+/// Why a text is no token, or a list of tokens no token set (own rules).
+#[derive(Clone, Copy, PartialEq, Eq, Debug, Error)]
+pub enum TokenError {
+    #[error("the text is no token, or the list is not of 1 to 64 tokens, each once")]
+    Bad,
+    #[error("memory ran out")]
+    Memory,
+}
+
+/// The number of the refusal, 1 or 2.
+impl Coded for TokenError {
+    ghost use Rattle.lost_spec.specs.Codes.{token_code};
+
+    ghost code_of = { token_code };
+
+    fn code(self) -> u8 {
+        match self {
+            TokenError::Bad => 1,
+            TokenError::Memory => 2,
+        }
+    }
+}
+
 /// Why the parts of a mapping are no mapping (RFC 5222, section 5; the bounds are own rules).
 #[derive(Clone, Copy, PartialEq, Eq, Debug, Error)]
 pub enum MappingError {

@@ -7,6 +7,7 @@ ghost use Rattle.lost_spec.specs.BoundRows.{StampFractions, StampBounds, DayOrde
 ghost use Rattle.lost_spec.specs.MoreRows.{Slopes, KeptAsGiven, FreedKey, PatternChange, LaterDay, Expired, OtherReference, DefaultAsked, DeepServices, Paths, UnfittingBodies, Additive, ExactCase};
 ghost use Rattle.lost_spec.specs.DecimalRows.{DecimalTexts, NoDecimals};
 ghost use Rattle.lost_spec.specs.TraceRows.{PublishedAgain, TracesLimit, WithdrawnBeforeFull, AllowedTraces, TraceOrder, OtherIdentities, WhichTraces};
+ghost use Rattle.lost_spec.specs.TokenRows.{TokenBounds, TokenSetBounds, TokenMembers};
 
 /// A text spells a service URN, or is refused by the first check that fails.
 pub fn urn()
@@ -341,4 +342,19 @@ pub fn decimal_texts()
 /// Any other text spells no position.
 pub fn no_decimals()
     ensures { NoDecimals }
+{}
+
+/// Tokens at their bounds and past them, and the bytes that no token has.
+pub fn token_bounds()
+    ensures { TokenBounds }
+{}
+
+/// The largest token set and a larger list, and lists that are none.
+pub fn token_set_bounds()
+    ensures { TokenSetBounds }
+{}
+
+/// Which tokens a set contains.
+pub fn token_members()
+    ensures { TokenMembers }
 {}
