@@ -1,26 +1,26 @@
--- The numbers that are found are those of the list with a region that contains the location.
-use Rattle.std.proofs.Common.{◌≡◌, ℕ, Bool, true, false, ◌&&◌, ◌||◌, Option, None, Some, is_some, List, [], ◌∷◌, map, filter, All, Contains, get_or, nat_eq, nat_cmp, cond, refl, sym, ap, suc, arith, ◌∙◌}
+-- The numbers that are found are held; all with a region that contains the location are among them, and a test keeps these.
+use Rattle.std.proofs.Common.{◌≡◌, ℕ, Bool, true, false, ◌&&◌, ◌||◌, Option, None, Some, is_some, List, [], ◌∷◌, map, filter, All, Contains, get_or, nat_eq, nat_cmp, cond, refl, sym, ap, subst, suc, arith, ◌∙◌}
 use Rattle.std.specs.BTreeMap as tree
 use Rattle.std.specs.BTreeMap.{BTreeMap, is_at}
 use Rattle.std.specs.Cmp.{nat_eq_equiv}
 use Rattle.std.specs.HashMap.{HashMap, get}
 use Rattle.std.specs.List.{list_any, flat_map, dedup}
-use Rattle.std.specs.List.Sorted.{IsStrictlySortedBy, IsPermutation, IsSorted}
+use Rattle.std.specs.List.Sorted.{IsStrictlySortedBy, IsStrictlyIncreasing, IsPermutation}
 use Rattle.std.specs.Option.{option_map_or}
 use Rattle.std.proofs.lemmas.Cmp.{nat_cmp_total}
 use Rattle.std.proofs.lemmas.List.Elements.{Contains-get_or}
 use Rattle.std.proofs.lemmas.List.Kept.{Contains-dedup_nat, Contains-from_dedup, IsStrictlySortedBy-filter}
 use Rattle.std.proofs.lemmas.List.Sorted.{Contains-permutation, IsPermutation-sym}
-use Rattle.std.proofs.lemmas.Map.Keys.{sorted_from_strictly_increasing, IsStrictlyIncreasing-dedup}
+use Rattle.std.proofs.lemmas.Map.Keys.{sorted_from_strictly_increasing}
 use Rattle.std.proofs.lemmas.Map.Lookups.{btree_set_from_contains, exact_unsigned}
 use Rattle.std.proofs.lemmas.Bool.{false≢true}
 use Rattle.std.proofs.lemmas.Bool.Decides.{nat_tests}
 use Rattle.std.proofs.lemmas.List.Folds.{list_any-append, Any-from_list_any}
 use Rattle.std.proofs.lemmas.Map.Views.{any-filter_same, Contains-from_any, list_any-from_Contains, btree_map_contains_key_iff, btree_map_get_iff}
 use Rattle.lost_profile.specs.Keys.{SharesKey}
-use Rattle.lost_index.specs.Entries.{numbers, holders}
+use Rattle.lost_index.specs.Entries.{numbers, holders, IsHeld}
 use Rattle.lost_index.specs.declared.note.Note.{Note}
-use Rattle.lost_index.specs.Notes.{notes_of, is_note, has_note, numbers_that_pass, is_holder, IsIndexed}
+use Rattle.lost_index.specs.Notes.{notes_of, is_note, has_note, covers_with, numbers_near, is_holder, IsIndexed}
 use Rattle.lost_index.proofs.EntryLemmas.{at_same}
 use Rattle.lost_index.proofs.NoteChangeLemmas.{any-from_contained, any-alike}
 
@@ -66,40 +66,45 @@ right_of_and : (a b : Bool) → (a && b) ≡ true → b ≡ true
 right_of_and true b h = h
 right_of_and false b h = absurd (false≢true h)
 
-module _ {K O : Type 0} (near : O → Bool) (p : ℕ → Bool) (n : ℕ) (cell : K → List (Note O)) (keys : List K) where
-  abbrev tests : Note O → Bool
-  tests note = near note.outline && p note.number
+module _ {K O : Type 0} (near : O → Bool) (n : ℕ) (cell : K → List (Note O)) (keys : List K) where
+  abbrev is_near_number : Note O → Bool
+  is_near_number note = near note.outline && nat_eq n note.number
 
-  any-numbers : (notes : List (Note O)) → list_any (nat_eq n) (numbers_that_pass near p notes) ≡ list_any (λ note. tests note && nat_eq n note.number) notes
+  any-numbers : (notes : List (Note O)) → list_any (nat_eq n) (numbers_near near notes) ≡ list_any is_near_number notes
   any-numbers notes =
-      any-map (nat_eq n) (λ note. note.number) (filter tests notes) ∙ any-filter (λ note. nat_eq n note.number) tests notes
+      any-map (nat_eq n) (λ note. note.number) (filter (λ note. near note.outline) notes)
+      ∙ any-filter (λ note. nat_eq n note.number) (λ note. near note.outline) notes
 
-  -- what is found under the keys passes
-  pub found_passes : list_any (nat_eq n) (flat_map (λ key. numbers_that_pass near p (cell key)) keys) ≡ true → p n ≡ true
-  found_passes found =
-      let any = Any-from_list_any (λ key. list_any (nat_eq n) (numbers_that_pass near p (cell key))) keys
-      (sym (any-flat_map (nat_eq n) (λ key. numbers_that_pass near p (cell key)) keys) ∙ found) in
-      let one = Any-from_list_any (λ note. tests note && nat_eq n note.number) (cell any.1) (sym (any-numbers (cell any.1)) ∙ any.4) in
-      let note = one.1 in
-      let same = right_of_and (tests note) (nat_eq n note.number) one.4 in
-      ap p (same_number n note.number same)
-      ∙ right_of_and (near note.outline) (p note.number) (left_of_and (tests note) (nat_eq n note.number) one.4)
+  -- a number that is found under the keys is noted under one of them
+  pub found_noted : (same : O → O → Bool) → ((o : O) → same o o ≡ true)
+      → list_any (nat_eq n) (flat_map (λ key. numbers_near near (cell key)) keys) ≡ true
+      → (key : K) × (outline : O) × (has_note same n outline (cell key) ≡ true)
+  found_noted same itself found =
+      let any = Any-from_list_any (λ key. list_any (nat_eq n) (numbers_near near (cell key))) keys
+      (sym (any-flat_map (nat_eq n) (λ key. numbers_near near (cell key)) keys) ∙ found) in
+      let one = Any-from_list_any is_near_number (cell any.1) (sym (any-numbers (cell any.1)) ∙ any.4) in
+      let note = one.1 in (
+        any.1,
+        note.outline,
+        any-from_contained (is_note same n note.outline) (cell any.1) note (one.0, one.2, one.3)
+            (both_and (nat_eq n note.number) (same note.outline note.outline)
+            (right_of_and (near note.outline) (nat_eq n note.number) one.4) (itself note.outline)),
+      )
 
-  -- a number that passes, and is noted under one of the keys with an outline that does, is found
-  pub passes_found : (same : O → O → Bool) (outline : O) (key : K) → ((o : O) → same outline o ≡ true → near o ≡ true)
-      → p n ≡ true → Contains keys key → has_note same n outline (cell key) ≡ true
-      → list_any (nat_eq n) (flat_map (λ key. numbers_that_pass near p (cell key)) keys) ≡ true
-  passes_found same outline key alike passes stands noted =
+  -- and one that is noted under one of the keys with an outline that passes is found
+  pub noted_found : (same : O → O → Bool) (outline : O) (key : K) → ((o : O) → same outline o ≡ true → near o ≡ true)
+      → Contains keys key → has_note same n outline (cell key) ≡ true
+      → list_any (nat_eq n) (flat_map (λ key. numbers_near near (cell key)) keys) ≡ true
+  noted_found same outline key alike stands noted =
       let one = Any-from_list_any (is_note same n outline) (cell key) noted in
       let note = one.1 in
-      let here = left_of_and (nat_eq n note.number) (same outline note.outline) one.4 in
-      let is_near = alike note.outline (right_of_and (nat_eq n note.number) (same outline note.outline) one.4) in
-      let tested = both_and (near note.outline) (p note.number) is_near (ap p (sym (same_number n note.number here)) ∙ passes) in
-      any-flat_map (nat_eq n) (λ key. numbers_that_pass near p (cell key)) keys
-      ∙ any-from_contained (λ key. list_any (nat_eq n) (numbers_that_pass near p (cell key))) keys key stands
+      any-flat_map (nat_eq n) (λ key. numbers_near near (cell key)) keys
+      ∙ any-from_contained (λ key. list_any (nat_eq n) (numbers_near near (cell key))) keys key stands
       (any-numbers (cell key)
-      ∙ any-from_contained (λ note. tests note && nat_eq n note.number) (cell key) note (one.0, one.2, one.3)
-      (both_and (tests note) (nat_eq n note.number) tested here))
+      ∙ any-from_contained is_near_number (cell key) note (one.0, one.2, one.3)
+      (both_and (near note.outline) (nat_eq n note.number)
+      (alike note.outline (right_of_and (nat_eq n note.number) (same outline note.outline) one.4))
+      (left_of_and (nat_eq n note.number) (same outline note.outline) one.4)))
 
 next_number : {V : Type 0} (p : ℕ → Bool) (b : Bool) (e : ℕ × V) (kept : List (ℕ × V)) (keys : List ℕ) → map (λ e. e.0) kept ≡ filter p keys
     → map (λ e. e.0) (cond b (e ∷ kept) kept) ≡ cond b (e.0 ∷ filter p keys) (filter p keys)
@@ -114,10 +119,10 @@ numbers-filter p test (e ∷ es) alike =
     rw (alike 0 e (omega arith))
     (next_number p (test e) e (filter test es) (map (λ e. e.0) es) (numbers-filter p test es (λ k d within. alike (suc k) d (omega arith))))
 
-same_from_both : (a b : Bool) → (a ≡ true → b ≡ true) → (b ≡ true → a ≡ true) → a ≡ b
-same_from_both true b there back = sym (there refl)
-same_from_both false true there back = back refl
-same_from_both false false there back = refl
+-- what holds where the first does, holds beside it as any other that does
+and_alike : (a b c : Bool) → (a ≡ true → b ≡ true) → (a ≡ true → c ≡ true) → (a && b) ≡ (a && c)
+and_alike true b c one other = one refl ∙ sym (other refl)
+and_alike false b c one other = refl
 
 -- two rising lists with the same members are one
 same_rising : (xs ys : List ℕ) → IsStrictlySortedBy nat_cmp xs → IsStrictlySortedBy nat_cmp ys
@@ -132,21 +137,12 @@ there_if : {X : Type 0} (f : X → Bool) (o : Option X) → option_map_or f o fa
 there_if f None h = absurd (false≢true h)
 there_if f (Some x) h = (x, refl, h)
 
-module _ {R L K O S : Type 0} (is_region : R → Type 0) (cover_of : R → List K) (outline_of : R → O) (eq : K → K → Bool) (same : O → O → Bool)
-    (holds : R → L → Bool) (near : O → Bool) (location : L)
-    (probes : List K) (held : BTreeMap ℕ (List R)) (cells : HashMap K (List (Note O)) S)
-    (indexed : IsIndexed is_region cover_of outline_of eq same held cells) (ordered : tree.IsOrdered nat_cmp held)
-    (meets : (region : R) → is_region region → holds region location ≡ true → SharesKey (cover_of region) probes)
-    (is_near : (region : R) → is_region region → holds region location ≡ true → near (outline_of region) ≡ true)
-    (alike_near : (o other : O) → same o other ≡ true → near o ≡ near other) where
+module _ {R L : Type 0} (holds : R → L → Bool) (location : L) (held : BTreeMap ℕ (List R)) where
   abbrev passes : ℕ → Bool
   passes = is_holder holds location held
 
   abbrev some_holds : List R → Bool
   some_holds regions = list_any (λ region. holds region location) regions
-
-  abbrev found_under : K → List ℕ
-  found_under key = numbers_that_pass near passes (notes_of (get eq cells key))
 
   -- a number that passes is held
   stands_held : (n : ℕ) → passes n ≡ true → list_any (nat_eq n) (numbers held.entries) ≡ true
@@ -155,53 +151,89 @@ module _ {R L K O S : Type 0} (is_region : R → Type 0) (cover_of : R → List 
       list_any-from_Contains nat_eq_equiv n (numbers held.entries)
       ((btree_map_contains_key_iff nat_cmp_total exact_unsigned held n).0 (ap is_some there.1))
 
-  -- and noted under a probe
-  is_found : (n : ℕ) → passes n ≡ true
-      → list_any (nat_eq n) (flat_map found_under probes) ≡ true
-  is_found n h =
-      let there = there_if some_holds (tree.get nat_cmp held n) h in
-      let any = Any-from_list_any (λ region. holds region location) there.0 there.2 in
-      let stands : Contains there.0 any.1 = (any.0, any.2, any.3) in
-      let is_one = indexed.are_regions n there.0 there.1 any.1 stands in
-      let shared = meets any.1 is_one any.4 in
-      passes_found near passes n (λ key. notes_of (get eq cells key)) probes same (outline_of any.1) shared.key
-      (λ o equal. sym (alike_near (outline_of any.1) o equal) ∙ is_near any.1 is_one any.4) h shared.in_right
-      (indexed.have_notes n there.0 there.1 shared.key (outline_of any.1)
-      (record { region = any.1; stands = stands; covered = shared.in_left; outlined = refl }))
+  module _ (ordered : tree.IsOrdered nat_cmp held) where
+    alike : All (λ e. passes e.0 ≡ some_holds e.1) held.entries
+    alike k d within =
+        let e = get_or held.entries k d in
+        ap (λ o. option_map_or some_holds o false)
+        ((btree_map_get_iff nat_cmp_total exact_unsigned held ordered e.0 e.1).1 (Contains-get_or held.entries k d within))
 
-  alike : All (λ e. passes e.0 ≡ some_holds e.1) held.entries
-  alike k d within =
-      let e = get_or held.entries k d in
-      ap (λ o. option_map_or some_holds o false)
-      ((btree_map_get_iff nat_cmp_total exact_unsigned held ordered e.0 e.1).1 (Contains-get_or held.entries k d within))
+    holders_filter : holders holds location held.entries ≡ filter passes (numbers held.entries)
+    holders_filter = numbers-filter passes (λ e. some_holds e.1) held.entries alike
 
-  holders_filter : holders holds location held.entries ≡ filter passes (numbers held.entries)
-  holders_filter = numbers-filter passes (λ e. some_holds e.1) held.entries alike
+    -- the holders are the numbers that pass
+    pub holder_passes : (n : ℕ) → Contains (holders holds location held.entries) n → passes n ≡ true
+    holder_passes n stands =
+        left_of_and (passes n) (list_any (nat_eq n) (numbers held.entries))
+        (sym (stands-filter passes n (numbers held.entries)) ∙ ap (list_any (nat_eq n)) (sym holders_filter)
+        ∙ list_any-from_Contains nat_eq_equiv n (holders holds location held.entries) stands)
 
-  sound : (n : ℕ) (found : List ℕ) → Contains found n → found ≡ flat_map found_under probes
-      → list_any (nat_eq n) (filter passes (numbers held.entries)) ≡ true
-  sound n found stands is =
-      let h = found_passes near passes n (λ key. notes_of (get eq cells key)) probes
-      (ap (list_any (nat_eq n)) (sym is) ∙ list_any-from_Contains nat_eq_equiv n found stands) in
-      stands-filter passes n (numbers held.entries) ∙ both_and (passes n) (list_any (nat_eq n) (numbers held.entries)) h (stands_held n h)
+    passes_holder : (n : ℕ) → passes n ≡ true → Contains (holders holds location held.entries) n
+    passes_holder n h =
+        Contains-from_any same_number n (holders holds location held.entries)
+        (ap (list_any (nat_eq n)) holders_filter ∙ stands-filter passes n (numbers held.entries)
+        ∙ both_and (passes n) (list_any (nat_eq n) (numbers held.entries)) h (stands_held n h))
 
-  complete : (n : ℕ) → list_any (nat_eq n) (filter passes (numbers held.entries)) ≡ true → (found : List ℕ)
-      → found ≡ flat_map found_under probes → Contains found n
-  complete n stands found is =
-      let h = left_of_and (passes n) (list_any (nat_eq n) (numbers held.entries)) (sym (stands-filter passes n (numbers held.entries)) ∙ stands) in
-      Contains-from_any same_number n found (ap (list_any (nat_eq n)) is ∙ is_found n h)
+    -- of rising numbers among which all holders are, those that pass are the holders
+    pub holding_is : (near result : List ℕ) → IsStrictlyIncreasing near
+        → ((n : ℕ) → Contains (holders holds location held.entries) n → Contains near n)
+        → result ≡ filter passes near → result ≡ holders holds location held.entries
+    holding_is near result rising among kept =
+        kept ∙ same_rising (filter passes near) (filter passes (numbers held.entries))
+        (IsStrictlySortedBy-filter nat_cmp passes near (sorted_from_strictly_increasing near rising))
+        (IsStrictlySortedBy-filter nat_cmp passes (numbers held.entries) ordered)
+        (λ n. stands-filter passes n near
+        ∙ and_alike (passes n) (list_any (nat_eq n) near) (list_any (nat_eq n) (numbers held.entries))
+        (λ h. list_any-from_Contains nat_eq_equiv n near (among n (passes_holder n h))) (stands_held n)
+        ∙ sym (stands-filter passes n (numbers held.entries)))
+        ∙ sym holders_filter
 
-  pub holding_is : (found sorted result : List ℕ)
-      → found ≡ flat_map found_under probes
-      → IsPermutation found sorted → IsSorted nat_cmp sorted → result ≡ dedup nat_eq sorted
-      → result ≡ holders holds location held.entries
-  holding_is found sorted result is moved rising once =
-      once ∙ same_rising (dedup nat_eq sorted) (filter passes (numbers held.entries))
-      (sorted_from_strictly_increasing (dedup nat_eq sorted) (IsStrictlyIncreasing-dedup sorted rising))
-      (IsStrictlySortedBy-filter nat_cmp passes (numbers held.entries) ordered)
-      (λ n. same_from_both (list_any (nat_eq n) (dedup nat_eq sorted)) (list_any (nat_eq n) (filter passes (numbers held.entries)))
-      (λ stands. sound n found (Contains-permutation sorted found n (IsPermutation-sym found sorted moved)
-      (Contains-from_dedup nat_eq sorted n (Contains-from_any same_number n (dedup nat_eq sorted) stands))) is)
-      (λ stands. list_any-from_Contains nat_eq_equiv n (dedup nat_eq sorted)
-      (Contains-dedup_nat sorted n (Contains-permutation found sorted n moved (complete n stands found is)))))
-      ∙ sym holders_filter
+module _ {R K O S : Type 0} (is_region : R → Type 0) (cover_of : R → List K) (outline_of : R → O) (eq : K → K → Bool) (same : O → O → Bool)
+    (near : O → Bool) (probes : List K) (held : BTreeMap ℕ (List R)) (cells : HashMap K (List (Note O)) S)
+    (indexed : IsIndexed is_region cover_of outline_of eq same held cells)
+    (found sorted result : List ℕ)
+    (is : found ≡ flat_map (λ key. numbers_near near (notes_of (get eq cells key))) probes)
+    (moved : IsPermutation found sorted) (once : result ≡ dedup nat_eq sorted) where
+  abbrev found_under : K → List ℕ
+  found_under key = numbers_near near (notes_of (get eq cells key))
+
+  -- ---- what is found is held
+  noted_held : (same_itself : (o : O) → same o o ≡ true) (n : ℕ) → list_any (nat_eq n) (flat_map found_under probes) ≡ true → IsHeld n held.entries
+  noted_held same_itself n stands =
+      let noted = found_noted near n (λ key. notes_of (get eq cells key)) probes same same_itself stands in
+      let there = there_if (λ regions. covers_with eq same cover_of outline_of regions noted.0 noted.1) (tree.get nat_cmp held n)
+      (indexed.only_notes noted.0 n noted.1 noted.2) in
+      (btree_map_contains_key_iff nat_cmp_total exact_unsigned held n).0 (ap is_some there.1)
+
+  pub near_held : ((o : O) → same o o ≡ true) → All (λ n. IsHeld n held.entries) result
+  near_held same_itself k d within =
+      let n = get_or result k d in
+      let there : Contains (dedup nat_eq sorted) n = subst (λ l. Contains l n) once (Contains-get_or result k d within) in
+      noted_held same_itself n
+      (ap (list_any (nat_eq n)) (sym is)
+      ∙ list_any-from_Contains nat_eq_equiv n found
+      (Contains-permutation sorted found n (IsPermutation-sym found sorted moved) (Contains-from_dedup nat_eq sorted n there)))
+
+  -- ---- the holders are found
+  module _ {L : Type 0} (holds : R → L → Bool) (location : L) (ordered : tree.IsOrdered nat_cmp held)
+      (meets : (region : R) → is_region region → holds region location ≡ true → SharesKey (cover_of region) probes)
+      (is_near : (region : R) → is_region region → holds region location ≡ true → near (outline_of region) ≡ true)
+      (alike_near : (o other : O) → same o other ≡ true → near o ≡ near other) where
+    holder_found : (n : ℕ) → is_holder holds location held n ≡ true → list_any (nat_eq n) (flat_map found_under probes) ≡ true
+    holder_found n h =
+        let there = there_if (λ regions. list_any (λ region. holds region location) regions) (tree.get nat_cmp held n) h in
+        let any = Any-from_list_any (λ region. holds region location) there.0 there.2 in
+        let stands : Contains there.0 any.1 = (any.0, any.2, any.3) in
+        let is_one = indexed.are_regions n there.0 there.1 any.1 stands in
+        let shared = meets any.1 is_one any.4 in
+        noted_found near n (λ key. notes_of (get eq cells key)) probes same (outline_of any.1) shared.key
+        (λ o equal. sym (alike_near (outline_of any.1) o equal) ∙ is_near any.1 is_one any.4) shared.in_right
+        (indexed.have_notes n there.0 there.1 shared.key (outline_of any.1)
+        (record { region = any.1; stands = stands; covered = shared.in_left; outlined = refl }))
+
+    pub near_has : (n : ℕ) → Contains (holders holds location held.entries) n → Contains result n
+    near_has n stands =
+        subst (λ l. Contains l n) (sym once)
+        (Contains-dedup_nat sorted n (Contains-permutation found sorted n moved
+        (Contains-from_any same_number n found
+        (ap (list_any (nat_eq n)) is ∙ holder_found n (holder_passes holds location held ordered n stands)))))

@@ -104,9 +104,9 @@ abbrev pub is_holder : {R L : Type 0} → (R → L → Bool) → L → BTreeMap 
 is_holder holds location held number =
     option_map_or (λ regions. list_any (λ region. holds region location) regions) (tree.get nat_cmp held number) false
 
--- the numbers of those notes whose outline passes, and whose number does
-abbrev pub numbers_that_pass : {O : Type 0} → (O → Bool) → (ℕ → Bool) → List (Note O) → List ℕ
-numbers_that_pass near passes notes = map (λ note. note.number) (filter (λ note. near note.outline && passes note.number) notes)
+-- the numbers of those notes whose outline passes
+abbrev pub numbers_near : {O : Type 0} → (O → Bool) → List (Note O) → List ℕ
+numbers_near near notes = map (λ note. note.number) (filter (λ note. near note.outline) notes)
 
 -- what an index keeps: regions, each noted under its cover's keys, and nothing else is noted
 pub record IsIndexed {R K O S : Type 0} (is_region : R → Type 0) (cover_of : R → List K) (outline_of : R → O) (eq : K → K → Bool)

@@ -4,6 +4,7 @@ ghost use Rattle.std.specs.BTreeMap.{get, is_at};
 ghost use Rattle.std.specs.List.{slice_range};
 ghost use Rattle.std.specs.Ordering.{nat_cmp};
 ghost use Rattle.lost_index.specs.Entries.{IsHeld, IsAbove, HasRegions, with_number};
+ghost use Rattle.lost_index.specs.Notes.{is_holder};
 
 use crate::entry::Entry;
 use crate::indexed_region::IndexedRegion;
@@ -22,6 +23,21 @@ pub(crate) fn kept_of<P: Profile>(
     match held.get(&number) {
         Some(entry) => entry.kept(),
         None => unreachable!(),
+    }
+}
+
+/// Whether the number is held, with a region that contains the location.
+pub(crate) fn contains<P: Profile>(
+    held: &BTreeMap<u64, Entry<P>>,
+    number: u64,
+    location: &P::Location,
+) -> bool
+    requires { P.is_location location.now }
+    ensures { result ≡ is_holder P.holds location.now held.now number }
+{
+    match held.get(&number) {
+        Some(entry) => entry.contains(location),
+        None => false,
     }
 }
 

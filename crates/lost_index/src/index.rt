@@ -1,5 +1,5 @@
 //! The index.
-ghost use Rattle.std.specs.Prelude.{◌≡◌, ◌≤◌, ◌++◌, ◌∷◌, [], IfOk, OnOk, OnErr};
+ghost use Rattle.std.specs.Prelude.{◌≡◌, ◌≤◌, ◌++◌, ◌∷◌, ℕ, [], All, Contains, IfOk, OnOk, OnErr};
 ghost use Rattle.std.specs.List.{slice_range};
 ghost use Rattle.std.specs.List.Sorted.{IsStrictlyIncreasing};
 ghost use Rattle.lost_index.specs.Entries.{numbers, IsHeld, IsAbove, HasRegions, with_number, without, holders};
@@ -108,6 +108,23 @@ impl<P: Profile> Index<P> {
         notes::remove_notes(&mut self.cells, number, entry.kept(), none(entry.kept()));
     }
 
+    /// Numbers with a region whose outline may contain the location, rising, each once. Each number with a region that
+    /// contains it is among them. No region is asked.
+    pub fn near(&self, location: &P::Location) -> Result<Vec<u64>, AllocError>
+        ensures holders { IfOk result (λ near. (number : ℕ)
+            → Contains (holders P.holds location.now self.now) number → Contains near.items number) }
+        ensures held { IfOk result (λ near. All (λ number. IsHeld number self.now) near.items) }
+        ensures rising { IfOk result (λ near. IsStrictlyIncreasing near.items) }
+        ensures is_location { P.is_location location.now }
+    {
+        // Shows to the proof that the numbers rise.
+        let _count = self.held.len();
+        let mut near = search::found(&self.cells, self.alloc, location)?;
+        near.sort_unstable();
+        near.dedup();
+        Ok(near)
+    }
+
     /// The numbers with a region that contains the location, rising, each once.
     pub fn holding(&self, location: &P::Location) -> Result<Vec<u64>, AllocError>
         ensures holding { IfOk result (λ found. found.items ≡ holders P.holds location.now self.now) }
@@ -115,9 +132,8 @@ impl<P: Profile> Index<P> {
     {
         // Shows to the proof that the numbers rise.
         let _count = self.held.len();
-        let mut found = search::found(&self.held, &self.cells, self.alloc, location)?;
-        found.sort_unstable();
-        found.dedup();
+        let mut found = self.near(location)?;
+        found.retain(|number| entries::contains(&self.held, *number, location));
         Ok(found)
     }
 }

@@ -1,14 +1,16 @@
 -- A search of a chain, one service after the other, and what it is asked of the mappings that hold a place.
-use Rattle.std.specs.Prelude.{◌≡◌, ◌≢◌, ℕ, zero, suc, ◌-◌, ◌<◌, Bool, true, false, cond, not, ◌&&◌, List, [], ◌∷◌, take, filter, Option, Some}
-use Rattle.std.proofs.Common.{refl, sym, ap, ◌∙◌, arith}
-use Rattle.lost_spec.specs.Service.{Service, same_service, cuts}
+use Rattle.std.specs.Prelude.{◌≡◌, ◌≢◌, ℕ, zero, suc, ◌-◌, ◌<◌, ◌≤◌, Bool, true, false, cond, not, ◌&&◌, List, [], ◌∷◌, length, take, filter, Option, Some}
+use Rattle.std.specs.List.{list_any}
+use Rattle.std.proofs.Common.{⊎_elim, refl, sym, ap, subst, ◌∙◌, arith}
+use Rattle.std.proofs.lemmas.Bool.{cases_lt, or_left, or_right}
+use Rattle.lost_spec.specs.Service.{Service, same_service, cuts, chain}
 use Rattle.lost_spec.specs.Moment.{Instant}
 use Rattle.lost_spec.specs.Mapping.{Mapping, is_live}
 use Rattle.lost_spec.specs.Book.{Book}
 use Rattle.lost_spec.specs.Find.{Place, holds, is_holder, at, unless_empty, first_with}
-use Rattle.lost_spec.specs.Services.{is_holding}
+use Rattle.lost_spec.specs.Services.{is_holding, holding}
 use Rattle.lost_spec.specs.Positions.{positions}
-use Rattle.lost_query.specs.Finding.{at_positions}
+use Rattle.lost_query.specs.Finding.{at_positions, of_chain}
 use Rattle.lost_query.proofs.PositionLemmas.{at_positions-positions}
 
 -- ---- what a service has
@@ -35,12 +37,47 @@ and_other_way true true true = refl
 is_holder-and : (t : Instant) (l : Place) (u : Service) (m : Mapping) → is_holder t l u m ≡ (is_holding t l m && same_service m.service u)
 is_holder-and t l u m = and_other_way (is_live m t) (same_service m.service u) (not m.is_default && holds m l)
 
--- the mappings of a service among those that hold a place
-pub at-from_holding : (b : Book) (t : Instant) (l : Place) (u : Service) (places : List ℕ) → places ≡ positions (is_holding t l) b.mappings
+-- a stricter filter may follow a weaker one
+and_implied : (a b : Bool) → (a ≡ true → b ≡ true) → a ≡ (b && a)
+and_implied true b implied = sym (ap (λ c. c && true) (implied refl))
+and_implied false false implied = refl
+and_implied false true implied = refl
+
+filter-within : {Thing : Type 0} (p q : Thing → Bool) → ((x : Thing) → p x ≡ true → q x ≡ true) → (xs : List Thing) → filter p (filter q xs) ≡ filter p xs
+filter-within p q implied xs = filter-filter p q p (λ x. and_implied (p x) (q x) (implied x)) xs
+
+-- what has a cut of a service has a service of its chain
+has_cut : (v s : Service) (d n : ℕ) → 0 < d → d ≤ n → same_service v (take d s) ≡ true → list_any (λ u. same_service v u) (cuts n s) ≡ true
+has_cut v s d zero some within same = absurd (omega arith)
+has_cut v s d (suc n) some within same =
+    ⊎_elim
+    (λ shorter. or_right (same_service v (take (suc n) s)) (list_any (λ u. same_service v u) (cuts n s))
+    (has_cut v s d n some (omega (arith, shorter)) same))
+    (λ longest. or_left (same_service v (take (suc n) s)) (list_any (λ u. same_service v u) (cuts n s))
+    (subst (λ k. same_service v (take k s) ≡ true) (same_end d n within longest) same))
+    (cases_lt d (suc n))
+  where
+    same_end : (d n : ℕ) → d ≤ suc n → suc n ≤ d → d ≡ suc n
+    same_end d n up down = omega arith
+
+-- the mappings of a service of a chain, among some that have those of the chain which hold a place
+pub at-from_chain : (b : Book) (t : Instant) (l : Place) (s u : Service) (d : ℕ) (places : List ℕ) → 0 < d → d ≤ length s → u ≡ take d s
+    → of_chain s (at_positions b.mappings places) ≡ of_chain s (holding b t l)
     → filter (λ m. same_service m.service u) (at_positions b.mappings places) ≡ at b t l u
-at-from_holding b t l u places are =
-    ap (filter (λ m. same_service m.service u)) (at_positions-positions (is_holding t l) b.mappings places are)
-    ∙ filter-filter (λ m. same_service m.service u) (is_holding t l) (is_holder t l u) (is_holder-and t l u) b.mappings
+at-from_chain b t l s u d places some within cut are =
+    let has : Mapping → Bool = λ m. same_service m.service u in
+    let on_chain : Mapping → Bool = λ m. list_any (λ v. same_service m.service v) (chain s) in
+    let implied : (m : Mapping) → has m ≡ true → on_chain m ≡ true =
+    λ m h. has_cut m.service s d (length s) some within (subst (λ v. same_service m.service v ≡ true) cut h) in
+    sym (filter-within has on_chain implied (at_positions b.mappings places))
+    ∙ ap (filter has) are
+    ∙ filter-within has on_chain implied (holding b t l)
+    ∙ filter-filter has (is_holding t l) (is_holder t l u) (is_holder-and t l u) b.mappings
+
+-- what holds a place has those of each chain which do
+pub of_chain-holding : (b : Book) (t : Instant) (l : Place) (s : Service) (places : List ℕ) → places ≡ positions (is_holding t l) b.mappings
+    → of_chain s (at_positions b.mappings places) ≡ of_chain s (holding b t l)
+of_chain-holding b t l s places are = ap (of_chain s) (at_positions-positions (is_holding t l) b.mappings places are)
 
 -- ---- the search
 

@@ -1,7 +1,6 @@
 -- Searches of lists of converted things.
 use Rattle.std.specs.Prelude.{◌≡◌, Bool, true, false, cond, List, [], ◌∷◌, map, Some, option_map, find}
-use Rattle.std.specs.List.{list_any}
-use Rattle.std.proofs.Common.{refl, ap}
+use Rattle.std.proofs.Common.{refl}
 
 -- the first converted thing that passes is that of the first thing whose conversion passes
 pub find-map : {A B : Type 0} (f : A → B) (p : B → Bool) (xs : List A) → option_map f (find (λ x. p (f x)) xs) ≡ find p (map f xs)

@@ -1,6 +1,7 @@
 -- What the code's search finds, and what stands at positions.
-use Rattle.std.specs.Prelude.{ℕ, List, [], ◌∷◌, Option, None, Some, option_map, filter_map, slice_get}
-use Rattle.lost_spec.specs.Service.{Service}
+use Rattle.std.specs.Prelude.{ℕ, List, [], ◌∷◌, Option, None, Some, option_map, filter, filter_map, slice_get}
+use Rattle.std.specs.List.{list_any}
+use Rattle.lost_spec.specs.Service.{Service, same_service, chain}
 use Rattle.lost_spec.specs.Mapping.{Mapping}
 use Rattle.lost_spec.specs.Find as spec
 use Rattle.lost_query.specs.declared.chain.ChainService.{ChainService}
@@ -12,6 +13,10 @@ use Rattle.lost_query.specs.declared.finding.Finding.TheVariants.{Holders, Defau
 -- what stands at these positions of a list, in their order (own)
 abbrev pub at_positions : {Thing : Type 0} → List Thing → List ℕ → List Thing
 at_positions xs positions = filter_map (slice_get xs) positions
+
+-- those of the mappings that have a service of the chain of s, in their order (own)
+abbrev pub of_chain : Service → List Mapping → List Mapping
+of_chain s ms = filter (λ m. list_any (λ u. same_service m.service u) (chain s)) ms
 
 -- a service of a chain
 abbrev pub chain_service : ChainService → Service

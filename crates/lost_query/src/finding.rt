@@ -59,7 +59,7 @@ fn first_holders<'a, H: Holdings>(
     ensures { IfOk result (λ first. first_of first
         ≡ first_with (at (H.book holdings.now) moment.now (place_of place.now)) (chain service.now)) }
 {
-    let positions = holdings.holding(moment, place)?;
+    let positions = holdings.of_chain(moment, place, service)?;
     let mut depth = service.depth();
     while depth > 0 {
         let candidate = ChainService::of_depth(service, depth)?;

@@ -1,10 +1,12 @@
 //! What holds mappings, and the questions that it answers.
 ghost use Rattle.std.specs.Prelude.{◌≡◌, ◌<◌, Some, IfOk, length, position, slice_get};
+ghost use Rattle.std.specs.List.{All};
 ghost use Rattle.std.specs.Option.{option_copied};
 ghost use Rattle.lost_spec.specs.Book as spec;
 ghost use Rattle.lost_spec.specs.Positions.{positions};
 ghost use Rattle.lost_spec.specs.Find.{is_holder, is_standby, serves, is_implemented};
-ghost use Rattle.lost_spec.specs.Services.{is_holding, has_live_key, all_services};
+ghost use Rattle.lost_spec.specs.Services.{is_holding, has_live_key, all_services, holding};
+ghost use Rattle.lost_query.specs.Finding.{at_positions, of_chain};
 ghost use Rattle.lost_query.specs.Judged.{is_referring};
 ghost use Rattle.lost_query.specs.Place.{place_of};
 
@@ -49,6 +51,22 @@ pub trait Holdings {
     fn holding(&self, moment: &Moment, place: &Place) -> Result<Positions, AllocError>
         ensures { IfOk result (λ found.
             found.items ≡ positions (is_holding moment.now (place_of place.now)) (book self.now).mappings) };
+
+    /// Of the mappings that are live, are no defaults and hold the place, those that have this service or one above it,
+    /// and perhaps others (RFC 5222, section 8; policy own).
+    fn of_chain(
+        &self,
+        moment: &Moment,
+        place: &Place,
+        service: &ServiceUrn,
+    ) -> Result<Positions, AllocError>
+        ensures within { IfOk result (λ found.
+            All (λ position. position < length (book self.now).mappings) found.items) }
+        ensures of_chain { IfOk result (λ found. of_chain service.now (at_positions (book self.now).mappings found.items)
+            ≡ of_chain service.now (holding (book self.now) moment.now (place_of place.now))) }
+    {
+        self.holding(moment, place)
+    }
 
     /// The mappings that are live, are no defaults, have this service and hold the place (RFC 5222, section 8).
     fn at(

@@ -1,9 +1,10 @@
 //! The three indexes.
-ghost use Rattle.std.specs.Prelude.{◌≡◌, ◌∷◌, ◌++◌, [], IfOk, OnOk, OnErr};
+ghost use Rattle.std.specs.Prelude.{◌≡◌, ◌∷◌, ◌++◌, ℕ, [], All, Contains, IfOk, OnOk, OnErr};
+ghost use Rattle.std.specs.List.Sorted.{IsStrictlyIncreasing};
 ghost use Rattle.lost_spec.specs.Ring.{inside};
 ghost use Rattle.lost_spec.specs.Civic.{matches};
 ghost use Rattle.lost_civicdex.specs.Covers.{names_all};
-ghost use Rattle.lost_index.specs.Entries.{IsAbove, holders, with_number};
+ghost use Rattle.lost_index.specs.Entries.{IsAbove, IsHeld, holders, with_number};
 ghost use Rattle.lost_regions.specs.UnderNumber.{IsHeldWith};
 ghost use Rattle.lost_regions.specs.Regions.{no_regions, AreHeld, IsAboveAll, HasAll, with_mapping, with_more, with_other, without_number};
 
@@ -163,6 +164,30 @@ impl Regions {
         ensures { IfOk result (λ numbers. numbers.items ≡ holders matches address.now self.now.addresses) }
     {
         self.addresses.holding(address)
+    }
+
+    /// Numbers with a polygon that may have the point inside, rising, each once. Each number with a polygon that has is
+    /// among them (RFC 5222, section 12.2). No polygon is asked.
+    pub fn near_point(&self, point: &GeoPoint) -> Result<Vec<u64>, AllocError>
+        ensures holders { IfOk result (λ near. (number : ℕ)
+            → Contains (holders inside point.now self.now.points) number → Contains near.items number) }
+        ensures held { IfOk result (λ near. All (λ number. IsHeld number self.now.points) near.items) }
+        ensures rising { IfOk result (λ near. IsStrictlyIncreasing near.items) }
+    {
+        // A copy of its own is not read anew for each region.
+        let place = *point;
+        self.points.near(&place)
+    }
+
+    /// Numbers with a pattern that may match the address, rising, each once. Each number with a pattern that does is
+    /// among them (RFC 5222, section 12.3). No pattern is asked.
+    pub fn near_address(&self, address: &CivicAddress) -> Result<Vec<u64>, AllocError>
+        ensures holders { IfOk result (λ near. (number : ℕ)
+            → Contains (holders matches address.now self.now.addresses) number → Contains near.items number) }
+        ensures held { IfOk result (λ near. All (λ number. IsHeld number self.now.addresses) near.items) }
+        ensures rising { IfOk result (λ near. IsStrictlyIncreasing near.items) }
+    {
+        self.addresses.near(address)
     }
 
     /// The numbers with a pattern that names all required elements (RFC 5222, section 8.4.2; own policy), rising.

@@ -1,8 +1,10 @@
 -- That each mapping that passes a test has its number among the candidates.
-use Rattle.std.proofs.Common.{◌≡◌, ℕ, zero, suc, Bool, true, false, not, cond, ◌&&◌, ◌||◌, List, [], ◌∷◌, Option, None, Some, IfSome, map, filter, slice_get, nat_eq, refl, sym, ap, subst, arith, ◌∙◌}
+use Rattle.std.proofs.Common.{◌≡◌, ℕ, zero, suc, Bool, true, false, not, cond, ◌&&◌, ◌||◌, List, [], ◌∷◌, Option, None, Some, IfSome, map, filter, slice_get, Contains, nat_eq, refl, sym, ap, subst, arith, ◌∙◌}
+use Rattle.std.specs.Cmp.{nat_eq_equiv}
 use Rattle.std.specs.List.{AllByRecursion, list_any, zip}
 use Rattle.std.proofs.lemmas.Bool.{false≢true}
 use Rattle.std.proofs.lemmas.Bool.Decides.{nat_tests}
+use Rattle.std.proofs.lemmas.Map.Views.{Contains-from_any, list_any-from_Contains}
 use Rattle.std.proofs.lemmas.Slice.Eq.{bytes_eq-Decides}
 use Rattle.lost_spec.specs.Text.{Text, same_text}
 use Rattle.lost_spec.specs.Service.{Service, same_service}
@@ -28,6 +30,9 @@ use Rattle.lost_routing.specs.Invariants.{IsStore}
 itself : (n : ℕ) → nat_eq n n ≡ true
 itself n = search (arith, nat_tests)
 
+same_number : (n k : ℕ) → nat_eq n k ≡ true → n ≡ k
+same_number n k same = search (arith, nat_tests)
+
 none_some : {X : Type 0} (x : X) → None ≡ Some x → ⊥
 none_some x h = cc
 
@@ -38,7 +43,7 @@ left_of : (a b : Bool) → (a && b) ≡ true → a ≡ true
 left_of true b h = refl
 left_of false b h = h
 
-right_of : (a b : Bool) → (a && b) ≡ true → b ≡ true
+pub right_of : (a b : Bool) → (a && b) ≡ true → b ≡ true
 right_of true b h = h
 right_of false b h = absurd (false≢true h)
 
@@ -161,17 +166,23 @@ module _ (ns : List ℕ) (ms : List Mapping) (tables : Tables) (regions : Region
       ((noted_at place number m at_m at_n).by_default (right_of (serves m t u) m.is_default h)))
 
   pub covers_at_point : (test : Mapping → Bool) (p : Point) (candidates : List ℕ) → ((m : Mapping) → test m ≡ true → holds m (AtPoint p) ≡ true)
-      → candidates ≡ holders inside p regions.points → Covers test ns ms candidates
-  covers_at_point test p candidates tells is place number m at_m at_n h =
-      subst (λ l. Among l number) (sym (is ∙ ap (λ r. holders inside p r.points) kept.indexed))
-      (holder_at (λ x. x.polygons) inside p ns ms place number m at_m at_n (tells m h))
+      → ((n : ℕ) → Contains (holders inside p regions.points) n → Contains candidates n) → Covers test ns ms candidates
+  covers_at_point test p candidates tells among place number m at_m at_n h =
+      list_any-from_Contains nat_eq_equiv number candidates
+      (among number
+      (Contains-from_any same_number number (holders inside p regions.points)
+      (subst (λ l. Among l number) (sym (ap (λ r. holders inside p r.points) kept.indexed))
+      (holder_at (λ x. x.polygons) inside p ns ms place number m at_m at_n (tells m h)))))
 
   pub covers_at_address : (test : Mapping → Bool) (address : Pairs) (candidates : List ℕ)
       → ((m : Mapping) → test m ≡ true → holds m (AtAddress address) ≡ true)
-      → candidates ≡ holders matches address regions.addresses → Covers test ns ms candidates
-  covers_at_address test address candidates tells is place number m at_m at_n h =
-      subst (λ l. Among l number) (sym (is ∙ ap (λ r. holders matches address r.addresses) kept.indexed))
-      (holder_at (λ x. x.patterns) matches address ns ms place number m at_m at_n (tells m h))
+      → ((n : ℕ) → Contains (holders matches address regions.addresses) n → Contains candidates n) → Covers test ns ms candidates
+  covers_at_address test address candidates tells among place number m at_m at_n h =
+      list_any-from_Contains nat_eq_equiv number candidates
+      (among number
+      (Contains-from_any same_number number (holders matches address regions.addresses)
+      (subst (λ l. Among l number) (sym (ap (λ r. holders matches address r.addresses) kept.indexed))
+      (holder_at (λ x. x.patterns) matches address ns ms place number m at_m at_n (tells m h)))))
 
   pub covers_at_reference : (test : Mapping → Bool) (required : List Key) (candidates : List ℕ)
       → ((m : Mapping) → test m ≡ true → list_any (λ pattern. names_all pattern required) m.patterns ≡ true)

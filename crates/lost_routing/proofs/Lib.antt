@@ -5,3 +5,4 @@ pub mod ApplyLemmas
 pub mod QuestionLemmas
 pub mod NamedLemmas
 pub mod ServiceLemmas
+pub mod ChainLemmas

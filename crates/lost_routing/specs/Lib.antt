@@ -2,3 +2,4 @@ pub mod Store
 pub mod Invariants
 pub mod Applied
 pub mod Walk
+pub mod Chain

@@ -41,6 +41,18 @@ impl Holdings for Routing {
         }
     }
 
+    fn of_chain(
+        &self,
+        moment: &Moment,
+        place: &Place,
+        service: &ServiceUrn,
+    ) -> Result<Positions, AllocError> {
+        match place {
+            Place::Point(point) => self.store.chain_at_point(moment, point, service),
+            Place::Address(address) => self.store.chain_at_address(moment, address, service),
+        }
+    }
+
     fn at(
         &self,
         moment: &Moment,

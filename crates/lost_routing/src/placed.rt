@@ -6,6 +6,7 @@ ghost use Rattle.lost_spec.specs.Mapping as spec;
 ghost use Rattle.lost_spec.specs.Positions.{positions};
 ghost use Rattle.lost_spec.specs.Find.{AtPoint, AtAddress, holds, is_holder};
 ghost use Rattle.lost_spec.specs.Services.{is_holding};
+ghost use Rattle.lost_routing.specs.Chain.{is_eligible as is_eligible_for, is_chain_holder};
 
 use crate::scan::{FEW, scan};
 use crate::store::Store;
@@ -33,7 +34,7 @@ impl Store {
         if self.mappings.len() <= FEW {
             return scan(self.alloc, &self.mappings, passes);
         }
-        let candidates = self.regions.at_point(point)?;
+        let candidates = self.regions.near_point(point)?;
         picks::select(
             self.alloc,
             &self.numbers,
@@ -65,7 +66,7 @@ impl Store {
         if self.mappings.len() <= FEW {
             return scan(self.alloc, &self.mappings, passes);
         }
-        let candidates = self.regions.at_address(address)?;
+        let candidates = self.regions.near_address(address)?;
         picks::select(
             self.alloc,
             &self.numbers,
@@ -142,4 +143,43 @@ impl Store {
                 && holds_address(mapping, address)
         })
     }
+
+    /// The mappings that are live, are no defaults, have this service or one above it and hold the point, or want of
+    /// memory.
+    pub(crate) fn chain_at_point(
+        &self,
+        moment: &Moment,
+        point: &GeoPoint,
+        service: &ServiceUrn,
+    ) -> Result<Positions, AllocError>
+        ensures { IfOk result (λ found.
+            found.items ≡ positions (is_chain_holder moment.now (AtPoint point.now) service.now) self.now.mappings) }
+    {
+        self.selected_at_point(point, |mapping| {
+            is_eligible(mapping, moment, service) && holds_point(mapping, point)
+        })
+    }
+
+    /// The mappings that are live, are no defaults, have this service or one above it and hold the address, or want of
+    /// memory.
+    pub(crate) fn chain_at_address(
+        &self,
+        moment: &Moment,
+        address: &CivicAddress,
+        service: &ServiceUrn,
+    ) -> Result<Positions, AllocError>
+        ensures { IfOk result (λ found.
+            found.items ≡ positions (is_chain_holder moment.now (AtAddress address.now) service.now) self.now.mappings) }
+    {
+        self.selected_at_address(address, |mapping| {
+            is_eligible(mapping, moment, service) && holds_address(mapping, address)
+        })
+    }
+}
+
+/// Whether the mapping is live, is no default, and has this service or one above it. It costs less than a look at regions.
+fn is_eligible(mapping: &Mapping, moment: &Moment, service: &ServiceUrn) -> bool
+    ensures { result ≡ is_eligible_for moment.now service.now mapping.now }
+{
+    mapping.is_live(moment) && !mapping.is_default() && service.is_at_or_below(mapping.service())
 }

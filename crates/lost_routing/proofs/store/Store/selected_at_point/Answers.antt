@@ -1,5 +1,5 @@
 -- Each mapping that passes is among the candidates.
-use Rattle.std.proofs.Common.{◌≡◌, IfOk, ap, subst, ◌∙◌}
+use Rattle.std.proofs.Common.{◌≡◌, IfOk, Contains, ap, sym, subst}
 use Rattle.lost_spec.specs.Positions.{positions}
 use Rattle.lost_routing.proofs.CoverLemmas.{covers_at_point}
 use Rattle.lost_routing.proofs.store.Store.selected_at_point.Goals as goal
@@ -10,4 +10,4 @@ returns g c = λ test says tells.
     (c.select.ensures test says
     (covers_at_point c.self.inside.numbers c.self.inside.mappings c.self.inside.tables c.self.inside.regions c.self.invariant
     test c.args.point.now c.as_slice.result.now tells
-    (c.as_slice.ensures.value ∙ c.in_ok-candidates.ensures)))
+    (λ n stands. subst (λ l. Contains l n) (sym c.as_slice.ensures.value) (c.in_ok-candidates.ensures.holders n stands))))

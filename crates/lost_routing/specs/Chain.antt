@@ -1,0 +1,14 @@
+-- What is tested of a mapping that may hold a place, its regions last.
+use Rattle.std.specs.Prelude.{Bool, not, ◌&&◌}
+use Rattle.lost_spec.specs.Service.{Service, is_at_or_below}
+use Rattle.lost_spec.specs.Moment.{Instant}
+use Rattle.lost_spec.specs.Mapping.{Mapping, is_live}
+use Rattle.lost_spec.specs.Find.{Place, holds}
+
+-- a mapping is live at t, is no default, and has s or a service above it (own)
+abbrev pub is_eligible : Instant → Service → Mapping → Bool
+is_eligible t s m = is_live m t && (not m.is_default && is_at_or_below s m.service)
+
+-- a mapping is eligible and holds the place
+abbrev pub is_chain_holder : Instant → Place → Service → Mapping → Bool
+is_chain_holder t l s m = is_eligible t s m && holds m l
