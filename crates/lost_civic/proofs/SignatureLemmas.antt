@@ -1,7 +1,7 @@
 -- Signatures, an element at a time, and what a match says of them.
-use Rattle.std.proofs.Common.{◌≡◌, ℕ, ◌+◌, ◌<◌, ◌≤◌, true, List, [], ◌∷◌, take, get_or, Option, Some, None, IfSome, bit_and, bit_or, option_map, String, string_bytes, sym, ◌∙◌, ap, arith}
+use Rattle.std.proofs.Common.{◌≡◌, ℕ, zero, suc, subst, ◌+◌, ◌<◌, ◌≤◌, true, List, [], ◌∷◌, length, take, get_or, Option, Some, None, IfSome, bit_and, bit_or, option_map, String, string_bytes, sym, ◌∙◌, ap, arith}
 use Rattle.std.specs.Int.{bit_at}
-use Rattle.std.specs.List.{fold}
+use Rattle.std.specs.List.{fold, AllByRecursion}
 use Rattle.std.proofs.lemmas.Nat.Bits.{bit_at-zero, bit_at_or, bit_at_and, same_from_bits}
 use Rattle.std.proofs.lemmas.Bool.Decides.{Decides-eqb}
 use Rattle.std.proofs.lemmas.List.{take_all}
@@ -11,8 +11,9 @@ use Rattle.lost_spec.specs.Civic.{Pairs, matches}
 use Rattle.lost_civic.specs.declared.elements.Element.{Element}
 use Rattle.lost_civic.specs.declared.elements.Element.TheVariants.{Country}
 use Rattle.lost_civic.specs.Element.{element_index, all_elements}
-use Rattle.lost_civic.specs.Signatures.{bits_of, with_bits, signature_of, are_among}
+use Rattle.lost_civic.specs.Signatures.{bits_of, with_bits, signature_of, with_key, signature_of_keys, are_among}
 use Rattle.lost_civic.specs.Texts.{text_of, table_of, seen_table}
+use Rattle.lost_civic.proofs.ElementLemmas.{all_elements-element_index}
 use Rattle.lost_civic.proofs.Present.{shared_text}
 use Rattle.lost_civic.proofs.TextLemmas.{text_of-at}
 
@@ -80,3 +81,51 @@ among-from_within bits others h =
 pub signatures_meet : (pattern address : Pairs) → matches pattern address ≡ true → are_among (signature_of pattern) (signature_of address) ≡ true
 signatures_meet pattern address h =
     among-from_within (signature_of pattern) (signature_of address) (fold_within pattern address all_elements 0 0 (λ element. shared_text pattern address element h) (λ i. omega arith))
+
+-- ---- one element
+
+left_within : (a b : ℕ) → AreWithin a (bit_or a b)
+left_within a b = λ i. omega (arith, bit_at_or a b i)
+
+right_within : (a b : ℕ) → AreWithin b (bit_or a b)
+right_within a b = λ i. omega (arith, bit_at_or a b i)
+
+within_both : (a b c : ℕ) → AreWithin a c → AreWithin b c → AreWithin (bit_or a b) c
+within_both a b c first second = λ i. omega (arith, bit_at_or a b i, first i, second i)
+
+within_along : (a b c : ℕ) → AreWithin a b → AreWithin b c → AreWithin a c
+within_along a b c first second = λ i. omega (arith, first i, second i)
+
+fold_grows : (pairs : Pairs) (elements : List Element) (bits : ℕ) → AreWithin bits (fold (with_bits pairs) bits elements)
+fold_grows pairs [] bits = λ i. omega arith
+fold_grows pairs (element ∷ rest) bits =
+    let more = with_bits pairs bits element in
+    within_along bits more (fold (with_bits pairs) more rest) (left_within bits (bits_of element (text_of element pairs))) (fold_grows pairs rest more)
+
+fold_has : (pairs : Pairs) (elements : List Element) (bits i : ℕ) → i < length elements → AreWithin (bits_of (get_or elements i Country) (text_of (get_or elements i Country) pairs)) (fold (with_bits pairs) bits elements)
+fold_has pairs [] bits i within = absurd (omega arith)
+fold_has pairs (element ∷ rest) bits zero within =
+    let own = bits_of element (text_of element pairs) in
+    let more = with_bits pairs bits element in
+    within_along own more (fold (with_bits pairs) more rest) (right_within bits own) (fold_grows pairs rest more)
+fold_has pairs (element ∷ rest) bits (suc i) within = fold_has pairs rest (with_bits pairs bits element) i (omega arith)
+
+-- the bits of an element that stands there are among those of the signature
+element_within : (pairs : Pairs) (element : Element) (text : Text) → text_of element pairs ≡ Some text → AreWithin (bits_of element (Some text)) (signature_of pairs)
+element_within pairs element text stands =
+    let here : get_or all_elements (element_index element) Country ≡ element = all_elements-element_index element Country in
+    subst (λ found. AreWithin (bits_of element found) (signature_of pairs)) stands (subst (λ other. AreWithin (bits_of other (text_of other pairs)) (signature_of pairs)) here (fold_has pairs all_elements 0 (element_index element) (index_within element)))
+
+-- the keys' elements stand there with the keys' texts
+abbrev pub AllStand : Pairs → List (Element × Text) → Type 0
+AllStand pairs keys = AllByRecursion (λ key. text_of key.0 pairs ≡ Some key.1) keys
+
+all_within : (pairs : Pairs) (keys : List (Element × Text)) (bits : ℕ) → AreWithin bits (signature_of pairs) → AllStand pairs keys → AreWithin (fold with_key bits keys) (signature_of pairs)
+all_within pairs [] bits h stand = h
+all_within pairs (key ∷ rest) bits h stand =
+    all_within pairs rest (with_key bits key) (within_both bits (bits_of key.0 (Some key.1)) (signature_of pairs) h (element_within pairs key.0 key.1 stand.0)) stand.1
+
+-- so their bits are among those of the signature
+pub keys_meet : (pairs : Pairs) (keys : List (Element × Text)) → AllStand pairs keys → are_among (signature_of_keys keys) (signature_of pairs) ≡ true
+keys_meet pairs keys stand =
+    among-from_within (signature_of_keys keys) (signature_of pairs) (all_within pairs keys 0 (λ i. omega (arith, bit_at-zero i)) stand)

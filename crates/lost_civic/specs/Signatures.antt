@@ -1,5 +1,5 @@
 -- The signature of an address or a pattern: 64 bits, of which each element that stands there sets some.
-use Rattle.std.specs.Prelude.{ℕ, ◌/◌, ◌%◌, ◌^◌, ◌==◌, Bool, ◌++◌, Option, Some, None, bit_and, bit_or}
+use Rattle.std.specs.Prelude.{ℕ, ◌/◌, ◌%◌, ◌^◌, ◌==◌, Bool, List, ◌++◌, Option, Some, None, bit_and, bit_or}
 use Rattle.std.specs.List.{fold}
 use Rattle.std.specs.Hash as fed
 use Rattle.std.specs.Hash.FoldHasher as folding
@@ -33,6 +33,13 @@ with_bits pairs bits element = bit_or bits (bits_of element (text_of element pai
 -- the bits of all elements that stand there (own)
 abbrev pub signature_of : Pairs → ℕ
 signature_of pairs = fold (with_bits pairs) 0 all_elements
+
+abbrev pub with_key : ℕ → Element × Text → ℕ
+with_key bits key = bit_or bits (bits_of key.0 (Some key.1))
+
+-- the bits of elements with comparison texts (own)
+abbrev pub signature_of_keys : List (Element × Text) → ℕ
+signature_of_keys keys = fold with_key 0 keys
 
 -- each bit that is set in the first is set in the second
 abbrev pub are_among : ℕ → ℕ → Bool

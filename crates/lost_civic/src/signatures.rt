@@ -1,6 +1,6 @@
 //! Signatures, which tell most patterns that do not match an address from those that do.
 
-ghost use Rattle.std.specs.Prelude.{◌≡◌, ◌%◌, ◌^◌, length};
+ghost use Rattle.std.specs.Prelude.{◌≡◌, Some, bit_or, length};
 ghost use Rattle.std.specs.Option.{option_copied};
 ghost use Rattle.lost_spec.specs.Civic.{Pairs};
 ghost use Rattle.lost_civic.specs.Signatures.{are_among, bits_of, bits_of_hash, hash_of, one_bit, signature_of};
@@ -24,6 +24,15 @@ impl Signature {
         ensures { result ≡ are_among self.now.bits other.now.bits }
     {
         self.bits & other.bits == self.bits
+    }
+
+    /// This signature with the bits of an element with a comparison text.
+    pub fn with(self, element: Element, text: &str) -> Signature
+        ensures { result.bits ≡ bit_or self.bits (bits_of element (Some text.now)) }
+    {
+        Signature {
+            bits: self.bits | hash_bits(hash(element, text)),
+        }
     }
 }
 
