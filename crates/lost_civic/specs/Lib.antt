@@ -1,4 +1,5 @@
 pub mod Element
 pub mod Pairs
+pub mod Signatures
 pub mod Squeezed
 pub mod Texts

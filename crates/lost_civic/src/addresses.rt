@@ -7,10 +7,12 @@ ghost use Rattle.std.specs.Cmp.{partial_equiv_from_equiv};
 ghost use Rattle.lost_spec.specs.Civic.{address_fault, has_value};
 ghost use Rattle.lost_civic.specs.Element.{element_name};
 ghost use Rattle.lost_civic.specs.Pairs.{seen_pairs, same_pairs, hashed_pairs, same_pairs-equiv, hashed_pairs-alike};
+ghost use Rattle.lost_civic.specs.Signatures.{signature_of};
 ghost use Rattle.lost_civic.specs.Texts.{text_of, HasElement};
 
 use crate::Element;
 use crate::refusals::first_address_fault;
+use crate::signatures::{Signature, table_signature};
 use crate::texts::make_table;
 use lost_spec::faults::CivicError;
 use std::alloc::{AllocError, Global};
@@ -24,12 +26,14 @@ use std::marker::Model;
 pub struct CivicAddress {
     pairs: Vec<(String, String)>,
     texts: Vec<Option<String>>,
+    signature: Signature,
 }
 
 impl Model for CivicAddress {
     ghost use Rattle.std.specs.Prelude.{◌≡◌, None};
     ghost use Rattle.lost_spec.specs.Civic.{Pairs, address_fault};
     ghost use Rattle.lost_civic.specs.Pairs.{seen_pairs};
+    ghost use Rattle.lost_civic.specs.Signatures.{signature_of};
     ghost use Rattle.lost_civic.specs.Texts.{table_of, seen_table};
 
     ghost Value = { Pairs };
@@ -37,7 +41,8 @@ impl Model for CivicAddress {
     ghost view = { λ a. seen_pairs a.pairs.items };
 
     ghost invariant = { λ a. (address_fault (seen_pairs a.pairs.items) ≡ None)
-        × (seen_table a.texts.items ≡ table_of (seen_pairs a.pairs.items)) };
+        × (seen_table a.texts.items ≡ table_of (seen_pairs a.pairs.items))
+        × (a.signature.bits ≡ signature_of (seen_pairs a.pairs.items)) };
 }
 
 impl CivicAddress {
@@ -62,7 +67,12 @@ impl CivicAddress {
         let Ok(texts) = make_table(alloc, pairs.as_slice()) else {
             return Err(CivicError::Memory);
         };
-        Ok(CivicAddress { pairs, texts })
+        let signature = table_signature(texts.as_slice());
+        Ok(CivicAddress {
+            pairs,
+            texts,
+            signature,
+        })
     }
 
     /// Ok where `from_pairs` takes these pairs, and else its refusal. It takes no memory.
@@ -105,6 +115,13 @@ impl CivicAddress {
         }
     }
 
+    /// The signature of the address. It was made with the address.
+    pub fn signature(&self) -> Signature
+        ensures { result.bits ≡ signature_of self.now }
+    {
+        self.signature
+    }
+
     /// A copy.
     pub fn clone(&self) -> Result<CivicAddress, AllocError>
         ensures { IfOk result (λ copy. copy ≡ self.now) }
@@ -112,6 +129,7 @@ impl CivicAddress {
         Ok(CivicAddress {
             pairs: self.pairs.clone()?,
             texts: self.texts.clone()?,
+            signature: self.signature,
         })
     }
 }

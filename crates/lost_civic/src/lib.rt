@@ -6,6 +6,7 @@ mod addresses;
 mod elements;
 mod patterns;
 mod refusals;
+mod signatures;
 mod squeezing;
 mod texts;
 
@@ -14,3 +15,4 @@ pub use elements::Element;
 pub use lost_spec::faults::CivicError;
 pub use patterns::CivicPattern;
 pub use refusals::MAX_TEXT_BYTES;
+pub use signatures::Signature;

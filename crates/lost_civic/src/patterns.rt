@@ -6,9 +6,11 @@ ghost use Rattle.std.specs.Result.{result_err};
 ghost use Rattle.std.specs.Cmp.{partial_equiv_from_equiv};
 ghost use Rattle.lost_spec.specs.Civic.{pattern_fault, matches};
 ghost use Rattle.lost_civic.specs.Pairs.{seen_pairs, same_pairs, same_pairs-equiv, is_pattern_pair};
+ghost use Rattle.lost_civic.specs.Signatures.{signature_of};
 ghost use Rattle.lost_civic.specs.Texts.{text_of, HasElement};
 
 use crate::refusals::{self, first_pattern_fault};
+use crate::signatures::{self, Signature};
 use crate::texts::{Compared, compare_pairs, find_text};
 use crate::{CivicAddress, Element};
 use lost_spec::faults::CivicError;
@@ -123,6 +125,17 @@ impl CivicPattern {
             compared.element,
             compared.text.as_str(),
         ))
+    }
+
+    /// The signature of the pattern. It is made at each call.
+    pub fn signature(&self) -> Signature
+        ensures { result.bits ≡ signature_of self.now }
+    {
+        let mut bits = 0;
+        for element in Element::ALL {
+            bits |= signatures::element_bits(element, self.text(element));
+        }
+        Signature { bits }
     }
 
     /// A copy. It costs a pointer.

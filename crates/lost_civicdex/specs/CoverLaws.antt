@@ -48,7 +48,7 @@ civic_shares pattern address lawful holds =
 
 -- ---- required elements
 
-text-from_compares_to : (value : Option Text) (text : Text) → compares_to value text ≡ true → option_map comparison_text value ≡ Some text
+pub text-from_compares_to : (value : Option Text) (text : Text) → compares_to value text ≡ true → option_map comparison_text value ≡ Some text
 text-from_compares_to None text h = absurd (false≢true h)
 text-from_compares_to (Some value) text h = ap Some ((bytes_eq-Decides (comparison_text value) text).0 h)
 

@@ -5,5 +5,6 @@ pub mod KeyOrder
 pub mod KeyPresence
 pub mod Keys
 pub mod KeysApart
+pub mod OutlineLaws
 pub mod References
 pub mod Rows

@@ -1,20 +1,20 @@
 //! The profile of civic addresses.
 
-ghost use Rattle.std.specs.Prelude.{true, refl};
 ghost use Rattle.lost_spec.specs.Civic.{matches};
 ghost use Rattle.lost_civicdex.specs.Keys.{keys_of};
-ghost use Rattle.lost_civicdex.specs.Covers.{civic_cover, IsPattern, IsAddress};
+ghost use Rattle.lost_civicdex.specs.Covers.{civic_cover, signature, may_match, IsPattern, IsAddress};
 ghost use Rattle.lost_civicdex.specs.CoverLaws.{civic_shares, one_distinct, one_at_most};
+ghost use Rattle.lost_civicdex.specs.OutlineLaws.{match_is_near, equal_signatures_agree};
 
 use crate::ElementKey;
 use crate::texts::{find_last, make_keys};
-use lost_civic::{CivicAddress, CivicPattern, Element};
+use lost_civic::{CivicAddress, CivicPattern, Element, Signature};
 use lost_profile::Profile;
 use std::alloc::{AllocError, Global};
 
 /// Civic addresses among civic patterns (RFC 5222, section 12.3). A pattern is kept under the key of its last element
-/// in the order of the table, and an address is looked up under the keys of all its known elements. An outline rules
-/// out nothing.
+/// in the order of the table, and an address is looked up under the keys of all its known elements. An outline is the
+/// pattern's signature.
 pub struct Civic;
 
 impl Profile for Civic {
@@ -26,7 +26,7 @@ impl Profile for Civic {
 
     type Probes = Vec<ElementKey>;
 
-    type Outline = ();
+    type Outline = Signature;
 
     ghost COVER_MAX = { 1 };
 
@@ -44,9 +44,9 @@ impl Profile for Civic {
 
     ghost probes_of = { keys_of };
 
-    ghost outline_of = { λ _. tt };
+    ghost outline_of = { signature };
 
-    ghost may_hold = { λ _ _. true };
+    ghost may_hold = { may_match };
 
     /// Whether each element of the pattern stands in the address with an equal comparison text (RFC 5222, section
     /// 12.3; the comparison is an own rule).
@@ -72,10 +72,14 @@ impl Profile for Civic {
         make_keys(alloc, location, &Element::ALL, room)
     }
 
-    fn outline(_region: &CivicPattern) {}
+    /// The signature of the pattern.
+    fn outline(region: &CivicPattern) -> Signature {
+        region.signature()
+    }
 
-    fn is_near(_outline: &(), _location: &CivicAddress) -> bool {
-        true
+    /// Whether each bit of the outline is set in the address's signature.
+    fn is_near(outline: &Signature, location: &CivicAddress) -> bool {
+        outline.is_within(&location.signature())
     }
 
     ghost cover_meets_probes = { λ region location lawful _ holds. civic_shares region location lawful holds };
@@ -84,7 +88,7 @@ impl Profile for Civic {
 
     ghost cover_is_bounded = { λ region _. one_at_most _ };
 
-    ghost holder_is_near = { λ _ _ _ _ _. refl };
+    ghost holder_is_near = { λ region location _ _ holds. match_is_near region location holds };
 
-    ghost equal_outlines_agree = { λ _ _ _ _. refl };
+    ghost equal_outlines_agree = { equal_signatures_agree };
 }

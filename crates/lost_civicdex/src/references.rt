@@ -1,22 +1,23 @@
 //! The profile of elements that a pattern must name.
 
-ghost use Rattle.std.specs.Prelude.{◌≡◌, true, refl};
+ghost use Rattle.std.specs.Prelude.{◌≡◌};
 ghost use Rattle.lost_spec.specs.Civic.{has_value};
 ghost use Rattle.lost_civic.specs.Element.{element_name};
 ghost use Rattle.lost_civicdex.specs.Keys.{keys_of};
-ghost use Rattle.lost_civicdex.specs.Covers.{names_all, required_probes, IsPattern, IsRequirement};
+ghost use Rattle.lost_civicdex.specs.Covers.{names_all, required_probes, signature, may_name, IsPattern, IsRequirement};
 ghost use Rattle.lost_civicdex.specs.CoverLaws.{required_shares, keys_distinct, keys_bounded};
+ghost use Rattle.lost_civicdex.specs.OutlineLaws.{named_is_near, equal_signatures_agree_on_keys};
 
 use crate::texts::make_keys;
 use crate::{ElementKey, RequiredElements};
-use lost_civic::{CivicPattern, Element};
+use lost_civic::{CivicPattern, Element, Signature};
 use lost_profile::Profile;
 use std::alloc::{AllocError, Global};
 
 /// Required elements among civic patterns: a pattern contains them where it names each of them with its comparison
 /// text. So an index finds the patterns that are references for an address in a validation (RFC 5222, section 8.4.2;
 /// the policy is an own rule). A pattern is kept under the keys of all its elements, in the order of the table, and
-/// required elements are looked up under the last of them. An outline rules out nothing.
+/// required elements are looked up under the last of them. An outline is the pattern's signature.
 pub struct References;
 
 /// Whether the pattern names the key's element with the key's comparison text.
@@ -38,7 +39,7 @@ impl Profile for References {
 
     type Probes = Vec<ElementKey>;
 
-    type Outline = ();
+    type Outline = Signature;
 
     ghost COVER_MAX = { 31 };
 
@@ -56,9 +57,9 @@ impl Profile for References {
 
     ghost probes_of = { required_probes };
 
-    ghost outline_of = { λ _. tt };
+    ghost outline_of = { signature };
 
-    ghost may_hold = { λ _ _. true };
+    ghost may_hold = { may_name };
 
     /// Whether the pattern names each required element with its comparison text.
     fn contains(region: &CivicPattern, location: &RequiredElements) -> bool {
@@ -82,10 +83,14 @@ impl Profile for References {
         Ok(keys)
     }
 
-    fn outline(_region: &CivicPattern) {}
+    /// The signature of the pattern.
+    fn outline(region: &CivicPattern) -> Signature {
+        region.signature()
+    }
 
-    fn is_near(_outline: &(), _location: &RequiredElements) -> bool {
-        true
+    /// Whether each bit of the required elements is set in the outline.
+    fn is_near(outline: &Signature, location: &RequiredElements) -> bool {
+        location.signature().is_within(outline)
     }
 
     ghost cover_meets_probes = { λ region location _ some holds. required_shares region location some holds };
@@ -94,7 +99,7 @@ impl Profile for References {
 
     ghost cover_is_bounded = { λ region _. keys_bounded region };
 
-    ghost holder_is_near = { λ _ _ _ _ _. refl };
+    ghost holder_is_near = { λ region location _ _ holds. named_is_near region location holds };
 
-    ghost equal_outlines_agree = { λ _ _ _ _. refl };
+    ghost equal_outlines_agree = { equal_signatures_agree_on_keys };
 }

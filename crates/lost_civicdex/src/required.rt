@@ -1,11 +1,12 @@
 //! Elements that a pattern must name.
 
 ghost use Rattle.std.specs.Prelude.{◌≡◌, ◌↔◌, ◌<◌, [], IfOk, IfSome, IsNone, filter_map, length};
+ghost use Rattle.lost_civic.specs.Signatures.{signature_of_keys};
 ghost use Rattle.lost_civicdex.specs.Keys.{key_of};
 
 use crate::ElementKey;
 use crate::texts::make_keys;
-use lost_civic::{CivicAddress, Element};
+use lost_civic::{CivicAddress, Element, Signature};
 use std::alloc::{AllocError, Global};
 use std::marker::Model;
 
@@ -14,18 +15,22 @@ use std::marker::Model;
 #[derive(Drop)]
 pub struct RequiredElements {
     keys: Vec<ElementKey>,
+    signature: Signature,
 }
 
 impl Model for RequiredElements {
     ghost use Rattle.std.specs.Prelude.{List};
     ghost use Rattle.lost_civicdex.specs.Keys.{Key};
     ghost use Rattle.lost_civicdex.specs.Covers.{IsRequirement};
+    ghost use Rattle.std.specs.Prelude.{◌≡◌};
+    ghost use Rattle.lost_civic.specs.Signatures.{signature_of_keys};
 
     ghost Value = { List Key };
 
     ghost view = { λ r. r.keys.items };
 
-    ghost invariant = { λ r. IsRequirement r.keys.items };
+    ghost invariant = { λ r. IsRequirement r.keys.items
+        × (r.signature.bits ≡ signature_of_keys r.keys.items) };
 }
 
 impl RequiredElements {
@@ -37,7 +42,8 @@ impl RequiredElements {
         if keys.is_empty() {
             None
         } else {
-            Some(RequiredElements { keys })
+            let signature = keys_signature(&keys);
+            Some(RequiredElements { keys, signature })
         }
     }
 
@@ -62,4 +68,22 @@ impl RequiredElements {
     {
         self.keys.as_slice()
     }
+
+    /// The signature of the elements with their texts. It was made with them.
+    pub(crate) fn signature(&self) -> Signature
+        ensures { result.bits ≡ signature_of_keys self.now }
+    {
+        self.signature
+    }
+}
+
+/// The signature of keys.
+fn keys_signature(keys: &[ElementKey]) -> Signature
+    ensures { result.bits ≡ signature_of_keys keys.now }
+{
+    let mut signature = Signature { bits: 0 };
+    for key in keys {
+        signature = signature.with(key.element(), key.text());
+    }
+    signature
 }
