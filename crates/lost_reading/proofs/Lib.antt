@@ -5,4 +5,7 @@ pub mod FitLemmas
 pub mod LocationLemmas
 pub mod PatternLemmas
 pub mod TreeLemmas
+pub mod TurnLemmas
+pub mod WalkLemmas
+pub mod KeptLemmas
 pub mod ServiceLemmas

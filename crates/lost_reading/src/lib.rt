@@ -2,12 +2,15 @@
 //! edits.
 #![tactic(auto)]
 
+mod budget;
 mod checks;
 mod desk;
 mod fits;
+mod kept;
 mod kinds;
 mod line;
 mod locations;
+mod numbers;
 mod options;
 mod parts;
 mod reading;
@@ -15,6 +18,8 @@ mod regions;
 mod request;
 mod services;
 mod tree;
+mod values;
+mod walk;
 
 pub use desk::{DeskFault, DeskLine, read_desk};
 pub use line::{Line, read_line_by_tree};
