@@ -1,22 +1,11 @@
 -- What a desk line orders, by what its tree orders.
-use Rattle.std.proofs.Common.{◌≡◌, ◌≢◌, Option, Some, None, Result, Ok, Err, IfOk, IfErr, IfSome, ◌∙◌, refl}
-use Rattle.serde_json.specs.Data.{Data}
+use Rattle.std.proofs.Common.{◌≡◌, ◌≢◌, Option, Some, None, Result, Ok, Err, IfOk, IfErr, IfSome, ◌∙◌}
 use Rattle.lost_spec.specs.declared.faults.MappingError.TheVariants.{Memory}
-use Rattle.lost_spec.specs.Text.{Text}
-use Rattle.lost_reading.specs.Desk.{Order, order_in, desk_line}
+use Rattle.lost_reading.specs.Desk.{Order}
 use Rattle.lost_reading.specs.DeskLines.{order_of, GivesLine}
-use Rattle.lost_reading.specs.Members.{tree_of}
 use Rattle.lost_reading.specs.declared.desk.DeskFault.{DeskFault}
 use Rattle.lost_reading.specs.declared.desk.DeskFault.TheVariants.{Mapping}
 use Rattle.lost_reading.specs.declared.desk.DeskLine.{DeskLine}
-
-pub desk_line-Some : (line : Text) (tree : Data) → tree_of line ≡ Some tree → desk_line line ≡ order_in tree
-unfolding desk_line
-desk_line-Some line tree h = rw h refl
-
-pub desk_line-None : (line : Text) → tree_of line ≡ None → desk_line line ≡ None
-unfolding desk_line
-desk_line-None line h = rw h refl
 
 pub other-from_line : (found : Result (Option DeskLine) DeskFault) (meant given : Option (Result Order DeskFault)) → given ≡ meant → GivesLine found meant
     → found ≡ Ok None → given ≡ None

@@ -6,4 +6,7 @@ pub mod LocationLemmas
 pub mod PatternLemmas
 pub mod PositionLemmas
 pub mod TreeLemmas
+pub mod TurnLemmas
+pub mod WalkLemmas
+pub mod KeptLemmas
 pub mod ServiceLemmas

@@ -11,8 +11,9 @@ ghost use Rattle.lost_reading.specs.Desk.{Stage, parts_of_members, mapping_order
 ghost use Rattle.lost_reading.specs.DeskLines.{order_of, fault_of, GivesOrder, GivesLine};
 
 use crate::checks::check_members;
+use crate::kept::read_tree;
 use crate::parts::read_parts;
-use crate::reading::{only_member, read_tree, text_member};
+use crate::reading::{only_member, text_member};
 use crate::request::ReadError;
 use lost_mapping::{Identity, Mapping, Stamp};
 use lost_message::Edit;

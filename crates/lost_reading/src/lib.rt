@@ -1,12 +1,15 @@
 //! Reads lines of JSON (own format over RFC 5222): which lines are requests, and which order the map desk's edits.
 #![tactic(auto)]
 
+mod budget;
 mod checks;
 mod desk;
 mod fits;
+mod kept;
 mod kinds;
 mod line;
 mod locations;
+mod numbers;
 mod options;
 mod parts;
 mod reading;
@@ -14,6 +17,8 @@ mod regions;
 mod request;
 mod services;
 mod tree;
+mod values;
+mod walk;
 
 pub use desk::{DeskFault, DeskLine, read_desk};
 pub use kinds::position;

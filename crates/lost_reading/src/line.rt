@@ -5,7 +5,8 @@ ghost use Rattle.lost_reading.specs.Requests.{request_of_member, request_in, lin
 ghost use Rattle.lost_reading.specs.Lines.{GivesWhole};
 
 use crate::desk::{DeskFault, DeskLine, is_desk_name, read_order};
-use crate::reading::{only_member, read_tree};
+use crate::kept::read_tree;
+use crate::reading::only_member;
 use crate::request::{ReadError, read_member_request};
 use lost_message::Request;
 use lost_spec::faults::MappingError;
@@ -29,7 +30,6 @@ pub enum Line<'a> {
 /// # Errors
 ///
 /// Those of [`crate::read_desk`]. A memory refusal may replace any other answer.
-#[tactic(auto, unfolding(crate::specs::Requests::line_request, crate::specs::Desk::desk_line))]
 pub fn read_line_by_tree<'a>(alloc: Global, line: &[u8]) -> Result<Line<'a>, DeskFault>
     ensures { GivesWhole result (desk_line line.now) (line_request line.now) }
 {

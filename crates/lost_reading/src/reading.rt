@@ -1,13 +1,13 @@
-//! Small readers: the tree of a line, the members of an object, and the kinds of values that members have.
-ghost use Rattle.std.specs.Prelude.{◌≡◌, ◌↔◌, Some, option_map};
-ghost use Rattle.serde_json.specs.Errors.{IsMemory};
+//! Small readers: the members of an object, and the kinds of values that members have.
+ghost use Rattle.std.specs.Prelude.{◌≡◌, Some, option_map};
 ghost use Rattle.serde_json.specs.Find.{as_str, get_member};
 ghost use Rattle.serde_json.specs.View.{view, members_view};
 ghost use Rattle.lost_reading.specs.Gives.{Gives};
-ghost use Rattle.lost_reading.specs.Members.{tree_of, one_of, only_member, the_member, required, optional, defaulting};
+ghost use Rattle.lost_reading.specs.Members.{one_of, only_member, the_member, required, optional, defaulting};
 
 use crate::request::ReadError;
-use serde_json::{Error, Map, Value};
+use json::Invalid;
+use serde_json::{Map, Value};
 use std::alloc::{AllocError, AllocFailed, Global};
 
 /// A type that a value of a tree is read as.
@@ -38,6 +38,16 @@ impl From<AllocError> for ReadError {
     }
 }
 
+impl From<Invalid> for ReadError {
+    ghost use Rattle.lost_reading.specs.declared.request.ReadError.TheVariants.{BadRequest};
+
+    ghost from_gives = { λ _ error. error ≡ BadRequest };
+
+    fn from(_invalid: Invalid) -> ReadError {
+        ReadError::BadRequest
+    }
+}
+
 impl<T: Drop> From<AllocFailed<T>> for ReadError {
     ghost use Rattle.lost_reading.specs.declared.request.ReadError.TheVariants.{Memory};
 
@@ -45,27 +55,6 @@ impl<T: Drop> From<AllocFailed<T>> for ReadError {
 
     fn from(_refused: AllocFailed<T>) -> ReadError {
         ReadError::Memory
-    }
-}
-
-/// The tree of a line, if its bytes are UTF-8 and JSON.
-pub(crate) fn read_tree(alloc: Global, line: &[u8]) -> Result<Value, ReadError>
-    ensures { Gives view result (tree_of line.now) }
-{
-    match Value::from_slice(alloc, line) {
-        Ok(value) => Ok(value),
-        Err(error) => Err(tree_fault(&error)),
-    }
-}
-
-/// Why a line gave no tree.
-fn tree_fault(error: &Error) -> ReadError
-    ensures { (result ≡ ReadError.Memory) ↔ IsMemory error.now }
-{
-    if error.is_memory() {
-        ReadError::Memory
-    } else {
-        ReadError::BadRequest
     }
 }
 

@@ -7,8 +7,9 @@ ghost use Rattle.lost_reading.specs.Gives.{Gives};
 ghost use Rattle.lost_reading.specs.Members as kinds;
 ghost use Rattle.lost_reading.specs.Requests.{find_service_of, services_at_of, services_of, boundary_of, request_named, request_in, line_request};
 
+use crate::kept::read_tree;
 use crate::options::{ByValue, read_path};
-use crate::reading::{defaulting, only_member, read_tree, required};
+use crate::reading::{defaulting, only_member, required};
 use crate::services::{optional_service, required_service};
 use lost_message::{Locations, Request};
 use lost_spec::Coded;
@@ -48,7 +49,6 @@ impl Coded for ReadError {
 /// # Errors
 ///
 /// [`ReadError::BadRequest`] if the line is no request.
-#[tactic(auto, unfolding(crate::specs::Requests::line_request))]
 pub fn read_request<'a>(alloc: Global, line: &[u8]) -> Result<Request<'a>, ReadError>
     ensures { Gives request_of result (line_request line.now) }
 {
