@@ -1,7 +1,15 @@
 //! What makes a kind of location searchable (RFC 5222, section 12): when a region contains a location, and the keys
-//! under which regions are kept and locations are looked up. Rules without a section are this profile's own.
+//! under which regions are kept and locations are looked up; and tokens, a kind of location that is its own key. Rules
+//! without a section are this profile's own.
 #![tactic(auto)]
 
 mod profile;
+mod token;
+mod token_set;
+mod tokens;
 
+pub use lost_spec::faults::TokenError;
 pub use profile::Profile;
+pub use token::Token;
+pub use token_set::TokenSet;
+pub use tokens::Tokens;

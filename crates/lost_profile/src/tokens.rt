@@ -1,0 +1,74 @@
+//! The profile of tokens among sets of them.
+ghost use Rattle.std.specs.Prelude.{true, refl};
+ghost use Rattle.lost_spec.specs.Token.{contains_token};
+ghost use Rattle.lost_profile.specs.TokenSets.{IsTokenSet, token_cover, token_probes, token_shares, token_distinct, token_bounded};
+
+use crate::{Profile, Token, TokenSet};
+use std::alloc::{AllocError, Global};
+
+/// Tokens among token sets (own profile). A set is kept under each of its tokens, and a token is looked up under itself. An
+/// outline tells nothing.
+pub struct Tokens;
+
+impl Profile for Tokens {
+    type Location = Token;
+
+    type Region = TokenSet;
+
+    type Key = Token;
+
+    type Probes = [Token; 1];
+
+    type Outline = ();
+
+    ghost COVER_MAX = { 64 };
+
+    const NAME: &'static str = "x-token";
+
+    const COVER_MAX: usize = TokenSet::MAX_TOKENS;
+
+    ghost is_region = { IsTokenSet };
+
+    ghost is_location = { λ _. Unit {0} };
+
+    ghost holds = { contains_token };
+
+    ghost cover_of = { token_cover };
+
+    ghost probes_of = { token_probes };
+
+    ghost outline_of = { λ _. tt };
+
+    ghost may_hold = { λ _ _. true };
+
+    /// Whether the token is one of the set's, byte for byte.
+    fn contains(region: &TokenSet, location: &Token) -> bool {
+        region.contains(location)
+    }
+
+    /// All tokens of the set, in their order.
+    fn cover(alloc: Global, region: &TokenSet) -> Result<Vec<Token>, AllocError> {
+        region.tokens().to_vec(alloc)
+    }
+
+    /// The token, alone.
+    fn probes(_alloc: Global, location: &Token) -> Result<[Token; 1], AllocError> {
+        Ok([location.clone()?])
+    }
+
+    fn outline(_region: &TokenSet) {}
+
+    fn is_near(_outline: &(), _location: &Token) -> bool {
+        true
+    }
+
+    ghost cover_meets_probes = { λ region location _ _ holds. token_shares region location holds };
+
+    ghost cover_is_distinct = { token_distinct };
+
+    ghost cover_is_bounded = { token_bounded };
+
+    ghost holder_is_near = { λ _ _ _ _ _. refl };
+
+    ghost equal_outlines_agree = { λ _ _ _ _. refl };
+}
