@@ -6,12 +6,13 @@ use crate::reading::{address, pattern, required};
 use crate::rings::{FAR, NEAR, point, square};
 use crate::tens::profile::Tens;
 use crate::tens::stretch::Stretch;
+use crate::tokens::{token, two};
 use lost_civic::CivicPattern;
 use lost_civicdex::{Civic, References};
 use lost_geo::Polygon;
 use lost_grid::Geodetic2d;
 use lost_index::Index;
-use lost_profile::Profile;
+use lost_profile::{Profile, Tokens};
 use std::alloc::{AllocError, Global};
 use std::io;
 
@@ -32,7 +33,10 @@ pub(crate) fn print_all<R: Print + AllocGlobal>(rt: &R, are_made: bool) -> io::R
     let place = required(alloc, REQUIRED).ok_or_else(unreadable)?;
     print_calls::<R, References>(rt, patterns(alloc)?, &asked, &place, are_made)?;
     let asked = stretches(alloc)?;
-    print_calls::<R, Tens>(rt, stretches(alloc)?, &asked, &21, are_made)
+    print_calls::<R, Tens>(rt, stretches(alloc)?, &asked, &21, are_made)?;
+    let place = token(alloc, "t2")?;
+    let asked = two(alloc, "t1 t2", "t3")?;
+    print_calls::<R, Tokens>(rt, two(alloc, "t1 t2", "t3")?, &asked, &place, are_made)
 }
 
 /// Makes an index of two regions. If `are_made`, prints which of the others contain a location, cuts one of the two

@@ -8,6 +8,7 @@
 //! - `tens`: the same row over whole numbers that are kept by their tens, and random runs beside a scan.
 //! - `edits`, `many-edits`: ten thousand edits, or a million, over a thousand such numbers, and then the same scan.
 //! - `chunks`: a list in chunks, edited beside a plain list.
+//! - `tokens`: the same row over token sets, and which numbers hold each of some tokens.
 //! - `calls`: the calls that take no memory, on values made before. `prepared` makes the values alone.
 //!
 //! All but `many-edits` and `prepared` run in the gate.
@@ -21,15 +22,17 @@ mod reading;
 mod rings;
 mod row;
 mod tens;
+mod tokens;
 
 use lost_grid::Geodetic2d;
+use lost_profile::Tokens;
 use std::process::ExitCode;
 use std::rt::Env;
 use std::{env, io};
 use tens::profile::Tens;
 
 /// The commands.
-const COMMANDS: [&str; 9] = [
+const COMMANDS: [&str; 10] = [
     "covers",
     "index",
     "civic",
@@ -37,6 +40,7 @@ const COMMANDS: [&str; 9] = [
     "edits",
     "many-edits",
     "chunks",
+    "tokens",
     "calls",
     "prepared",
 ];
@@ -60,7 +64,7 @@ fn main(rt: HostRuntime) -> io::Result<ExitCode> {
         return Ok(status);
     }
     eprintln!(rt;
-        "rows_index: give one or more of the words covers, index, civic, tens, edits, many-edits, chunks, calls, prepared"
+        "rows_index: give one or more of the words covers, index, civic, tens, edits, many-edits, chunks, tokens, calls, prepared"
     )?;
     Ok(ExitCode::from(COMMAND_LINE))
 }
@@ -79,6 +83,10 @@ fn run<R: Input + Print + AllocGlobal>(rt: &R, command: &str) -> io::Result<bool
         "edits" => return tens::edits::print_edits(rt, tens::edits::FEW),
         "many-edits" => return tens::edits::print_edits(rt, tens::edits::MANY),
         "chunks" => return chunks::print_edits(rt),
+        "tokens" => {
+            row::print_all::<R, Tokens>(rt)?;
+            tokens::print_all(rt)?;
+        }
         "calls" => calls::print_all(rt, true)?,
         _ => calls::print_all(rt, false)?,
     }

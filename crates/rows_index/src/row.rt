@@ -4,10 +4,11 @@ ghost use Rattle.std.specs.Prelude.{◌≡◌, IfOk, length};
 use crate::rings::{FAR, NEAR, point, square};
 use crate::tens::profile::Tens;
 use crate::tens::stretch::Stretch;
+use crate::tokens::{set, token};
 use lost_geo::Polygon;
 use lost_grid::Geodetic2d;
 use lost_index::Index;
-use lost_profile::Profile;
+use lost_profile::{Profile, TokenSet, Tokens};
 use std::alloc::Global;
 use std::io;
 
@@ -20,7 +21,7 @@ pub(crate) trait Row: Profile {
     fn far(alloc: Global) -> io::Result<Self::Region>;
 
     /// The numbers that hold the location.
-    fn asked(index: &Index<Self>) -> io::Result<Vec<u64>>;
+    fn asked(alloc: Global, index: &Index<Self>) -> io::Result<Vec<u64>>;
 }
 
 impl Row for Geodetic2d {
@@ -32,7 +33,7 @@ impl Row for Geodetic2d {
         square(alloc, FAR)
     }
 
-    fn asked(index: &Index<Geodetic2d>) -> io::Result<Vec<u64>> {
+    fn asked(_alloc: Global, index: &Index<Geodetic2d>) -> io::Result<Vec<u64>> {
         Ok(index.holding(&point(5_000_000, 5_000_000)?)?)
     }
 }
@@ -46,8 +47,22 @@ impl Row for Tens {
         Ok(Stretch::of(1_000, 9))
     }
 
-    fn asked(index: &Index<Tens>) -> io::Result<Vec<u64>> {
+    fn asked(_alloc: Global, index: &Index<Tens>) -> io::Result<Vec<u64>> {
         Ok(index.holding(&21)?)
+    }
+}
+
+impl Row for Tokens {
+    fn near(alloc: Global) -> io::Result<TokenSet> {
+        set(alloc, "t1 t2")
+    }
+
+    fn far(alloc: Global) -> io::Result<TokenSet> {
+        set(alloc, "t3")
+    }
+
+    fn asked(alloc: Global, index: &Index<Tokens>) -> io::Result<Vec<u64>> {
+        Ok(index.holding(&token(alloc, "t2")?)?)
     }
 }
 
@@ -145,11 +160,11 @@ fn print_asked<R: Print + AllocGlobal, P: Row>(
     step: &str,
     index: &Index<P>,
 ) -> io::Result<()> {
-    if let Ok(found) = P::asked(index) {
+    if let Ok(found) = P::asked(rt.alloc(), index) {
         return print_numbers(rt, step, &found);
     }
     println!(rt; "holding refused")?;
-    print_numbers(rt, step, &P::asked(index)?)
+    print_numbers(rt, step, &P::asked(rt.alloc(), index)?)
 }
 
 /// Prints the name of a step and its numbers.
