@@ -1,4 +1,4 @@
-//! How much memory the tree of a line may take. Own rules.
+//! How much memory the tree of a line may take.
 ghost use Rattle.std.specs.Prelude.{◌≡◌, IfErr};
 
 use crate::request::ReadError;

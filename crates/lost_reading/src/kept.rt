@@ -1,5 +1,5 @@
 //! What of a line is kept as a tree: of the request or the desk line that it is, the members that have a name of theirs. All
-//! others are walked over. Own rules.
+//! others are walked over.
 ghost use Rattle.std.specs.Prelude.{◌≡◌, ◌<◌, length, Some, None, Err, IfOk, IfSome, OnOk, option_and_then};
 ghost use Rattle.json.specs.Json.{value, members};
 ghost use Rattle.serde_json.specs.Data.{Data, Members, object, no_members, put};
@@ -188,7 +188,7 @@ fn read_named(
     Ok(found)
 }
 
-/// What a reader of a line's tokens reads: an object, with what is kept of it.
+/// Reads an object from a line's tokens, and keeps its known members.
 fn read_whole(alloc: Global, reader: &mut Reader<'_>) -> Result<Map<String, Value>, ReadError>
     ensures ok { IfOk result (λ m. (all : Members) × (of_tokens reader.old ≡ Some (object all)) × HaveSameNames all (members_view m.entries)) }
     ensures err { result ≡ Err ReadError.BadRequest → IfSome (of_tokens reader.old) (λ d. as_object d ≡ None) }
@@ -206,7 +206,7 @@ fn read_whole(alloc: Global, reader: &mut Reader<'_>) -> Result<Map<String, Valu
     }
 }
 
-/// The tree of a text, with what is kept of it, or `BadRequest` where it is no object.
+/// The tree of a text with its known members, or `BadRequest` if it is no object.
 fn read_text(alloc: Global, text: &str) -> Result<Value, ReadError>
     ensures tells { IfOk result (λ tree. (option_and_then request_in (tree_of_text text.now) ≡ request_in (view tree))
         × (option_and_then order_in (tree_of_text text.now) ≡ order_in (view tree))) }
