@@ -1,7 +1,7 @@
 """Reads desk lines: publish, replace, withdraw and commit."""
 from book import PUBLISH, REPLACE, WITHDRAW, Edit
 from mappings import Parts, Refused, Region, build, identity_of
-from members import are_pairs, are_texts, are_two_whole, member, only_member
+from members import are_pairs, are_texts, member, only_member, position_of
 from places import CIVIC, GEODETIC, Point
 from texts import is_id, is_source, is_text, moment_of
 
@@ -76,8 +76,9 @@ def read_region(item):
     """The region that an item says, by its profile; None, unreadable, where it has another shape or profile."""
     profile = member(item, "profile") if isinstance(item, dict) else None
     if profile == GEODETIC:
-        positions = member(item, "polygon")
-        if isinstance(positions, list) and all(map(are_two_whole, positions)):
+        items = member(item, "polygon")
+        positions = list(map(position_of, items)) if isinstance(items, list) else [None]
+        if None not in positions:
             return Region(GEODETIC, [Point(*position) for position in positions])
     if profile == CIVIC and are_pairs(member(item, "pattern")):
         return Region(CIVIC, member(item, "pattern"))

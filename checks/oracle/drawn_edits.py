@@ -1,6 +1,7 @@
 """Draws desk lines, of which many are about what earlier ones are about."""
 import datetime
 
+from drawn_texts import respelled
 from places import CIVIC, GEODETIC
 from samples import DISPLAY_TEXTS, IDS, JUNK, KEYS, LANGUAGES, NUMBERS, ODD_IDS, ODD_SOURCES, SOURCES, STAMPS, URIS
 
@@ -92,7 +93,7 @@ class Edits:
         """A region of the kinds that the theme is about."""
         kind = self.dice.by_weight({GEODETIC: self.theme.rings, CIVIC: self.theme.patterns})
         if kind == GEODETIC and self.dice.chance(0.97):
-            return {"polygon": self.dice.choice(self.session.ground.rings), "profile": GEODETIC}
+            return {"polygon": self.session.ground.ring(), "profile": GEODETIC}
         return {"pattern": self.session.town.pattern(), "profile": CIVIC}
 
     def regions(self):
@@ -165,7 +166,8 @@ class Edits:
         """A region of the same points or addresses that is written in another way."""
         if "polygon" in region:
             ring = region["polygon"]
-            turned = self.dice.choice([ring, ring[::-1], [*ring[1:], ring[1]]])
+            again = [respelled(self.dice, position) for position in ring]
+            turned = self.dice.choice([ring, again, again, ring[::-1], [*ring[1:], ring[1]]])
             return {"polygon": turned, "profile": GEODETIC}
         pattern = {name: self.session.town.respelled(value) for name, value in region["pattern"].items()}
         return {"pattern": self.dice.choice([pattern, region["pattern"]]), "profile": CIVIC}

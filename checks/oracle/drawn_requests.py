@@ -61,7 +61,7 @@ class Requests:
         profile = self.dice.by_weight(weights if self.dice.chance(0.93) else {GEODETIC: 1, CIVIC: 1, "other": 1})
         location = {"id": self.dice.choice(["p", "q", "", "é", '"']), "profile": profile}
         if profile == GEODETIC:
-            location["pos"] = self.session.ground.point()
+            location["pos"] = self.session.ground.spelled(self.session.ground.point())
         elif profile == CIVIC:
             location["address"] = self.session.town.address()
         else:

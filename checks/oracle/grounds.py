@@ -1,4 +1,5 @@
 """What the places of a session are drawn from: a few positions and a few civic pairs, so that they meet often."""
+from drawn_texts import position_text
 from places import ELEMENTS, GREATEST_LATITUDE, GREATEST_LONGITUDE
 from samples import LONG_VALUES, TOO_LONG_VALUES, UNKNOWN_ELEMENTS, USUAL_ELEMENTS, USUAL_VALUES, VALUES
 
@@ -47,10 +48,19 @@ class Ground:
             step = dice.choice(STEPS)
             self.numbers = [evenly_spaced(dice, greatest, count, step) for greatest in bounds]
         self.rings = [self.new_ring() for _ in range(dice.randint(2, 6))]
+        self.share_of_texts = dice.choice([0, 0, 0.1, 0.5, 1])
 
     def position(self):
         """A latitude and a longitude of the session."""
         return [self.dice.choice(numbers) for numbers in self.numbers]
+
+    def spelled(self, pair):
+        """A position as text, in the share of the session, or as a pair."""
+        return position_text(self.dice, pair) if self.dice.chance(self.share_of_texts) else pair
+
+    def ring(self):
+        """A ring of the session, each position in a spelling of its own."""
+        return list(map(self.spelled, self.dice.choice(self.rings)))
 
     def new_ring(self):
         """A box, turned and begun anywhere, any other ring, or a ring of one position."""

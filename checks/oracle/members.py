@@ -1,4 +1,5 @@
 """The members of the objects of a line."""
+from texts import decimal, is_text
 
 
 def member(described, name):
@@ -17,8 +18,15 @@ def is_whole(value):
 
 
 def are_two_whole(value):
-    """A position is a list of two whole numbers, in or out of range."""
+    """A pair is a list of two whole numbers, in or out of range."""
     return isinstance(value, list) and len(value) == 2 and all(map(is_whole, value))
+
+
+def position_of(value):
+    """A position is such a pair, or a text of two numbers in degrees; None where it has another shape."""
+    if is_text(value):
+        return decimal(value)
+    return tuple(value) if are_two_whole(value) else None
 
 
 def are_pairs(value):

@@ -3,6 +3,7 @@
 Members stand in any order, some of them twice; names and values have escapes; numbers have all spellings; unknown members
 nest deeply or have many items; lines are cut, broken, and filled to the bounds of what is read by tokens.
 """
+from drawn_texts import PositionText, broken_text, position_text
 from samples import JUNK, NO_JSON, ODD_JSON
 from sessions import Session
 from spelling import BLANKS, Spelled, broken, nested, spelled_character, with_member
@@ -49,6 +50,8 @@ def oddly(dice, value, with_blanks):
     """A value as JSON, in an odd spelling."""
     if isinstance(value, Spelled):
         return str(value)
+    if isinstance(value, PositionText):
+        return odd_text(dice, odd_degrees(dice, value))
     if isinstance(value, str):
         return odd_text(dice, value)
     if isinstance(value, list):
@@ -100,6 +103,14 @@ def odd_text(dice, text):
     """A text as JSON; many texts have characters by their digits."""
     is_digits_wanted = dice.chance(0.15)
     return '"' + "".join(spelled_character(dice, character, is_digits_wanted) for character in text) + '"'
+
+
+def odd_degrees(dice, text):
+    """A position, mostly as it is, here and there in another spelling or in one that makes it none."""
+    way = dice.by_weight({"the same": 90, "another": 5, "broken": 5})
+    if way == "another":
+        return position_text(dice, text.pair)
+    return broken_text(dice, text) if way == "broken" else text
 
 
 def odd_number(dice, number):

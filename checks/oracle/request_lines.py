@@ -1,7 +1,7 @@
 """Reads request lines: findService, listServicesByLocation, listServices and getServiceBoundary."""
 from typing import NamedTuple
 
-from members import are_pairs, are_texts, are_two_whole, member, only_member
+from members import are_pairs, are_texts, member, only_member, position_of
 from places import CIVIC, GEODETIC, Point
 from texts import is_text, read_service
 
@@ -116,8 +116,9 @@ def is_system_known(item):
 
 def read_body(item):
     """A point is read from pos and an address from address; None, unreadable, where they have another shape."""
-    if member(item, "profile") == GEODETIC and are_two_whole(member(item, "pos")):
-        return Point(*member(item, "pos"))
+    if member(item, "profile") == GEODETIC:
+        position = position_of(member(item, "pos"))
+        return position and Point(*position)
     if member(item, "profile") == CIVIC and are_pairs(member(item, "address")):
         return member(item, "address")
     return None

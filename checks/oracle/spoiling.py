@@ -1,4 +1,5 @@
 """Spoils the value of a line: a member that is missing, of another kind, at the bound of its rule or past it."""
+from drawn_texts import odd_position
 from places import CIVIC, ELEMENTS, GEODETIC
 from samples import (
     JUNK, LONG_VALUES, NO_IDS, NO_NUMBERS, NO_SERVICES, NO_SOURCES, NO_STAMPS, NUMBERS, ODD_IDS, ODD_SOURCES, ODD_URIS,
@@ -148,13 +149,24 @@ def odd_regions(session, old):
 def odd_region(session):
     """A region whose ring or pattern is odd."""
     if session.dice.chance(0.5):
-        return {"polygon": odd_ring(session.dice, session.ground.new_ring()), "profile": GEODETIC}
+        return {"polygon": odd_ring(session), "profile": GEODETIC}
     return {"pattern": odd_pattern(session), "profile": CIVIC}
 
 
-def odd_ring(dice, ring):
-    """A ring that is open, too short, as long as it may be or longer, or has an odd position."""
-    way = dice.by_weight({"open": 25, "short": 15, "closed": 10, "position": 30, "ends": 5, "long": 5, "wide": 10})
+def odd_ring(session):
+    """A ring that is open, too short, as long as it may be or longer, or has an odd position; some of it as text."""
+    dice, ring = session.dice, session.ground.new_ring()
+    way = dice.by_weight({"text": 25, "open": 25, "short": 15, "closed": 10, "position": 30, "ends": 5, "long": 5, "wide": 10})
+    if way == "text":
+        place = dice.randrange(len(ring))
+        ring[place] = odd_position(dice, ring[place])
+        return ring
+    odd = odd_ring_of_pairs(dice, ring, way)
+    return [session.ground.spelled(position) if position in ring else position for position in odd]
+
+
+def odd_ring_of_pairs(dice, ring, way):
+    """A ring that is odd in a way."""
     if way == "open":
         return dice.choice([ring[:-1], [*ring[:-1], [ring[0][0], ring[0][1] + 1]]])
     if way == "short":
@@ -216,6 +228,8 @@ def odd_content(session, location):
     """An odd position, or an odd address."""
     dice = session.dice
     if "address" not in location:
+        if dice.chance(0.5):
+            return {"pos": odd_position(dice, session.ground.point())}
         return {"pos": dice.choice(POSITIONS)}
     address = session.town.address()
     way = dice.choice(["empty", "kind", "unknown", "null", "long"])

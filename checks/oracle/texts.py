@@ -1,4 +1,4 @@
-"""The rules of texts: services, sources, ids, stamps, URIs and numbers."""
+"""The rules of texts: services, sources, ids, stamps, URIs, numbers and positions in degrees."""
 import datetime
 import re
 import string
@@ -9,6 +9,9 @@ SERVICE_PREFIX = "urn:service:"
 STAMP = re.compile(r"([0-9]{4})-([0-9]{2})-([0-9]{2})T([0-9]{2}):([0-9]{2}):([0-9]{2})(?:\.([0-9]{1,9}))?Z")
 URI = re.compile(r"([A-Za-z][A-Za-z0-9+.-]*):[!-~]+")
 NUMBER = re.compile(r"[0-9*#]{1,64}")
+TWO_WORDS = re.compile(r"([^ ]+) +([^ ]+)")
+DEGREES = re.compile(r"(-?)([0-9]{1,3})(?:\.([0-9]{1,7}))?")
+UNITS_OF_A_DEGREE = 10_000_000
 FIRST_DAY = datetime.date(1970, 1, 1)
 NANOSECONDS = 1_000_000_000
 
@@ -97,3 +100,32 @@ def are_uris(texts):
 def is_number(text):
     """A service number has 1 to 64 characters, each a digit, a star or a hash."""
     return NUMBER.fullmatch(text) is not None
+
+
+def two_words(text):
+    """Two words with one or more spaces between them, and nothing else; None for any other text."""
+    parts = TWO_WORDS.fullmatch(text)
+    return parts and parts.groups()
+
+
+def decimals_of(digits):
+    """The 1e-7 degrees of the digits behind a dot; digits that it leaves out are zeros."""
+    return int((digits or "").ljust(7, "0"))
+
+
+def signed(sign, whole, decimals):
+    """The 1e-7 degrees of a number: its sign is that of the decimals too."""
+    units = int(whole) * UNITS_OF_A_DEGREE + decimals
+    return -units if sign else units
+
+
+def units_of(word):
+    """The 1e-7 degrees of a number: perhaps a minus sign, one to three digits, perhaps a dot and one to seven digits."""
+    parts = DEGREES.fullmatch(word)
+    return signed(parts[1], parts[2], decimals_of(parts[3])) if parts else None
+
+
+def decimal(text):
+    """The position that a text of two numbers spells, latitude first; None where the text spells none."""
+    numbers = tuple(map(units_of, two_words(text) or ()))
+    return numbers if numbers and None not in numbers else None

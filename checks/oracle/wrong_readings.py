@@ -1,4 +1,6 @@
 """Wrong readings of the rules, each as a stand-in for a function or a constant of the oracle."""
+import re
+
 import answers
 import book
 import desk_lines
@@ -163,6 +165,45 @@ def key_held_while_live(held, new):
     return RIGHT["is_key_held"](held._replace(mappings=living), new)
 
 
+class SpelledPoint(places.Point):
+    """A point that is another one where its text is."""
+
+    def __eq__(self, other):
+        return super().__eq__(other) and getattr(self, "text", "") == getattr(other, "text", "")
+
+    def __ne__(self, other):
+        return not self == other
+
+    __hash__ = places.Point.__hash__
+
+
+def region_by_texts(item):
+    """Compares positions by their texts too."""
+    region = RIGHT["read_region"](item)
+    if region is None or region.profile != places.GEODETIC:
+        return region
+    points = [SpelledPoint(*point) for point in region.content]
+    for point, position in zip(points, item["polygon"]):
+        point.text = str(position)
+    return region._replace(content=points)
+
+
+def first_two_words(text):
+    """Passes over what stands behind a second number and a space."""
+    return RIGHT["two_words"](" ".join(text.split(" ")[:2])) if text.count(" ") > 1 else RIGHT["two_words"](text)
+
+
+def units_of_front(word):
+    """Passes over what stands behind a number."""
+    parts = texts.DEGREES.match(word)
+    return RIGHT["units_of"](parts[0]) if parts else None
+
+
+def respelled_number(spelling, spelled):
+    """Takes one spelling of a number for another."""
+    return lambda word: RIGHT["units_of"](re.sub(spelling, spelled, word))
+
+
 # What is wrong, the name of the function or the constant, and what stands in for it.
 WRONG_READINGS = [
     ("upper edges belong to a ring", "spans", lambda low, high, at: low.latitude <= at.latitude <= high.latitude),
@@ -171,6 +212,28 @@ WRONG_READINGS = [
     ("latitudes have no normal form", "normal", lambda at: at._replace(longitude=RIGHT["normal"](at).longitude)),
     ("a ring has 3 positions", "is_ring", lambda ring: RIGHT["is_ring"](ring[:1] + ring) if ring else False),
     ("a ring need not be closed", "is_ring", lambda ring: len(ring) > 3 and all(map(places.is_point, ring))),
+    ("absent decimals are no zeros", "decimals_of", lambda digits: int(digits or "0")),
+    ("the sign of -0 is lost", "signed", lambda sign, whole, decimals: (
+        RIGHT["signed"](sign if int(whole) else "", whole, decimals))),
+    ("decimals have no sign", "signed", lambda sign, whole, decimals: RIGHT["signed"](sign, whole, 0) + decimals),
+    ("more words may stand behind a position", "two_words", first_two_words),
+    ("more bytes may stand behind a number", "units_of", units_of_front),
+    ("spaces may stand before a position", "two_words", lambda text: RIGHT["two_words"](text.lstrip(" "))),
+    ("spaces may stand behind a position", "two_words", lambda text: RIGHT["two_words"](text.rstrip(" "))),
+    ("just one space stands in a position", "two_words", lambda text: None if "  " in text else RIGHT["two_words"](text)),
+    ("any white space stands in a position", "two_words", lambda text: RIGHT["two_words"](re.sub(r"\s", " ", text))),
+    ("a comma may stand in a position", "two_words", lambda text: RIGHT["two_words"](text.replace(",", " "))),
+    ("an eighth digit is passed over", "units_of", respelled_number(r"(\.[0-9]{7})[0-9]+", r"\1")),
+    ("seven digits are too many", "units_of", lambda word: None if re.search(r"\.[0-9]{7}", word) else RIGHT["units_of"](word)),
+    ("a number may begin with its dot", "units_of", respelled_number(r"^(-?)\.", r"\g<1>0.")),
+    ("a number may end with its dot", "units_of", respelled_number(r"\.$", "")),
+    ("a number may have a plus sign", "units_of", respelled_number(r"^\+", "")),
+    ("a number may have any zeros before it", "units_of", respelled_number(r"^(-?)0+(?=[0-9])", r"\1")),
+    ("no zeros stand before a number", "units_of", lambda word: None if re.match(r"-?0[0-9]", word) else RIGHT["units_of"](word)),
+    ("digits are Unicode's", "DEGREES", re.compile(r"(-?)(\d{1,3})(?:\.(\d{1,7}))?")),
+    ("longitude comes first in a text", "decimal", lambda text: RIGHT["decimal"](text) and RIGHT["decimal"](text)[::-1]),
+    ("positions are no texts", "decimal", lambda text: None),
+    ("positions are compared by their texts", "read_region", region_by_texts),
     ("comparison texts keep case", "comparison_text", lambda text: places.WHITE_SPACE.sub(" ", text).strip(" ")),
     ("white space is Unicode's", "comparison_text", lambda text: texts.lowered(" ".join(text.split()))),
     ("ends are not trimmed", "comparison_text", lambda text: texts.lowered(places.WHITE_SPACE.sub(" ", text))),

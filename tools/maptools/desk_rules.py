@@ -3,7 +3,9 @@ from __future__ import annotations
 
 from typing import Any, Dict, List, NamedTuple, Optional, Tuple
 
-from maptools.texts import is_expires, is_id, is_number, is_source, lowered, moment_of, scheme_of, service_of, size
+from maptools.texts import (
+    Point, is_expires, is_id, is_number, is_source, lowered, moment_of, scheme_of, service_of, size, spelled_point,
+)  # fmt: skip
 
 GREATEST_LATITUDE, GREATEST_LONGITUDE = 900_000_000, 1_800_000_000
 MOST_POSITIONS, MOST_POLYGONS, MOST_PATTERNS, MOST_NAMES, MOST_MAPPINGS, MOST_TRACES = 4096, 64, 256, 16, 65_536, 65_536
@@ -95,7 +97,7 @@ def uri_fault(uris: List[str]) -> Optional[Fault]:
     return Fault(7, f"two URIs have the scheme {twice[0]}") if twice else None
 
 
-def is_position(value: Any) -> bool:
+def is_pair(value: Any) -> bool:
     """Two whole numbers in range, latitude first."""
     return (
         isinstance(value, list)
@@ -106,10 +108,23 @@ def is_position(value: Any) -> bool:
     )
 
 
+def position_of(value: Any) -> Optional[Point]:
+    """A position as a latitude and a longitude: such a pair, or a text of degrees. None where it is neither, or out of range."""
+    pair = list(spelled_point(value) or ()) if isinstance(value, str) else value
+    return (pair[0], pair[1]) if is_pair(pair) else None
+
+
+def in_pairs(ring: Any) -> Any:
+    """A ring with each position as a pair, as the server prints it; an outline stays as it is."""
+    has_texts = isinstance(ring, list) and str in map(type, ring)
+    return [list(position_of(position) or ()) for position in ring] if has_texts else ring
+
+
 def is_ring(value: Any) -> bool:
     """4 to 4,096 positions, the last equal to the first."""
     is_long = isinstance(value, list) and 4 <= len(value) <= MOST_POSITIONS
-    return is_long and all(map(is_position, value)) and value[0] == value[-1]
+    ring = in_pairs(value) if is_long else []
+    return is_long and all(map(is_pair, ring)) and ring[0] == ring[-1]
 
 
 def is_pattern(value: Any) -> bool:
@@ -136,9 +151,10 @@ def regions_of(value: Dict[str, Any]) -> List[Dict[str, Any]]:
 
 
 def contents_of(value: Dict[str, Any], profile: str) -> List[Any]:
-    """The polygons or the patterns of a mapping."""
-    member = "polygon" if profile == GEODETIC else "pattern"
-    return [region[member] for region in regions_of(value) if region["profile"] == profile]
+    """The polygons, in pairs, or the patterns of a mapping."""
+    if profile == GEODETIC:
+        return [in_pairs(region["polygon"]) for region in regions_of(value) if region["profile"] == GEODETIC]
+    return [region["pattern"] for region in regions_of(value) if region["profile"] == CIVIC]
 
 
 def boundary_fault(value: Dict[str, Any]) -> Optional[Fault]:

@@ -9,7 +9,8 @@ from xml.sax.saxutils import escape
 
 from maptools.desk_rules import GREATEST_LATITUDE, GREATEST_LONGITUDE
 from maptools.places import Area, Edge, Finding, belonging
-from maptools.units import Point, degrees_of
+from maptools.texts import Point
+from maptools.units import degrees_of
 
 WIDTH, MARGIN, TALLEST = 4_000, 120, 2_800
 LETTER, LINE = 52, 76

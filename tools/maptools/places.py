@@ -9,9 +9,8 @@ from __future__ import annotations
 from collections import Counter
 from typing import Any, Dict, Iterable, List, NamedTuple, Optional, Tuple
 
-from maptools.desk_rules import CIVIC, GEODETIC, GREATEST_LATITUDE, GREATEST_LONGITUDE, contents_of, is_position
-from maptools.texts import WITHOUT_END, Moment, moment_of, service_of
-from maptools.units import Point
+from maptools.desk_rules import CIVIC, GEODETIC, GREATEST_LATITUDE, GREATEST_LONGITUDE, contents_of, position_of
+from maptools.texts import WITHOUT_END, Moment, Point, moment_of, service_of
 
 Edge = Tuple[Point, Point]
 
@@ -137,6 +136,5 @@ def question_of(value: Any) -> Optional[Tuple[Point, str, str]]:
         return None
     service = service_of(value["service"]) if isinstance(value.get("service"), str) else None
     places = [place for place in value["location"] if isinstance(place, dict) and place.get("profile") in (GEODETIC, CIVIC)]
-    if service is None or not places or places[0]["profile"] != GEODETIC or not is_position(places[0].get("pos")):
-        return None
-    return tuple(places[0]["pos"]), service, str(places[0].get("id", ""))
+    point = position_of(places[0].get("pos")) if places and places[0]["profile"] == GEODETIC else None
+    return None if service is None or point is None else (point, service, str(places[0].get("id", "")))

@@ -1,4 +1,4 @@
-"""The texts of docs/PROTOCOL.md: sources, services, stamps, keys, URIs and numbers."""
+"""The texts of docs/PROTOCOL.md: sources, services, stamps, keys, URIs, numbers and positions in degrees."""
 from __future__ import annotations
 
 import datetime
@@ -11,10 +11,13 @@ LABEL = re.compile(r"[A-Za-z0-9]([A-Za-z0-9-]{0,61}[A-Za-z0-9])?")
 STAMP = re.compile(r"([0-9]{4})-([0-9]{2})-([0-9]{2})T([0-9]{2}):([0-9]{2}):([0-9]{2})(?:\.([0-9]{1,9}))?Z")
 URI = re.compile(r"([A-Za-z][A-Za-z0-9+.-]*):[!-~]+")
 NUMBER = re.compile(r"[0-9*#]{1,64}")
+DEGREES = r"(-?[0-9]{1,3})(?:\.([0-9]{1,7}))?"
+POSITION = re.compile(f"{DEGREES} +{DEGREES}")
 WITHOUT_END = ("NO-CACHE", "NO-EXPIRATION")
 LOWER = str.maketrans(string.ascii_uppercase, string.ascii_lowercase)
 
 Moment = Tuple[datetime.datetime, int]
+Point = Tuple[int, int]
 
 
 def lowered(text: str) -> str:
@@ -95,3 +98,12 @@ def scheme_of(text: str) -> Optional[str]:
 def is_number(text: str) -> bool:
     """A service number: 1 to 64 digits, stars and hashes."""
     return NUMBER.fullmatch(text) is not None
+
+
+def spelled_point(text: str) -> Optional[Point]:
+    """The position that a text of degrees spells, in whole units of 1e-7 degrees. None where the text spells none."""
+    parts = POSITION.fullmatch(text)
+    if not parts:
+        return None
+    latitude, longitude = (int(parts[number] + (parts[number + 1] or "").ljust(7, "0")) for number in (1, 3))
+    return latitude, longitude

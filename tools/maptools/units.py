@@ -2,13 +2,12 @@
 from __future__ import annotations
 
 from decimal import MAX_EMAX, MAX_PREC, MIN_EMIN, ROUND_HALF_EVEN, Context, Decimal, InvalidOperation
-from typing import List, Tuple, Union
+from typing import List, Union
 
-from maptools.desk_rules import is_position
+from maptools.desk_rules import is_pair
+from maptools.texts import Point
 
 EXACT = Context(prec=MAX_PREC, Emax=MAX_EMAX, Emin=MIN_EMIN, rounding=ROUND_HALF_EVEN)
-
-Point = Tuple[int, int]
 
 
 def rounded_units(degrees: Union[int, Decimal]) -> int:
@@ -32,13 +31,18 @@ def degrees_of(units: int) -> str:
     return format(Decimal(units).scaleb(-7).normalize(), "f")
 
 
+def text_of(position: Point) -> str:
+    """A position as text of degrees, in the shortest spelling."""
+    return f"{degrees_of(position[0])} {degrees_of(position[1])}"
+
+
 def point_of(text: str, is_in_units: bool) -> Point:
     """LAT,LON as a point; ValueError where it is none, or out of range."""
     parts = text.split(",")
     if len(parts) != 2:
         raise ValueError(f"{text!r} is not LAT,LON")
     latitude, longitude = (int(part) if is_in_units else units_of(part) for part in parts)
-    if not is_position([latitude, longitude]):
+    if not is_pair([latitude, longitude]):
         raise ValueError(f"{text!r} is out of range: latitude first, at most 90, then longitude, at most 180")
     return latitude, longitude
 

@@ -49,6 +49,16 @@ class Sending(MapFile):
         self.write(*published(default, same))
         self.assertEqual(self.sync()[1][:15], "nothing to send")
 
+    def test_the_same_ring_as_text_makes_no_difference(self) -> None:
+        self.write(*published(A))
+        self.assertEqual(self.sync()[0], 0)
+        ring = ["0 0.0", [0, 10], "0.0000010  0.000001", "0.0000010 -0", "0 0"]
+        self.write(*published({**A, "serviceBoundary": [{"profile": "geodetic-2d", "polygon": ring}]}))
+        self.assertEqual(self.sync()[1][:15], "nothing to send")
+        ring[1] = "0 0.0000011"
+        self.write(*published({**A, "serviceBoundary": [{"profile": "geodetic-2d", "polygon": ring}]}))
+        self.assertIn("code 15, NotNewer", self.sync("--dry-run")[2])
+
     def test_what_makes_a_difference(self) -> None:
         name, uris = [{"lang": "en", "text": "A"}], [*A["uri"], "tel:911"]
         changes = [{"expires": "NO-CACHE"}, {"serviceNumber": "911"}, {"displayName": name}, {"service": "urn:service:sos"}]

@@ -6,7 +6,9 @@ import json
 import unittest
 from typing import Any, Dict
 
-from maptools.desk_rules import EDITS, MOST_MAPPINGS, MOST_TRACES, Book, apply_edit, edit_fault, empty_book
+from maptools.desk_rules import (
+    EDITS, GEODETIC, MOST_MAPPINGS, MOST_TRACES, Book, apply_edit, contents_of, edit_fault, empty_book, position_of,
+)  # fmt: skip
 from maptools.lines import read_line
 from maptools.refusals import ERRORS, REFUSALS, WARNINGS
 from tests.running import TOP
@@ -59,6 +61,60 @@ class Sessions(unittest.TestCase):
             self.assertIn(f"\n| {code} | {refusal.name} |", text)
         for name in (*ERRORS, *WARNINGS):
             self.assertIn(f"\n| `{name}` |", text)
+
+
+# Texts and the positions that they spell.
+POSITIONS = [
+    ("0.5 -0.0000001", (5_000_000, -1)),
+    ("0.5000000   -000.0000001", (5_000_000, -1)),
+    ("-0 -0.0", (0, 0)),
+    ("-0.5 007.25", (-5_000_000, 72_500_000)),
+    ("90 -180.0000000", (900_000_000, -1_800_000_000)),
+]
+# Texts that are out of range or spell no position.
+NO_POSITIONS = [
+    "90.0000001 0", "0 -180.0000001", "", "0", "0 ", ".5 0", "1. 0", "0.50000000 0", " 0 0", "0 0 ", "0 0 0", "+1 0", "0001 0", "1e1 0",
+    "0\t0", "0,0", "0 0\n", "- 0", "--1 0", "\u0661 0", "0\u00a00", "5000000,5000000", "0 0x",
+]
+# Three spellings of one ring, and a ring that is one unit beside it.
+RINGS = [
+    [[0, 0], [0, 10_000_000], [10_000_000, 5_000_000], [0, 0]],
+    ["0 0", "0 1", "1 0.5", "-0 0.0"],
+    ["0.0 0", [0, 10_000_000], "1.0000000  0.5", [0, 0]],
+]
+RING_BESIDE = ["0 0", "0 1.0000001", "1 0.5", "0 0"]
+
+
+def located(day: int, ring: Any) -> Dict[str, Any]:
+    """A mapping of a ring."""
+    mapping = {**edit_of("publish", "map.example", "A", DAY % (day, "")), "key": "A-1", "default": False}
+    return {**mapping, "serviceBoundary": [{"polygon": ring, "profile": GEODETIC}]}
+
+
+class Positions(unittest.TestCase):
+    """Positions as text."""
+
+    def test_what_a_text_spells(self) -> None:
+        for text, position in POSITIONS:
+            self.assertEqual(position_of(text), position, text)
+        for text in NO_POSITIONS:
+            self.assertIsNone(position_of(text), text)
+
+    def test_a_text_that_is_no_position_makes_no_region(self) -> None:
+        for text in NO_POSITIONS:
+            fault = edit_fault(empty_book(), "publish", located(1, ["0 0", [0, 1], text, "1 1", [0, 0]]))
+            self.assertEqual(None if fault is None else fault.code, 9, text)
+
+    def test_a_ring_in_any_spelling_is_the_same_region(self) -> None:
+        book = empty_book()
+        for day, ring in enumerate(RINGS, 1):
+            value = located(day, ring)
+            self.assertEqual(contents_of(value, GEODETIC), RINGS[:1])
+            kind = "replace" if book.held else "publish"
+            self.assertIsNone(edit_fault(book, kind, value))
+            apply_edit(book, kind, value)
+        fault = edit_fault(book, "replace", located(9, RING_BESIDE))
+        self.assertEqual(None if fault is None else fault.code, 17)
 
 
 DAY = "2025-12-0%dT00:00:00%sZ"

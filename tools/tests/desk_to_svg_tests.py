@@ -3,11 +3,13 @@ from __future__ import annotations
 
 import json
 import random
+import re
 import unittest
 import xml.etree.ElementTree as ElementTree
 from typing import Any, List, Tuple
 
 from maptools.places import belonging, edges_of, is_inside
+from maptools.units import text_of
 from tests.running import found_in, lostd, question, read, replay, run_tool
 
 SVG = "{http://www.w3.org/2000/svg}"
@@ -95,6 +97,16 @@ class Pictures(unittest.TestCase):
             self.assertIn(text, texts)
         units = self.texts(self.draw("--units", "--point", "5000000,10000000", given=read("svg/two-squares.jsonl"))[1])
         self.assertIn("1: 0.5, 1: map.example east (sos.police)", units)
+
+    def test_positions_as_text_are_drawn_as_pairs_are(self) -> None:
+        lines = read("svg/two-squares.jsonl").splitlines()
+        lines.append(question(5_000_000, 10_000_000).rstrip("\n"))
+        pairs = re.compile(r"\[(-?[0-9]+), ?(-?[0-9]+)\]")
+        texts = [pairs.sub(lambda pair: f'"{text_of((int(pair[1]), int(pair[2])))}"', line) for line in lines]
+        self.assertIn('"pos": "0.5 1"', texts[-1])
+        status, output, said = run_tool("desk-to-svg", [], "\n".join(texts))
+        self.assertEqual((status, said), (0, ""))
+        self.assertEqual(output, run_tool("desk-to-svg", [], "\n".join(lines))[1])
 
     def test_one_solid_and_one_dashed_path_for_each_mapping(self) -> None:
         picture = self.draw(given=read("svg/two-squares.jsonl"))[1]

@@ -7,7 +7,7 @@ import os
 import unittest
 from typing import Any, Dict, List
 
-from maptools.desk_rules import apply_edit, edit_fault, empty_book
+from maptools.desk_rules import apply_edit, contents_of, edit_fault, empty_book
 from tests.running import CASES, found_in, lostd, question, read, replay, run_tool
 
 COMMON = read("geojson/common.args").splitlines()
@@ -167,6 +167,16 @@ class Limits(unittest.TestCase):
         keys = [json.loads(run_tool("geojson-to-desk", words, text)[1])["publish"]["key"] for text in texts]
         self.assertEqual(keys[0], keys[1])
         self.assertNotEqual(keys[0], keys[2])
+
+    def test_positions_as_text_are_the_shortest_and_the_key_stays(self) -> None:
+        words = [word for pair in zip(COMMON[::2], COMMON[1::2]) if pair[0] != "--key" for word in pair]
+        ring = [[0, 0], [-1e-7, 0.5], [-180, 90], [-12.25, -0.05], [100, 10.0], [0.00000024, -1e-8], [0, 0]]
+        texts = ["0 0", "0.5 -0.0000001", "90 -180", "-0.05 -12.25", "10 100", "0 0.0000002", "0 0"]
+        text = collection([feature([ring])])
+        pairs, decimal = (json.loads(run_tool("geojson-to-desk", [*words, *more], text)[1])["publish"] for more in ([], ["--decimal"]))
+        self.assertEqual(decimal["serviceBoundary"], [{"polygon": texts, "profile": "geodetic-2d"}])
+        self.assertEqual({**decimal, "serviceBoundary": pairs["serviceBoundary"]}, pairs)
+        self.assertEqual(contents_of(decimal, "geodetic-2d"), contents_of(pairs, "geodetic-2d"))
 
     def test_replace_lines_follow_publish_lines(self) -> None:
         text = collection([feature([[[0, 0], [1, 0], [1, 1], [0, 0]]])])

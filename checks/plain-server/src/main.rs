@@ -3,6 +3,7 @@
 mod answer;
 mod book;
 mod civic;
+mod degrees;
 mod desk;
 mod grid;
 mod lines;

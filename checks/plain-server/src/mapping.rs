@@ -126,7 +126,7 @@ fn read_region(item: &Tree) -> Option<Region<Ring, Pattern>> {
             let items = item.get("polygon")?.items()?;
             let positions = items
                 .iter()
-                .map(|item| Point::new(item.pair()?))
+                .map(|item| Point::new(item.position()?))
                 .collect::<Option<Vec<_>>>()?;
             Ring::new(positions).map(Region::Ring)
         }

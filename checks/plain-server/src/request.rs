@@ -153,7 +153,10 @@ fn read_point<'a>(item: &'a Members<'a>) -> Result<Place<'a>, LocationFault> {
     if !matches!(system, Ok(None | Some("urn:ogc:def:crs:EPSG::4326"))) {
         return Err(LocationFault::SrsInvalid);
     }
-    let point = item.get("pos").and_then(Tree::pair).and_then(Point::new);
+    let point = item
+        .get("pos")
+        .and_then(Tree::position)
+        .and_then(Point::new);
     let point = point.ok_or(LocationFault::LocationInvalid)?;
     Ok(Place::Point(point.normal()))
 }

@@ -1,6 +1,7 @@
 //! The value of a line of JSON: what `serde_json::Value` is, but texts borrow from the line, the members of an object stand
 //! in a list, and a pair of whole numbers takes no memory of its own.
 
+use crate::degrees;
 use serde::de::{Deserialize, Deserializer, Error, MapAccess, SeqAccess, Visitor};
 use std::borrow::Cow;
 use std::collections::BTreeMap;
@@ -49,10 +50,11 @@ impl<'a> Tree<'a> {
         }
     }
 
-    /// The two whole numbers of a list.
-    pub fn pair(&self) -> Option<(i64, i64)> {
+    /// The two numbers of a position, in range or not: a list of two whole numbers, or a text of degrees.
+    pub fn position(&self) -> Option<(i64, i64)> {
         match self {
             Tree::Pair(first, second) => Some((*first, *second)),
+            Tree::Text(text) => degrees::position(text),
             _ => None,
         }
     }
