@@ -5,21 +5,21 @@ use crate::request::ReadError;
 use serde_json::{Map, Value};
 
 /// The most bytes that the tree of a desk line may take, and that of a request.
-const MAX_DESK_TREE: usize = 8_000_000;
+const MAX_DESK_TREE: usize = 11_000_000;
 
-const MAX_REQUEST_TREE: usize = 2_000_000;
+const MAX_REQUEST_TREE: usize = 1_200_000;
 
 /// A list in a tree has at most so many items, so that no one piece of memory is large.
 const MAX_ITEMS: usize = 65_536;
 
-/// A list begins with room for so many items: those of a position.
-pub(crate) const FIRST_ROOM: usize = 2;
+/// A list begins with room for so many items. With fewer, glibc would keep its memory.
+pub(crate) const FIRST_ROOM: usize = 4;
 
 /// What a value takes in a list, what a list and a text take beside their contents, and what the first member of an object
 /// and each further one take at most, in bytes.
 const VALUE: usize = 32;
 
-const BESIDE: usize = 24;
+const BESIDE: usize = 32;
 
 const FIRST_MEMBER: usize = 960;
 
