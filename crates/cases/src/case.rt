@@ -3,7 +3,8 @@ use crate::book_cases::Shelf;
 use crate::fields::Fields;
 use crate::trouble::Trouble;
 use crate::{
-    civic_cases, geo_cases, line_cases, mapping_cases, stamp_cases, tokens_cases, urn_cases,
+    civic_cases, geo_cases, line_cases, mapping_cases, stamp_cases, token_cases, tokens_cases,
+    urn_cases,
 };
 use std::alloc::Global;
 
@@ -30,6 +31,7 @@ fn said(alloc: Global, shelf: &mut Shelf, fields: &Fields) -> Result<String, Tro
         "book" => shelf.said(alloc, call, fields),
         "reply" => line_cases::reply(alloc, shelf.book()?, fields.bytes(1)?),
         "line" => line_cases::said(alloc, call, fields),
+        "token" => token_cases::said(alloc, call, fields),
         "tokens" => tokens_cases::said(alloc, call, fields),
         _ => stamp_cases::said(alloc, call, fields),
     }

@@ -16,6 +16,7 @@ mod mapping_cases;
 mod spelling;
 mod stamp_cases;
 mod tables;
+mod token_cases;
 mod tokens_cases;
 mod trouble;
 mod urn_cases;
