@@ -150,22 +150,6 @@ impl Regions {
         self.references.take(number);
     }
 
-    /// The numbers with a polygon that has the point inside (RFC 5222, section 12.2), rising.
-    pub fn at_point(&self, point: &GeoPoint) -> Result<Vec<u64>, AllocError>
-        ensures { IfOk result (λ numbers. numbers.items ≡ holders inside point.now self.now.points) }
-    {
-        // A local copy is not read anew for each region.
-        let place = *point;
-        self.points.holding(&place)
-    }
-
-    /// The numbers with a pattern that matches the address (RFC 5222, section 12.3), rising.
-    pub fn at_address(&self, address: &CivicAddress) -> Result<Vec<u64>, AllocError>
-        ensures { IfOk result (λ numbers. numbers.items ≡ holders matches address.now self.now.addresses) }
-    {
-        self.addresses.holding(address)
-    }
-
     /// Numbers with a polygon that may have the point inside, rising, each once. Each number with a polygon that has is
     /// among them (RFC 5222, section 12.2). No polygon is asked.
     pub fn near_point(&self, point: &GeoPoint) -> Result<Vec<u64>, AllocError>
@@ -174,7 +158,7 @@ impl Regions {
         ensures held { IfOk result (λ near. All (λ number. IsHeld number self.now.points) near.items) }
         ensures rising { IfOk result (λ near. IsStrictlyIncreasing near.items) }
     {
-        // A copy of its own is not read anew for each region.
+        // A local copy is not read anew for each note.
         let place = *point;
         self.points.near(&place)
     }
