@@ -1,2 +1,3 @@
 pub mod PlainLemmas
 pub mod RowLemmas
+pub mod TownLemmas

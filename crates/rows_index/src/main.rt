@@ -5,6 +5,7 @@
 //! - `covers`: the cells of rings, and those under which a point is looked up.
 //! - `index`: a row of edits of the map's index. A step to which memory is refused is made again.
 //! - `civic`: questions on civic keys, from standard input.
+//! - `towns`: indexes of civic patterns, beside a scan, where outlines refuse most patterns.
 //! - `tens`: the same row over whole numbers that are kept by their tens, and random runs beside a scan.
 //! - `edits`, `many-edits`: ten thousand edits, or a million, over a thousand such numbers, and then the same scan.
 //! - `chunks`: a list in chunks, edited beside a plain list.
@@ -23,6 +24,7 @@ mod rings;
 mod row;
 mod tens;
 mod tokens;
+mod towns;
 
 use lost_grid::Geodetic2d;
 use lost_profile::Tokens;
@@ -32,10 +34,11 @@ use std::{env, io};
 use tens::profile::Tens;
 
 /// The commands.
-const COMMANDS: [&str; 10] = [
+const COMMANDS: [&str; 11] = [
     "covers",
     "index",
     "civic",
+    "towns",
     "tens",
     "edits",
     "many-edits",
@@ -64,7 +67,7 @@ fn main(rt: HostRuntime) -> io::Result<ExitCode> {
         return Ok(status);
     }
     eprintln!(rt;
-        "rows_index: give one or more of the words covers, index, civic, tens, edits, many-edits, chunks, tokens, calls, prepared"
+        "rows_index: give one or more of the words covers, index, civic, towns, tens, edits, many-edits, chunks, tokens, calls, prepared"
     )?;
     Ok(ExitCode::from(COMMAND_LINE))
 }
@@ -76,6 +79,7 @@ fn run<R: Input + Print + AllocGlobal>(rt: &R, command: &str) -> io::Result<bool
         "covers" => covers::print_all(rt)?,
         "index" => row::print_all::<R, Geodetic2d>(rt)?,
         "civic" => civic::print_answers(rt)?,
+        "towns" => return towns::print_all(rt),
         "tens" => {
             row::print_all::<R, Tens>(rt)?;
             return tens::runs::print_runs(rt);
