@@ -161,12 +161,12 @@ def read_redis(text: str) -> Read:
     """How lostd compares with redis over TCP, how much more four workers answer, and what idle connections cost."""
     ratio = r"(\d+\.\d\d) \(\d+\.\d\d to \d+\.\d\d\)"
     (mappings, version), = rows(r"(\d+) mappings, \d+ questions, redis (\S+): .+", text, 1)
-    beside = rows(rf"(\d+) connections?, depth (\d+): lostd (\d+) replies a second by .+, redis (\d+) by .+; {ratio} of redis.*", text, 4)
+    beside = rows(rf"(\d+) connections?, depth (\d+): lostd (\d+) replies a second by .+, redis (\d+) by .+; {ratio} of redis, (\d+\.\d\d) by processor time.*", text, 4)
     four = rf"four workers, \d+ connections, depth (\d+): \d+ replies a second, one \d+, (.+); {ratio} times one.*"
     workers = [] if re.search("^four workers: not measured", text, re.MULTILINE) else rows(four, text, 2)
     (idle, busy, share), = rows(rf"(\d+) idle connections beside (\d+) connections, depth 1: .+; {ratio} times as many.*", text, 1)
-    lines = [[connections, depth, count(mine), count(its), times] for connections, depth, mine, its, times in beside]
-    first = table(["Connections", "Requests at a time", "lostd, replies a second", "redis", "Ratio"], lines)
+    lines = [[connections, depth, count(mine), count(its), *ratios] for connections, depth, mine, its, *ratios in beside]
+    first = table(["Connections", "Requests at a time", "lostd, replies a second", "redis", "Ratio", "By processor time"], lines)
     said = " and ".join(f"{times} times ({depth} at a time)" for depth, _, times in workers)
     more = f" Four workers, {workers[0][1]}, answer 64 connections {said} as fast as one." if workers else ""
     return (

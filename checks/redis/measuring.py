@@ -110,6 +110,11 @@ def middle(turns):
     return f"{turns.ratio():.2f} ({ratios[0]:.2f} to {ratios[-1]:.2f})"
 
 
+def by_time(rates, shares):
+    """The rates for each second of processor time."""
+    return Turns([[rate / max(share, 1e-9) for rate, share in zip(*pairs)] for pairs in zip(rates.pairs, shares.pairs)])
+
+
 class Told:
     """Prints what is measured, each with what is wanted of it, and counts what is missed."""
 
@@ -130,7 +135,7 @@ def compare_with_redis(bench, sides, told):
         (mine, its), (busy, its_busy) = rates.middles(), shares.middles()
         told.tell(
             f"{count_of(plan)}: lostd {mine:.0f} replies a second by {busy:.2f} of its core, redis {its:.0f} by {its_busy:.2f};"
-            f" {middle(rates)} of redis", rates.ratio(), plan.least)
+            f" {middle(rates)} of redis, {by_time(rates, shares).ratio():.2f} by processor time", rates.ratio(), plan.least)
         if plan.connections == BUSY and min(busy, its_busy) < LEAST_BUSY:
             print(f"note: a server waited over {count_of(plan)}: it had too few requests, or its core other work", flush=True)
 
