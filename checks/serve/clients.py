@@ -1,7 +1,8 @@
-"""Clients of a live history: each is a process that asks over one connection after another, and keeps what it was told."""
+"""Clients of a live history: each asks over one connection after another, and keeps what it was told."""
 import os
 import pickle
 import random
+import threading
 import time
 import traceback
 from collections import deque
@@ -167,16 +168,25 @@ class Client:
         )
 
 
-def be_client(number, run, line):
-    """What the process of a client does; `line` is told what was counted."""
-    client = Client(number, run)
+def be_client(client):
+    """What a client does; what went wrong is one of its differences."""
     try:
         client.ask_all()
     except Ended as ended:
-        client.differences.add(f"connection {client.connections} of client {number}: {ended}")
+        client.differences.add(f"connection {client.connections} of client {client.number}: {ended}")
     except Exception:
-        client.differences.add(f"client {number}: {traceback.format_exc()}")
-    line.send(client.counted())
+        client.differences.add(f"client {client.number}: {traceback.format_exc()}")
+
+
+def be_clients(numbers, run, line):
+    """What the process of some clients does, with a thread for each; `line` is told what they counted."""
+    clients = [Client(number, run) for number in numbers]
+    threads = [threading.Thread(target=be_client, args=(client,)) for client in clients]
+    for thread in threads:
+        thread.start()
+    for thread in threads:
+        thread.join()
+    line.send([client.counted() for client in clients])
     line.close()
     os._exit(0)
 

@@ -6,7 +6,7 @@ import time
 from clients import CHAPTER_SECONDS, LIVES, Run
 from connections import ended_by_server
 from drawing import history
-from live import FORK, REQUESTS, committed, start_clients, tell
+from live import FORK, REQUESTS, committed, counted_by, start_clients, tell
 from members import only_member
 from plain_lines import LIST, differs, publish, services_reply
 from server import BAD_LINE, COMMIT, Ended, Standing
@@ -113,9 +113,7 @@ def killed_in_mid_line(program, is_long):
         run = Run(server.queries, chapters, time.monotonic(), seconds, int(seconds * 10), SEED, folder, told, LIVES)
         started = start_clients(run, CLIENTS)
         wrong = live_desks(server, run, books)
-        counted = [line.recv() for _, line in started]
-        for process, _ in started:
-            process.join()
+        counted = counted_by(started)
         wrong += counted_as(server, books, counted)
         wrong += [line for line in server.said() if "desk connection" not in line]
         return wrong + ([] if tell(books, [], counted, run.passed(), chapters, folder) else ["replies differ"])

@@ -4,7 +4,7 @@ import tempfile
 import time
 
 import search
-from clients import CHAPTER_SECONDS, LIVES, Run, be_client, replies_kept
+from clients import CHAPTER_SECONDS, LIVES, Run, be_clients, replies_kept
 from drawing import history
 from mappings import holds
 from server import Server
@@ -13,6 +13,7 @@ from verdicts import Books, Question
 WORKERS = 4
 REQUESTS = 150
 GROUPS = 40
+PROCESSES = 16
 CONNECTIONS_A_SECOND = 2
 FORK = multiprocessing.get_context("fork")
 
@@ -56,15 +57,23 @@ def committed(reply, before):
 
 
 def start_clients(run, clients):
-    """Starts the clients; each process, with the line on which it tells what it counted."""
+    """Starts the clients, dealt to some processes; each process, with the line on which it tells what they counted."""
     started = []
-    for number in range(clients):
+    for first in range(min(clients, PROCESSES)):
         line, other = FORK.Pipe(duplex=False)
-        process = FORK.Process(target=be_client, args=(number, run, other), daemon=True)
+        process = FORK.Process(target=be_clients, args=(range(first, clients, PROCESSES), run, other), daemon=True)
         process.start()
         other.close()
         started.append((process, line))
     return started
+
+
+def counted_by(started):
+    """What each client counted, once all have ended."""
+    counted = [one for _, line in started for one in line.recv()]
+    for process, _ in started:
+        process.join()
+    return counted
 
 
 def judge(books, chapters, folder, clients):
@@ -91,9 +100,7 @@ def run_live(program, seconds, clients, seed):
         run = Run(server.queries, chapters, time.monotonic(), seconds, each, seed, folder, told, LIVES)
         started = start_clients(run, clients)
         desk_lines = play_desk(server, run, desk)
-        counted = [line.recv() for _, line in started]
-        for process, _ in started:
-            process.join()
+        counted = counted_by(started)
         passed = run.passed()
         server.made = sum(one.connections for one in counted)
         books = Books()

@@ -9,7 +9,7 @@ import time
 
 from clients import CHAPTER_SECONDS, SHORT_LIVES, Run
 from drawing import Chapter, history, long_requests
-from live import FORK, committed, start_clients, tell
+from live import FORK, committed, counted_by, start_clients, tell
 from plain_lines import LIST, publish, stamp, withdraw
 from places import ELEMENTS
 from server import COMMIT, Ended, Server
@@ -148,9 +148,7 @@ def run_scarce(program, megabytes, seconds, clients, seed):
                 desk.play()
             except Ended as ended:
                 books.differences.add(f"the desk's connection: {ended}")
-            counted = [line.recv() for _, line in started]
-            for process, _ in started:
-                process.join()
+            counted = counted_by(started)
             passed = run.passed()
             server.made = sum(one.connections for one in counted)
             end_scarce(server, desk, counted, books.differences)
