@@ -2,6 +2,7 @@
 
 Each reader gives the section's Markdown, and the figures in it that README shows too, by the words of their rows there.
 """
+import re
 from typing import Callable, Dict, List, NamedTuple, Tuple
 
 from figures import count, megabytes, micro, milli, parts, rows, seconds, table, times
@@ -156,6 +157,25 @@ def read_gateway(text: str) -> Read:
     return table(["Processes", "Answers a second", "Share of a fixed body's", "99 of 100 within, ms"], lines), {}
 
 
+def read_redis(text: str) -> Read:
+    """How lostd compares with redis over TCP, how much more four workers answer, and what idle connections cost."""
+    ratio = r"(\d+\.\d\d) \(\d+\.\d\d to \d+\.\d\d\)"
+    (mappings, questions, version), = rows(r"(\d+) mappings, (\d+) questions, redis (\S+): .+", text, 1)
+    beside = rows(rf"(\d+) connections?, depth (\d+): lostd (\d+) replies a second by .+, redis (\d+) by .+; {ratio} of redis, (\d+\.\d\d) by processor time.*", text, 4)
+    four = rf"four workers, \d+ connections, depth (\d+): \d+ replies a second, one \d+, (.+); {ratio} times one.*"
+    workers = [] if re.search("^four workers: not measured", text, re.MULTILINE) else rows(four, text, 2)
+    (idle, busy, share), = rows(rf"(\d+) idle connections beside (\d+) connections, depth 1: .+; {ratio} times as many.*", text, 1)
+    lines = [[connections, depth, count(mine), count(its), *ratios] for connections, depth, mine, its, *ratios in beside]
+    first = table(["Connections", "Requests at a time", "lostd, replies a second", "redis", "Ratio", "By processor time"], lines)
+    said = " and ".join(f"{times} times ({depth} at a time)" for depth, _, times in workers)
+    more = f" Four workers, {workers[0][1]}, answer 64 connections {said} as fast as one." if workers else ""
+    return (
+        f"One worker and redis {version}, each on one core; {count(questions)} points all over {count(mappings)} mappings."
+        " A GET has as many bytes as a request, and a value as a reply.\n\n"
+        f"{first}\n\n{count(idle)} idle connections beside {busy} leave {share} of the replies.{more}"
+    ), {}
+
+
 class Section(NamedTuple):
     """A section of the page: its title, the program that is run with words, and what reads its output."""
 
@@ -178,6 +198,7 @@ SECTIONS = [
     Section("Desk", "bench_desk", ["measure"], read_desk),
     Section("Cache", "bench_desk", ["cache", "measure"], read_cache),
     Section("Connections", "bench_serve", ["measure"], read_serve),
+    Section("Beside redis", "checks/redis/run", [], read_redis, "lostd"),
     Section("Memory", "checks/resident-memory/run", [], read_memory, "bench_lines"),
     Section("A large map", "checks/benchmarks/loaded-server", [], read_loaded, "lostd"),
     Section("Gateway", "checks/gateway/run", ["--speed"], read_gateway, "lostd"),

@@ -35,6 +35,7 @@ def edited(share: int) -> List[str]:
     return [f"{edit}: 8000 and 9600 nanoseconds at 1,024 and 60,025 mappings, {rounds}" for edit in EDITS]
 
 
+CORES = "each on a core that it shares with the load, since there are 4"
 EMPTIED = "holding, the caches emptied before each question"
 PRINTED: Dict[str, Dict[str, List[str]]] = {
     "bench_lines": {
@@ -73,6 +74,25 @@ PRINTED: Dict[str, Dict[str, List[str]]] = {
                     ": half of the commits answered within 90000 nanoseconds, 99 of a hundred within 290000, all within 400000",
                 )
             ],
+        ],
+    },
+    "redis": {
+        "": [
+            "1000 mappings, 10000 questions, redis 7.0.15: requests of 124 and 124 bytes, replies of 355 and 361",
+            *[
+                f"{peers}, depth {depth}: lostd 45678 replies a second by 0.51 of its core, redis 54321 by 0.49; 0.84 (0.80 to 0.88) of redis, 0.81 by processor time{wanted}"
+                for peers, depth, wanted in (
+                    ("1 connection", 1, "; met: at least 0.8"), ("1 connection", 16, "; MISSED: at least 0.85"),
+                    ("64 connections", 1, "; met: at least 0.6"), ("64 connections", 16, ""),
+                )
+            ],
+            "note: a server waited over 64 connections, depth 16: it had too few requests, or its core other work",
+            *[
+                f"four workers, 64 connections, depth {depth}: 200000 replies a second, one 58000, {CORES}; 3.{depth:02} (3.00 to 3.70) times one; met: at least 3.0"
+                for depth in (1, 16)
+            ],
+            "10000 idle connections beside 64 connections, depth 1: 49000 replies a second, without them 50000; 0.98 (0.97 to 1.01) times as many; met: at least 0.9",
+            "1 missed",
         ],
     },
     "resident-memory": {"": ["60000 boundaries: 260000000 bytes of desk lines, at most 442000000 bytes resident; 1.70 times"]},
@@ -133,11 +153,12 @@ class Benchmarks(unittest.TestCase):
     def test_all_sections_and_the_rows_of_readme(self) -> None:
         self.assertEqual(self.run_check(), (0, ""))
         page = self.read("docs/BENCHMARKS.md")
-        self.assertEqual(re.findall("^## (.*)$", page, re.M), ["Lines", "Lines a second", "Index", "Desk", "Cache", "Connections", "Memory", "A large map", "Gateway"])
+        self.assertEqual(re.findall("^## (.*)$", page, re.M), ["Lines", "Lines a second", "Index", "Desk", "Cache", "Connections", "Beside redis", "Memory", "A large map", "Gateway"])
         for row in (
             "| `findService`, found | 3.4 | 12 | 1.03 |", "One thread, squares. 10 mappings: 701,000; 100 mappings: 701,000; 1,000 mappings: 701,000.", "| the same points | 0.7 | 0.9 | 1.25 |",
             "| withdrawal | 8.0 | 9.6 | 1.22 |", "| 16 | 58,000 | 66,000 | 1,510,000 |", "| 60,000 | 21 | 27 | 290 |",
-            "| one | 3,360 | 0.55 | 15.0 |",
+            "| one | 3,360 | 0.55 | 15.0 |", "| 1 | 16 | 45,700 | 54,300 | 0.84 | 0.81 |", "| 64 | 1 | 45,700 | 54,300 | 0.84 | 0.81 |",
+            f"10,000 idle connections beside 64 leave 0.98 of the replies. Four workers, {CORES}, answer 64 connections 3.01 times (1 at a time) and 3.16 times (16 at a time) as fast as one.",
         ):
             self.assertIn(f"\n{row}\n", page)
         self.assertEqual([row.rsplit("|", 2)[1].strip() for row in self.rows()], ["12 µs", "12 µs", "3.4 s", "1,510,000 a second", "0.29 ms"])
@@ -159,6 +180,19 @@ class Benchmarks(unittest.TestCase):
         page = self.read("docs/BENCHMARKS.md")
         self.assertNotIn("of a 286", page)
         self.assertEqual(re.findall("^## (.*)$", page, re.M), ["Index"])
+
+    def test_redis_on_few_cores(self) -> None:
+        lines = [line for line in PRINTED["redis"][""] if not line.startswith("four workers")]
+        with_programs(self.folder, {"redis": {"": [*lines, "four workers: not measured, since there are 2 cores"]}})
+        self.assertEqual(self.run_check("--only", "beside redis"), (0, ""))
+        self.assertRegex(self.read("docs/BENCHMARKS.md"), r"(?m)^10,000 idle connections beside 64 leave 0\.98 of the replies\.$")
+        with_programs(self.folder, {"redis": {"": lines}})
+        status, said = self.run_check("--only", "beside redis")
+        self.assertEqual((status, len(said.splitlines())), (1, 1), said)
+
+    def test_a_section_that_was_never_measured_is_left_out(self) -> None:
+        self.assertEqual(self.run_check("--only", "index"), (0, ""))
+        self.assertEqual(re.findall("^## (.*)$", self.read("docs/BENCHMARKS.md"), re.M), ["Index"])
 
     def test_mistakes(self) -> None:
         self.assertEqual(self.run_check("--only", "no such section")[0], 2)
