@@ -160,7 +160,7 @@ def read_gateway(text: str) -> Read:
 def read_redis(text: str) -> Read:
     """How lostd compares with redis over TCP, how much more four workers answer, and what idle connections cost."""
     ratio = r"(\d+\.\d\d) \(\d+\.\d\d to \d+\.\d\d\)"
-    (mappings, version), = rows(r"(\d+) mappings, \d+ questions, redis (\S+): .+", text, 1)
+    (mappings, questions, version), = rows(r"(\d+) mappings, (\d+) questions, redis (\S+): .+", text, 1)
     beside = rows(rf"(\d+) connections?, depth (\d+): lostd (\d+) replies a second by .+, redis (\d+) by .+; {ratio} of redis, (\d+\.\d\d) by processor time.*", text, 4)
     four = rf"four workers, \d+ connections, depth (\d+): \d+ replies a second, one \d+, (.+); {ratio} times one.*"
     workers = [] if re.search("^four workers: not measured", text, re.MULTILINE) else rows(four, text, 2)
@@ -170,7 +170,8 @@ def read_redis(text: str) -> Read:
     said = " and ".join(f"{times} times ({depth} at a time)" for depth, _, times in workers)
     more = f" Four workers, {workers[0][1]}, answer 64 connections {said} as fast as one." if workers else ""
     return (
-        f"One worker and redis {version}, each on one core, {count(mappings)} mappings. A GET has as many bytes as a request, and a value as a reply.\n\n"
+        f"One worker and redis {version}, each on one core; {count(questions)} points all over {count(mappings)} mappings."
+        " A GET has as many bytes as a request, and a value as a reply.\n\n"
         f"{first}\n\n{count(idle)} idle connections beside {busy} leave {share} of the replies.{more}"
     ), {}
 
