@@ -67,7 +67,7 @@ def parser(description: str) -> argparse.ArgumentParser:
     servers = {"type": checked(servers_of), "metavar": "HOST:PORT[,HOST:PORT..]"}
     add("--lostd", required=True, help="the --queries addresses of the servers behind, the preferred one first", **servers)
     pool = {"type": number_between(1, 64, int), "default": 2, "metavar": "N"}
-    add("--pool", help="connections from each process to each server (2); lostd needs as many --workers as all of them", **pool)
+    add("--pool", help="connections from each process to each server (2); a server with --connections needs as many --workers as all of them", **pool)
     processes = {"type": number_between(1, 256, int), "default": 1, "metavar": "N"}
     add("--processes", help="how many processes share the work (1); more than one for each core does not help", **processes)
     timeout = {"type": number_between(0.05, 600, float), "default": 2.0, "metavar": "SECONDS"}
