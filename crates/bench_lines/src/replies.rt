@@ -27,12 +27,14 @@ pub(crate) enum Reply {
     ServicesAt,
     /// A boundary.
     Boundary,
+    /// The line would take more memory than a line may.
+    InternalError,
     /// Any other reply.
     Other,
 }
 
 /// Each kind, its words, and a text that such a reply has and no reply of a later kind has.
-pub(crate) const KINDS: [(Reply, &str, &str); 13] = [
+pub(crate) const KINDS: [(Reply, &str, &str); 14] = [
     (Reply::Staged, "staged", "{\"staged\":"),
     (Reply::Committed, "committed", "{\"committed\":"),
     (Reply::Refused, "refused", "{\"refused\":"),
@@ -72,6 +74,11 @@ pub(crate) const KINDS: [(Reply, &str, &str); 13] = [
         Reply::Boundary,
         "boundaries",
         "\"serviceBoundary\":[{\"polygon\":[[",
+    ),
+    (
+        Reply::InternalError,
+        "internal errors",
+        "\"error\":\"internalError\"",
     ),
     (Reply::Other, "other", ""),
 ];

@@ -53,9 +53,9 @@ pub(crate) enum Task {
     WithdrawAgain,
     /// Ask for a service that nobody holds, in a line of 1 MiB.
     Filled,
-    /// Publish a mapping with too many URIs, in a line of 1 MiB.
+    /// Publish a mapping with more URIs than a line has memory for, in 1 MiB.
     ManyUris,
-    /// Ask with too many locations, in a line of 1 MiB.
+    /// Ask with more locations than a line has memory for, in 1 MiB.
     ManyLocations,
 }
 
@@ -105,8 +105,7 @@ impl Task {
             | Task::Turnover
             | Task::PublishAgain
             | Task::WithdrawAgain => reply == Reply::Staged || reply == Reply::Committed,
-            Task::ManyUris => reply == Reply::Refused,
-            Task::ManyLocations => reply == Reply::BadRequest,
+            Task::ManyUris | Task::ManyLocations => reply == Reply::InternalError,
         }
     }
 
