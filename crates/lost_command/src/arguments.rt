@@ -44,9 +44,9 @@ code and the cause, as `lostd check` does. If a line is refused, or no commit fo
 with status 3 before it listens. With --keep-going it starts with the edits that were accepted and committed. The \
 server saves nothing: give it its map at each start.\n\n\
 Without --connections the server runs until a signal ends it. Desks are served one after another: a second desk waits \
-until the first has ended. A desk is disconnected if it sends no whole line in the first 10 seconds of its turn, or \
-for 10 seconds while another waits, or if it speaks HTTP or TLS. Edits without a commit are dropped when the desk's \
-connection ends. With --connections N the server serves one desk connection and N query connections. When all have \
+until the first has ended. A desk is disconnected if it sends no whole line in the first 10 seconds of its turn; if, \
+while another waits, it sends no whole line or takes no reply for 10 seconds; or if it speaks HTTP or TLS. Edits \
+without a commit are dropped when the desk's connection ends. With --connections N the server serves one desk connection and N query connections. When all have \
 ended, it prints `done lines=L faults=F`: how many lines it answered, and how many query connections ended in a \
 fault.\n\n\
 Each worker watches many connections and answers lines as they come; a slow client keeps nobody waiting. A client \

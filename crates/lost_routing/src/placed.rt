@@ -144,8 +144,7 @@ impl Store {
         })
     }
 
-    /// The mappings that are live, are no defaults, have this service or one above it and hold the point, or want of
-    /// memory.
+    /// The mappings that are live, are no defaults, have this service or one above it and hold the point.
     pub(crate) fn chain_at_point(
         &self,
         moment: &Moment,
@@ -160,8 +159,7 @@ impl Store {
         })
     }
 
-    /// The mappings that are live, are no defaults, have this service or one above it and hold the address, or want of
-    /// memory.
+    /// The mappings that are live, are no defaults, have this service or one above it and hold the address.
     pub(crate) fn chain_at_address(
         &self,
         moment: &Moment,
