@@ -5,7 +5,7 @@ Each reader gives the section's Markdown, and the figures in it that README show
 import re
 from typing import Callable, Dict, List, NamedTuple, Tuple
 
-from figures import count, megabytes, micro, milli, parts, rows, seconds, table, times
+from figures import Unexpected, count, megabytes, micro, milli, parts, rows, seconds, table, times
 
 FIND = "`findService` at a point, over 60,000 boundaries"
 VALIDATE = "Validation of an address, over 60,000 mappings"
@@ -176,6 +176,23 @@ def read_redis(text: str) -> Read:
     ), {}
 
 
+PLAIN_ROW = r" *([\d,]+)  (\S.*\S) {2,}(\S+) +(\S+) +(\d+\.\d\d)"
+
+
+def read_plain(text: str) -> Read:
+    """How lostd compares with a plain Rust server that reads the same lines and is not proved."""
+    heads = [line for line in text.splitlines() if line.startswith("Through replay")]
+    found = re.findall(f"^{PLAIN_ROW}$", text, re.MULTILINE)
+    sizes = list(dict.fromkeys(size for size, *_ in found))
+    names = list(dict.fromkeys(what for _, what, *_ in found))
+    ratios = {(size, what): ratio for size, what, _, _, ratio in found}
+    if len(heads) != 1 or not found or len(ratios) != len(found) or len(found) != len(sizes) * len(names):
+        raise Unexpected(f"{len(found)} rows of {len(sizes)} sizes")
+    lines = [[what.partition(",")[0] if what.startswith(("loading", "most")) else what, *(ratios[size, what] for size in sizes)] for what in names]
+    said = "`replay` beside a server of the same lines in plain Rust (checks/plain-server): lostd's figure as a share of its, by processor time. Questions: how many a second. Loading: the time. Most memory: the bytes."
+    return f"{said}\n\n{table(['Mappings', *sizes], lines)}", {}
+
+
 class Section(NamedTuple):
     """A section of the page: its title, the program that is run with words, and what reads its output."""
 
@@ -199,6 +216,7 @@ SECTIONS = [
     Section("Cache", "bench_desk", ["cache", "measure"], read_cache),
     Section("Connections", "bench_serve", ["measure"], read_serve),
     Section("Beside redis", "checks/redis/run", [], read_redis, "lostd"),
+    Section("Beside a plain server", "checks/plain-server/run", [], read_plain, "lostd"),
     Section("Memory", "checks/resident-memory/run", [], read_memory, "bench_lines"),
     Section("A large map", "checks/benchmarks/loaded-server", [], read_loaded, "lostd"),
     Section("Gateway", "checks/gateway/run", ["--speed"], read_gateway, "lostd"),

@@ -95,6 +95,17 @@ PRINTED: Dict[str, Dict[str, List[str]]] = {
             "1 missed",
         ],
     },
+    "plain-server": {
+        "": [
+            "Through replay, by processor time; the middle of 5 rounds in turn. Questions: how many a second.",
+            "mappings  what                           lostd       plain   lostd / plain",
+            *[
+                f"{size:>8}  {what:<24}{mine:>12}{its:>12}{ratio:>16}" for size, ratio in (("30", "0.61"), ("60,000", "1.52")) for what, mine, its in (
+                    ("loading, seconds", "0.120", "0.080"), ("most memory, megabytes", "1,204", "998"), ("points all over the map", "412,001", "398,123"),
+                )
+            ],
+        ],
+    },
     "resident-memory": {"": ["60000 boundaries: 260000000 bytes of desk lines, at most 442000000 bytes resident; 1.70 times"]},
     "loaded-server": {
         "": [
@@ -153,10 +164,11 @@ class Benchmarks(unittest.TestCase):
     def test_all_sections_and_the_rows_of_readme(self) -> None:
         self.assertEqual(self.run_check(), (0, ""))
         page = self.read("docs/BENCHMARKS.md")
-        self.assertEqual(re.findall("^## (.*)$", page, re.M), ["Lines", "Lines a second", "Index", "Desk", "Cache", "Connections", "Beside redis", "Memory", "A large map", "Gateway"])
+        self.assertEqual(re.findall("^## (.*)$", page, re.M), ["Lines", "Lines a second", "Index", "Desk", "Cache", "Connections", "Beside redis", "Beside a plain server", "Memory", "A large map", "Gateway"])
         for row in (
             "| `findService`, found | 3.4 | 12 | 1.03 |", "One thread, squares. 10 mappings: 701,000; 100 mappings: 701,000; 1,000 mappings: 701,000.", "| the same points | 0.7 | 0.9 | 1.25 |",
             "| withdrawal | 8.0 | 9.6 | 1.22 |", "| 16 | 58,000 | 66,000 | 1,510,000 |", "| 60,000 | 21 | 27 | 290 |",
+            "| Mappings | 30 | 60,000 |", "| loading | 0.61 | 1.52 |", "| most memory | 0.61 | 1.52 |", "| points all over the map | 0.61 | 1.52 |",
             "| one | 3,360 | 0.55 | 15.0 |", "| 1 | 16 | 45,700 | 54,300 | 0.84 | 0.81 |", "| 64 | 1 | 45,700 | 54,300 | 0.84 | 0.81 |",
             f"10,000 idle connections beside 64 leave 0.98 of the replies. Four workers, {CORES}, answer 64 connections 3.01 times (1 at a time) and 3.16 times (16 at a time) as fast as one.",
         ):
