@@ -180,6 +180,15 @@ class Pages(unittest.TestCase):
         version = subprocess.run([str(lostd()), "--version"], capture_output=True, timeout=10, check=True).stdout.decode()
         self.assertEqual(f"lostd {told['version']}\n", version)
 
+    def test_a_line_without_its_memory_is_counted(self) -> None:
+        places = [{"id": "p", "profile": "none"}] * 37_000
+        line = json.dumps({"findService": {"service": "urn:service:sos.police", "location": places}}, separators=(",", ":"))
+        with Server() as server:
+            reply = server.ask(f"{line}\n")
+            wait_until(lambda: json.loads(server.get("/status")[2])["replies"]["internalError"] == 1)
+        self.assertLess(len(line), 1_048_576)
+        self.assertEqual(reply["errors"]["error"], "internalError")
+
     def test_other_paths_and_methods(self) -> None:
         with Server() as server:
             self.assertEqual(server.get("/")[::2], (404, "/health\n/metrics\n/status\n"))

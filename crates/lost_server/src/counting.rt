@@ -2,7 +2,7 @@
 ghost use Rattle.std.specs.Prelude.{◌≡◌};
 
 use lost_desk::Desk;
-use lost_json::DeskReply;
+use lost_json::{DeskReply, internal_error};
 use lost_mapping::{Moment, Source};
 use lost_status::{Status, WorkerCounts};
 use lost_worker::{CachedReader, DeskWitness, Replier};
@@ -27,10 +27,18 @@ impl<S: BuildHasher + Drop> Replier for Counting<'_, '_, S> {
         moment: &Moment,
         line: &[u8],
     ) -> Result<Vec<u8>, AllocError> {
-        let reply = self.reader.reply_line(alloc, name, moment, line)?;
-        self.counts.count_reply(reply.as_slice());
-        self.counts.set_cache_hits(self.reader.hits());
-        Ok(reply)
+        match self.reader.reply_line(alloc, name, moment, line) {
+            Ok(reply) => {
+                self.counts.count_reply(reply.as_slice());
+                self.counts.set_cache_hits(self.reader.hits());
+                Ok(reply)
+            }
+            Err(refused) => {
+                // The line's reply is then `internalError`.
+                self.counts.count_reply(internal_error().text.bytes());
+                Err(refused)
+            }
+        }
     }
 }
 
