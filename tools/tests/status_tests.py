@@ -186,8 +186,10 @@ class Pages(unittest.TestCase):
         with Server() as server:
             reply = server.ask(f"{line}\n")
             wait_until(lambda: json.loads(server.get("/status")[2])["replies"]["internalError"] == 1)
+            told = json.loads(server.get("/status")[2])
         self.assertLess(len(line), 1_048_576)
         self.assertEqual(reply["errors"]["error"], "internalError")
+        self.assertEqual((told["replies"]["internalError"], sum(told["replies"].values())), (1, 1))
 
     def test_other_paths_and_methods(self) -> None:
         with Server() as server:
