@@ -30,7 +30,9 @@ class Server:
 
     def __init__(self, words: List[str], given: bytes = b"") -> None:
         command = [str(lostd()), "serve", "--name", "lost.example", "--workers", "2", *words]
-        self.process = subprocess.Popen(command, stdin=subprocess.PIPE, stdout=subprocess.PIPE, stderr=subprocess.PIPE)
+        pipes = {"stdin": subprocess.PIPE, "stdout": subprocess.PIPE, "stderr": subprocess.PIPE}
+        # A shell may have begun this with SIGHUP ignored.
+        self.process = subprocess.Popen(command, **pipes, preexec_fn=lambda: signal.signal(signal.SIGHUP, signal.SIG_DFL))
         if self.process.stdin:
             try:
                 self.process.stdin.write(given)
