@@ -4,8 +4,8 @@ use Rattle.std.specs.Ordering.{int_eq}
 use Rattle.std.proofs.lemmas.Bool.{and_from, and_parts}
 use Rattle.std.proofs.lemmas.Bool.Decides.{Decides-int_eq}
 use Rattle.std.proofs.lemmas.Cmp.{int_eq_equiv}
+use Rattle.lost_spec.specs.Place.{point_of}
 use Rattle.lost_spec.specs.Ring.{Point, same_point, last_after, is_closed}
-use Rattle.lost_spec.specs.Mapping.{point_of}
 
 get_or-last : (p : Point) (rest : List Point) (d : Point) → get_or (p ∷ rest) (length rest) d ≡ last_after p rest
 get_or-last p [] d = refl

@@ -9,3 +9,4 @@ pub mod Spans
 pub mod Crossing
 mod Products
 pub mod Within
+mod Runs

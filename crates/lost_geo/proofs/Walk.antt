@@ -12,7 +12,7 @@ use Rattle.lost_geo.proofs.Parity.{odd_count-cons, just_one_assoc, just_one_with
 abbrev pub odd_from : Point → List Point → Point → Bool
 odd_from from rest p = is_odd (crossings (edges (from ∷ rest)) p)
 
-just_one-beq : (a b : Bool) → not (beq a b) ≡ is_just_one a b
+pub just_one-beq : (a b : Bool) → not (beq a b) ≡ is_just_one a b
 just_one-beq true true = refl
 just_one-beq true false = refl
 just_one-beq false true = refl

@@ -35,26 +35,29 @@ odd_count-none [] = refl
 odd_count-none (e ∷ es) = odd_count-none es
 
 -- no edge crosses where none between such positions does
-none_crosses : (P : Point → Type 0) (p : Point) (no_edge : (a b : Point) → P a → P b → crosses (a, b) p ≡ false) →
+pub none_crosses : (P : Point → Type 0) (p : Point) (no_edge : (a b : Point) → P a → P b → crosses (a, b) p ≡ false) →
     (ring : List Point) → All P ring → is_odd (crossings (edges ring) p) ≡ false
 none_crosses P p no_edge ring all =
     odd_count-same P (λ e. crosses e p) (λ _. false) no_edge ring all ∙ odd_count-none (edges ring)
 
 -- ---- one edge, of which both ends are beyond the place
 
-both_above : (a b p : Point) → p.lat <ℤ a.lat → p.lat <ℤ b.lat → crosses (a, b) p ≡ false
+pub both_above : (a b p : Point) → p.lat <ℤ a.lat → p.lat <ℤ b.lat → crosses (a, b) p ≡ false
 both_above a b p below_a below_b =
     let at_a : int_le a.lat p.lat ≡ false = grind (arith, ints) in
     let at_b : int_le b.lat p.lat ≡ false = grind (arith, ints) in
     let spans_not : spans (a, b) p ≡ false = spans-is a b p ∙ ap (λ (t : Bool). is_just_one t (int_le b.lat p.lat)) at_a ∙ ap (is_just_one false) at_b in
     ap (λ (t : Bool). t && is_left_of (low_end (a, b)) (high_end (a, b)) p) spans_not
 
-both_below : (a b p : Point) → a.lat <ℤ p.lat → b.lat <ℤ p.lat → crosses (a, b) p ≡ false
-both_below a b p above_a above_b =
+pub both_not_above : (a b p : Point) → a.lat ≤ℤ p.lat → b.lat ≤ℤ p.lat → crosses (a, b) p ≡ false
+both_not_above a b p above_a above_b =
     let at_a : int_le a.lat p.lat ≡ true = grind (arith, ints) in
     let at_b : int_le b.lat p.lat ≡ true = grind (arith, ints) in
     let spans_not : spans (a, b) p ≡ false = spans-is a b p ∙ ap (λ (t : Bool). is_just_one t (int_le b.lat p.lat)) at_a ∙ ap (is_just_one true) at_b in
     ap (λ (t : Bool). t && is_left_of (low_end (a, b)) (high_end (a, b)) p) spans_not
+
+both_below : (a b p : Point) → a.lat <ℤ p.lat → b.lat <ℤ p.lat → crosses (a, b) p ≡ false
+both_below a b p above_a above_b = both_not_above a b p (omega (arith, ints)) (omega (arith, ints))
 
 -- the two ends of an edge are its positions
 low_end-of : (P : Point → Type 0) (a b : Point) → P a → P b → P (low_end (a, b))
@@ -103,7 +106,7 @@ All-of_map f P ring all k d below =
 All-weaker : (P Q : Point → Type 0) (weaker : (q : Point) → P q → Q q) (ring : List Point) → All P ring → All Q ring
 All-weaker P Q weaker ring all k d below = weaker (get_or ring k d) (all k d below)
 
-above_place : (m : ℤ) (f : Point → ℤ) (p : Point) (ring : List Point) → f p <ℤ m → All (λ z. m ≤ℤ z) (map f ring) → All (λ q. f p <ℤ f q) ring
+pub above_place : (m : ℤ) (f : Point → ℤ) (p : Point) (ring : List Point) → f p <ℤ m → All (λ z. m ≤ℤ z) (map f ring) → All (λ q. f p <ℤ f q) ring
 above_place m f p ring beyond all =
     All-weaker (λ q. m ≤ℤ f q) (λ q. f p <ℤ f q) (λ q above. omega (arith, ints)) ring (All-of_map f (λ z. m ≤ℤ z) ring all)
 
@@ -111,7 +114,11 @@ below_place : (m : ℤ) (f : Point → ℤ) (p : Point) (ring : List Point) → 
 below_place m f p ring beyond all =
     All-weaker (λ q. f q ≤ℤ m) (λ q. f q <ℤ f p) (λ q above. omega (arith, ints)) ring (All-of_map f (λ z. z ≤ℤ m) ring all)
 
-not_le : (a b : ℤ) → int_le a b ≡ false → b <ℤ a
+pub not_above_place : (m : ℤ) (f : Point → ℤ) (p : Point) (ring : List Point) → m ≤ℤ f p → All (λ z. z ≤ℤ m) (map f ring) → All (λ q. f q ≤ℤ f p) ring
+not_above_place m f p ring reached all =
+    All-weaker (λ q. f q ≤ℤ m) (λ q. f q ≤ℤ f p) (λ q above. omega (arith, ints)) ring (All-of_map f (λ z. z ≤ℤ m) ring all)
+
+pub not_le : (a b : ℤ) → int_le a b ≡ false → b <ℤ a
 not_le a b test = grind (arith, ints)
 
 -- a test that holds where an odd number of edges cross, since no odd number does where it fails

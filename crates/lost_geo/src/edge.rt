@@ -6,8 +6,18 @@ ghost use Rattle.lost_geo.specs.Sides.{is_left_of, IsEastDifference, IsNorthDiff
 
 use crate::point::GeoPoint;
 
-/// Whether an odd number of the edges of the positions cross at the place.
-pub(crate) fn has_odd_crossings(first: &GeoPoint, rest: &[GeoPoint], place: &GeoPoint) -> bool
+/// Whether an odd number of the edges between the positions cross at the place.
+pub(crate) fn has_odd_crossings(positions: &[GeoPoint], place: &GeoPoint) -> bool
+    ensures { result ≡ is_odd (crossings (edges positions.now) place.now) }
+{
+    match positions.split_first() {
+        Some((first, rest)) => has_odd_crossings_from(first, rest, place),
+        None => false,
+    }
+}
+
+/// The same for positions that begin with `first`.
+fn has_odd_crossings_from(first: &GeoPoint, rest: &[GeoPoint], place: &GeoPoint) -> bool
     ensures { result ≡ is_odd (crossings (edges (first.now ∷ rest.now)) place.now) }
 {
     let mut odd = false;

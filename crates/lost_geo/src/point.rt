@@ -9,16 +9,18 @@ ghost use Rattle.lost_geo.specs.Ranges.{IsLat, IsLon, IsInRange};
 use lost_spec::faults::GeoError;
 use std::marker::Model;
 
+/// The greatest latitude; the least is its negative.
 const LAT_LIMIT: i64 = 900_000_000;
 
+/// The greatest longitude; the least is its negative.
 const LON_LIMIT: i64 = 1_800_000_000;
 
 /// A position: latitude and longitude in whole 1e-7 degrees, within -900,000,000 to 900,000,000 and
-/// -1,800,000,000 to 1,800,000,000 (RFC 5222, section 12.2; unit own). Contracts see it as `Point`.
+/// -1,800,000,000 to 1,800,000,000 (RFC 5222, section 12.2; unit own). It takes 8 bytes. Contracts see it as `Point`.
 #[derive(Clone, Copy, PartialEq, Eq, Hash, Debug)]
 pub struct GeoPoint {
-    lat: i64,
-    lon: i64,
+    lat: i32,
+    lon: i32,
 }
 
 impl Model for GeoPoint {
@@ -50,7 +52,20 @@ impl GeoPoint {
         if lon < -LON_LIMIT || lon > LON_LIMIT {
             return Err(GeoError::Longitude);
         }
-        Ok(GeoPoint { lat, lon })
+        Ok(GeoPoint::at(lat, lon))
+    }
+
+    /// The point at a latitude and a longitude that are within their ranges, and so fit 32 bits.
+    fn at(lat: i64, lon: i64) -> GeoPoint
+        requires lat { IsLat lat }
+        requires lon { IsLon lon }
+        ensures lat { result.lat ≡ lat }
+        ensures lon { result.lon ≡ lon }
+    {
+        GeoPoint {
+            lat: lat as i32,
+            lon: lon as i32,
+        }
     }
 
     /// The latitude in whole 1e-7 degrees.
@@ -58,7 +73,7 @@ impl GeoPoint {
         ensures lat { result ≡ self.now.lat }
         ensures in_range { IsInRange self.now }
     {
-        self.lat
+        self.lat as i64
     }
 
     /// The longitude in whole 1e-7 degrees.
@@ -66,7 +81,7 @@ impl GeoPoint {
         ensures lon { result ≡ self.now.lon }
         ensures in_range { IsInRange self.now }
     {
-        self.lon
+        self.lon as i64
     }
 
     /// The normal form: longitude 1,800,000,000 is taken at -1,800,000,000, and latitude 900,000,000 at
@@ -75,10 +90,7 @@ impl GeoPoint {
         ensures normal { result ≡ normal self.now }
         ensures in_range { IsInRange result }
     {
-        GeoPoint {
-            lat: normal_lat(self.lat),
-            lon: normal_lon(self.lon),
-        }
+        GeoPoint::at(normal_lat(self.lat()), normal_lon(self.lon()))
     }
 }
 

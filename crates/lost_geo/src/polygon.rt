@@ -6,7 +6,6 @@ ghost use Rattle.lost_spec.specs.Ring.{ring_fault, inside as is_inside, is_close
 ghost use Rattle.lost_geo.specs.Bounds.{bounds_of, AreExact, AreInRange};
 
 use crate::bounds::Bounds;
-use crate::edge;
 use crate::point::GeoPoint;
 use crate::ring::Ring;
 use lost_spec::faults::RingError;
@@ -84,11 +83,11 @@ impl Polygon {
         ensures is_ring { ring_fault self.now ≡ None }
     {
         let place = point.normal();
-        let ring = self.ring.positions();
-        self.bounds.holds(&place) && edge::has_odd_crossings(&ring[0], &ring[1..], &place)
+        self.bounds.holds(&place) && self.ring.has_odd_crossings(&place)
     }
 
-    /// The same polygon, its positions in a shared list: from then on a copy costs a pointer.
+    /// The same polygon, its positions in a shared list: from then on a copy costs a pointer. Where there are more than
+    /// 33 of them, the list comes with what makes `inside` faster.
     pub fn share(self, alloc: Global) -> Result<Polygon, AllocError>
         ensures { IfOk result (λ polygon. polygon ≡ self) }
     {

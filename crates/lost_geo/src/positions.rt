@@ -2,8 +2,8 @@
 
 ghost use Rattle.std.specs.Prelude.{◌≡◌, ◌<◌, length, map, is_none};
 ghost use Rattle.std.specs.List.{list_all};
+ghost use Rattle.lost_spec.specs.Place.{is_ring, point_of};
 ghost use Rattle.lost_spec.specs.Ring.{point_fault, same_point, ring_fault, is_closed as is_closed_list};
-ghost use Rattle.lost_spec.specs.Mapping.{is_ring, point_of};
 
 use crate::point::GeoPoint;
 use crate::polygon::{MAX_POSITIONS, MIN_POSITIONS};

@@ -1,7 +1,7 @@
 -- The positions compared stand at the two ends.
 use Rattle.std.proofs.Common.{◌∙◌, ap, ℤ}
+use Rattle.lost_spec.specs.Place.{point_of}
 use Rattle.lost_spec.specs.Ring.{same_point}
-use Rattle.lost_spec.specs.Mapping.{point_of}
 use Rattle.lost_geo.proofs.Closed.{is_closed-positions}
 use Rattle.lost_geo.proofs.positions.is_closed.Goals as goal
 

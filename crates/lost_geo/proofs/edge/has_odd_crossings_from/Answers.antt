@@ -1,7 +1,7 @@
 -- Each step takes one edge from those to come, and at the end none is left.
 use Rattle.lost_geo.proofs.Parity.{just_one_of_false}
 use Rattle.lost_geo.proofs.Walk.{odd_from, walk_more, walk_all}
-use Rattle.lost_geo.proofs.edge.has_odd_crossings.Goals as goal
+use Rattle.lost_geo.proofs.edge.has_odd_crossings_from.Goals as goal
 
 pub loop-to-init : goal.loop-to-init
 loop-to-init c = just_one_of_false (odd_from c.args.first.now c.args.rest.now c.args.place.now)

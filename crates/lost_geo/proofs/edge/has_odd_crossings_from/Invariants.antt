@@ -2,7 +2,7 @@
 use Rattle.std.proofs.Common.{◌≡◌, ◌∷◌, drop}
 use Rattle.lost_spec.specs.Ring.{edges, crossings, is_odd}
 use Rattle.lost_geo.specs.Laws.{is_just_one}
-use Rattle.lost_geo.proofs.edge.has_odd_crossings.Given as goal
+use Rattle.lost_geo.proofs.edge.has_odd_crossings_from.Given as goal
 
 abbrev pub invariant-loop-to : goal.invariant-loop-to
 invariant-loop-to l =

@@ -1,0 +1,108 @@
+-- A ring's crossings from run to run.
+use Rattle.std.proofs.Common.{◌≡◌, refl, sym, ◌∙◌, ap, ℕ, zero, suc, ◌+◌, ◌<◌, ◌≤◌, Bool, true, false, not, ◌&&◌, subst, List, [], ◌∷◌, length, take, drop, get_or, ℤ, ◌≤ℤ◌, ◌<ℤ◌, int_le, int_lt, arith}
+use Rattle.std.proofs.Math.Bool.{beq}
+use Rattle.std.proofs.Math.Numerals.{add-one}
+use Rattle.std.proofs.Math.Seq.{drop-cons, drop-nil}
+use Rattle.std.proofs.lemmas.Int.{ints}
+use Rattle.std.proofs.lemmas.List.{drop_all, drop-drop, length-drop}
+use Rattle.lost_spec.specs.Ring.{Point, edges, crosses}
+use Rattle.lost_geo.specs.declared.run.Run.{Run}
+use Rattle.lost_geo.specs.Bounds.{lats, least, greatest}
+use Rattle.lost_geo.specs.Laws.{is_just_one}
+use Rattle.lost_geo.specs.Runs.{run_of, is_spanned, AreRunsOf}
+use Rattle.lost_geo.proofs.Cuts.{odd_along}
+use Rattle.lost_geo.proofs.Exact.{IsLeast-least, IsGreatest-greatest}
+use Rattle.lost_geo.proofs.Parity.{odd_count-cons, just_one_assoc, just_one_of_false, just_one_with_false}
+use Rattle.lost_geo.proofs.Walk.{just_one-beq}
+use Rattle.lost_geo.proofs.Within.{none_crosses, both_above, both_not_above, above_place, not_above_place, not_le}
+
+-- ---- a run and the positions from its end on
+
+odd_along-cons : (a b : Point) (rest : List Point) (p : Point) → odd_along (a ∷ b ∷ rest) p ≡ is_just_one (crosses (a, b) p) (odd_along (b ∷ rest) p)
+odd_along-cons a b rest p = odd_count-cons (λ e. crosses e p) (a, b) (edges (b ∷ rest))
+
+odd_along-split : (n : ℕ) (ring : List Point) (p : Point) →
+    odd_along ring p ≡ is_just_one (odd_along (take (suc n) ring) p) (odd_along (drop n ring) p)
+odd_along-split zero [] p = refl
+odd_along-split zero (a ∷ rest) p = sym (just_one_of_false (odd_along (a ∷ rest) p))
+odd_along-split (suc n) [] p = refl
+odd_along-split (suc n) (a ∷ []) p = sym (ap (λ (ring : List Point). is_just_one false (odd_along ring p)) (drop-nil {A = Point} n))
+odd_along-split (suc n) (a ∷ b ∷ rest) p =
+    let later = odd_along (drop n (b ∷ rest)) p in
+    odd_along-cons a b rest p
+    ∙ ap (is_just_one (crosses (a, b) p)) (odd_along-split n (b ∷ rest) p)
+    ∙ sym (just_one_assoc (crosses (a, b) p) (odd_along (b ∷ take n rest) p) later)
+    ∙ ap (λ (odd : Bool). is_just_one odd later) (sym (odd_along-cons a b (take n rest) p))
+
+just_one_left : {a b : Bool} → a ≡ b → (c : Bool) → is_just_one a c ≡ is_just_one b c
+just_one_left is c = ap (λ (odd : Bool). is_just_one odd c) is
+
+at_run : (n : ℕ) (ring : List Point) (p : Point) → odd_along ring p ≡ is_just_one (odd_along (take (n + 1) ring) p) (odd_along (drop n ring) p)
+at_run n ring p = rw (add-one n) (odd_along-split n ring p)
+
+-- ---- a run that does not span the place
+
+not_lt : (a b : ℤ) → int_lt a b ≡ false → b ≤ℤ a
+not_lt a b test = grind (arith, ints)
+
+-- where the first test fails, and where the second one does
+none_beyond : (a : Point) (rest : List Point) (p : Point) (begun : Bool) →
+    int_le (least (lats (a ∷ rest))) p.lat ≡ begun → (begun && int_lt p.lat (greatest (lats (a ∷ rest)))) ≡ false → odd_along (a ∷ rest) p ≡ false
+none_beyond a rest p false begins ends =
+    none_crosses (λ q. p.lat <ℤ q.lat) p (λ q r. both_above q r p) (a ∷ rest)
+    (above_place (least (lats (a ∷ rest))) (λ q. q.lat) p (a ∷ rest) (not_le (least (lats (a ∷ rest))) p.lat begins) (IsLeast-least a.lat (lats rest)).1)
+none_beyond a rest p true begins ends =
+    none_crosses (λ q. q.lat ≤ℤ p.lat) p (λ q r. both_not_above q r p) (a ∷ rest)
+    (not_above_place (greatest (lats (a ∷ rest))) (λ q. q.lat) p (a ∷ rest) (not_lt p.lat (greatest (lats (a ∷ rest))) ends) (IsGreatest-greatest a.lat (lats rest)).1)
+
+pub none_where_not_spanned : (run : Run) (positions : List Point) (p : Point) →
+    run ≡ run_of positions → is_spanned run p.lat ≡ false → odd_along positions p ≡ false
+none_where_not_spanned run [] p is beyond = refl
+none_where_not_spanned run (a ∷ rest) p is beyond =
+    none_beyond a rest p (int_le (least (lats (a ∷ rest))) p.lat) refl (sym (ap (λ (r : Run). is_spanned r p.lat) is) ∙ beyond)
+
+-- ---- a walk over the runs
+
+-- the runs from one on: edges are left, and behind it the runs to come are those of the positions behind
+pub record IsAtRun (size : ℕ) (runs : List Run) (i : ℕ) (ring : List Point) (begin : ℕ) : Type 0 where
+  pub within : begin < length ring
+  pub behind : AreRunsOf size (drop (i + 1) runs) (drop (begin + size) ring)
+
+not_past : (ring : List Point) (begin : ℕ) → 1 < length (drop begin ring) → begin < length ring
+not_past ring begin some = omega (arith, simp length-drop at some)
+
+pub at_a_run : (size : ℕ) (runs : List Run) (i : ℕ) (ring : List Point) (begin : ℕ) → i < length runs →
+    AreRunsOf size (drop i runs) (drop begin ring) → IsAtRun size runs i ring begin
+at_a_run size [] i ring begin below are = absurd (omega arith)
+at_a_run size (run ∷ runs) i ring begin below are =
+    let first : drop i (run ∷ runs) ≡ get_or (run ∷ runs) i run ∷ drop (i + 1) (run ∷ runs) = rw (add-one i, drop-cons (run ∷ runs) i run) refl in
+    let parts : AreRunsOf size (get_or (run ∷ runs) i run ∷ drop (i + 1) (run ∷ runs)) (drop begin ring) = subst (λ (rs : List Run). AreRunsOf size rs (drop begin ring)) first are in
+    record {
+      within = not_past ring begin parts.0;
+      behind = subst (AreRunsOf size (drop (i + 1) (run ∷ runs))) (drop-drop size begin ring) parts.2;
+    }
+
+-- one run further
+pub walk_more : (size : ℕ) (odd crossing total : Bool) (ring : List Point) (begin : ℕ) (part : List Point) (p : Point) →
+    part ≡ take (size + 1) (drop begin ring) → crossing ≡ odd_along part p →
+    is_just_one odd (odd_along (drop begin ring) p) ≡ total → is_just_one (not (beq odd crossing)) (odd_along (drop (begin + size) ring) p) ≡ total
+walk_more size odd crossing total ring begin part p is_part was before =
+    let counted : crossing ≡ odd_along (take (size + 1) (drop begin ring)) p = was ∙ ap (λ (ps : List Point). odd_along ps p) is_part in
+    just_one_left (just_one-beq odd crossing) (odd_along (drop (begin + size) ring) p)
+    ∙ ap (λ (b : Bool). is_just_one (is_just_one odd b) (odd_along (drop (begin + size) ring) p)) counted
+    ∙ ap (λ (ps : List Point). is_just_one (is_just_one odd (odd_along (take (size + 1) (drop begin ring)) p)) (odd_along ps p)) (sym (drop-drop size begin ring))
+    ∙ just_one_assoc odd (odd_along (take (size + 1) (drop begin ring)) p) (odd_along (drop size (drop begin ring)) p)
+    ∙ ap (is_just_one odd) (sym (at_run size (drop begin ring) p))
+    ∙ before
+
+no_edge : (ring : List Point) (p : Point) → length ring ≤ 1 → odd_along ring p ≡ false
+no_edge [] p short = refl
+no_edge (a ∷ []) p short = refl
+no_edge (a ∷ b ∷ rest) p short = absurd (omega arith)
+
+-- the end of the walk
+pub walk_all : (size : ℕ) (odd total : Bool) (runs : List Run) (i : ℕ) (ring : List Point) (p : Point) → length runs ≤ i →
+    AreRunsOf size (drop i runs) ring → is_just_one odd (odd_along ring p) ≡ total → odd ≡ total
+walk_all size odd total runs i ring p past are before =
+    let short : length ring ≤ 1 = subst (λ (rs : List Run). AreRunsOf size rs ring) (drop_all i runs past) are in
+    sym (just_one_with_false odd) ∙ ap (is_just_one odd) (sym (no_edge ring p short)) ∙ before
