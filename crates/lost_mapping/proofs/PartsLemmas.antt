@@ -4,13 +4,15 @@ use Rattle.std.specs.List.{list_all}
 use Rattle.std.specs.Option.{option_or}
 use Rattle.lost_spec.specs.declared.faults.MappingError.{MappingError}
 use Rattle.lost_spec.specs.declared.faults.MappingError.TheVariants.{BadSource, BadSourceId, BadStamp, BadExpires, BadService, BadUri, BadNumber, BadRegion, RegionMissing, TooLarge, BadKey, Memory}
+use Rattle.lost_spec.specs.Token.{is_id}
+use Rattle.lost_spec.specs.Place.{Region, Regions, no_regions, by_kind, is_region}
 use Rattle.lost_spec.specs.Text.{Text, lowered, first_fault}
 use Rattle.lost_spec.specs.Service.{Service, read_service}
-use Rattle.lost_spec.specs.Ring.{Point}
-use Rattle.lost_spec.specs.Civic.{Pairs}
 use Rattle.lost_spec.specs.Moment.{Stamp, is_stamp, stamp_of}
-use Rattle.lost_spec.specs.Mapping.{Parts, Region, Mapping, Expires, expires_of, is_source, is_id, is_expires, are_uris, is_number, is_region, polygons_of, patterns_of, has_right_regions, has_right_key, is_too_large, parts_fault, mapping_of}
-use Rattle.lost_mapping.specs.Faults.{head_fault, contact_fault, regions_fault, areas_fault, has_right_count, is_oversized, shape_fault}
+use Rattle.lost_spec.specs.Mapping.{Parts, Mapping, Expires, expires_of, is_source, is_expires, are_uris, is_number, has_right_regions, has_right_key, is_too_large, parts_fault, mapping_of}
+use Rattle.lost_location.specs.Counted.{counts_of}
+use Rattle.lost_location.specs.Refusals.{regions_fault}
+use Rattle.lost_mapping.specs.Faults.{head_fault, contact_fault, areas_fault, has_right_count, is_oversized, shape_fault}
 use Rattle.lost_mapping.specs.Shape.{IsShaped}
 
 -- ---- groups
@@ -78,8 +80,8 @@ no_areas_fault p none = (both_none (contact_fault p) (areas_fault p) (both_none 
 pub no_regions_fault : (p : Parts) → None ≡ parts_fault p → regions_fault p.regions ≡ None
 no_regions_fault p none = (both_none (regions_fault p.regions) _ (no_areas_fault p none)).0
 
-no_shape_fault : (p : Parts) → None ≡ parts_fault p → shape_fault p.is_default (length p.regions) (length (polygons_of p.regions)) (length (patterns_of p.regions)) p.display_names p.key ≡ None
-no_shape_fault p none = (both_none (regions_fault p.regions) (shape_fault p.is_default (length p.regions) (length (polygons_of p.regions)) (length (patterns_of p.regions)) p.display_names p.key) (no_areas_fault p none)).1
+no_shape_fault : (p : Parts) → None ≡ parts_fault p → shape_fault p.is_default (length p.regions) (counts_of (by_kind p.regions)) p.display_names p.key ≡ None
+no_shape_fault p none = (both_none (regions_fault p.regions) (shape_fault p.is_default (length p.regions) (counts_of (by_kind p.regions)) p.display_names p.key) (no_areas_fault p none)).1
 
 -- a part that is not refused gives no other refusal
 pub refused_by_none : (fault whole : Option MappingError) (e : MappingError) → fault ≡ None → (e ≢ Memory → fault ≡ Some e) → e ≢ Memory → whole ≡ Some e
@@ -87,11 +89,11 @@ refused_by_none fault whole e none refused other = let some : fault ≡ Some e =
 
 -- ---- a mapping that is not refused
 
-pub mapping_of-is : (p : Parts) (source source_id : Text) (stamp : Stamp) (expires : Expires) (service : Service) (polygons : List (List Point)) (patterns : List Pairs) → source ≡ lowered p.source → source_id ≡ p.source_id → stamp ≡ stamp_of p.last_updated → expires ≡ expires_of p.expires → read_service p.service ≡ Ok service → polygons ≡ polygons_of p.regions → patterns ≡ patterns_of p.regions
-    → record { source = source; source_id = source_id; stamp = stamp; expires = expires; service = service; uris = p.uris; number = p.number; polygons = polygons; patterns = patterns; is_default = p.is_default; display_names = p.display_names; key = p.key } ≡ mapping_of p
+pub mapping_of-is : (p : Parts) (source source_id : Text) (stamp : Stamp) (expires : Expires) (service : Service) (regions : Regions) → source ≡ lowered p.source → source_id ≡ p.source_id → stamp ≡ stamp_of p.last_updated → expires ≡ expires_of p.expires → read_service p.service ≡ Ok service → regions ≡ by_kind p.regions
+    → record { source = source; source_id = source_id; stamp = stamp; expires = expires; service = service; uris = p.uris; number = p.number; regions = regions; is_default = p.is_default; display_names = p.display_names; key = p.key } ≡ mapping_of p
 unfolding mapping_of
-mapping_of-is p source source_id stamp expires service polygons patterns source_is source_id_is stamp_is expires_is service_is polygons_are patterns_are =
-    rw (source_is, source_id_is, stamp_is, expires_is, service_is, polygons_are, patterns_are) refl
+mapping_of-is p source source_id stamp expires service regions source_is source_id_is stamp_is expires_is service_is regions_are =
+    rw (source_is, source_id_is, stamp_is, expires_is, service_is, regions_are) refl
 
 none_of_three : (a b c : Bool) → first_fault ((not a, RegionMissing) ∷ (b, TooLarge) ∷ (not c, BadKey) ∷ []) ≡ None → (a ≡ true) × (c ≡ true)
 none_of_three true false true e = (refl, refl)
@@ -99,21 +101,20 @@ none_of_three false b c e = (cc, cc)
 none_of_three true true c e = (refl, cc)
 none_of_three true false false e = (refl, cc)
 
-no_regions : (regions : List Region) → has_right_count true (length regions) ≡ true → (polygons_of regions ≡ []) × (patterns_of regions ≡ [])
-no_regions [] e = (refl, refl)
-no_regions (region ∷ rest) e = let zero : length (region ∷ rest) ≡ 0 = eqb-true (length (region ∷ rest)) 0 e in absurd (omega arith)
+none_by_kind : (regions : List Region) → has_right_count true (length regions) ≡ true → by_kind regions ≡ no_regions
+none_by_kind [] e = refl
+none_by_kind (region ∷ rest) e = let zero : length (region ∷ rest) ≡ 0 = eqb-true (length (region ∷ rest)) 0 e in absurd (omega arith)
 
-bare_default : (is_default : Bool) (regions : List Region) → has_right_count is_default (length regions) ≡ true → is_default ≡ true → (polygons_of regions ≡ []) × (patterns_of regions ≡ [])
-bare_default true regions right default = no_regions regions right
-bare_default false regions right default = (cc, cc)
+bare_default : (is_default : Bool) (regions : List Region) → has_right_count is_default (length regions) ≡ true → is_default ≡ true → by_kind regions ≡ no_regions
+bare_default true regions right default = none_by_kind regions right
+bare_default false regions right default = absurd (cc)
 
-pub shaped_where_accepted : (m : Mapping) (p : Parts) → None ≡ parts_fault p → m.is_default ≡ p.is_default → m.key ≡ p.key → m.polygons ≡ polygons_of p.regions → m.patterns ≡ patterns_of p.regions → IsShaped m
-shaped_where_accepted m p accepted default_is key_is polygons_are patterns_are =
-    let right = none_of_three (has_right_count p.is_default (length p.regions)) (is_oversized (length (polygons_of p.regions)) (length (patterns_of p.regions)) p.display_names) (has_right_key p.is_default p.key) (no_shape_fault p accepted) in
+pub shaped_where_accepted : (m : Mapping) (p : Parts) → None ≡ parts_fault p → m.is_default ≡ p.is_default → m.key ≡ p.key → m.regions ≡ by_kind p.regions → IsShaped m
+shaped_where_accepted m p accepted default_is key_is regions_are =
+    let right = none_of_three (has_right_count p.is_default (length p.regions)) (is_oversized (counts_of (by_kind p.regions)) p.display_names) (has_right_key p.is_default p.key) (no_shape_fault p accepted) in
     record {
       key = rw (default_is, key_is) right.1;
-      polygons = λ default. polygons_are ∙ (bare_default p.is_default p.regions right.0 (sym default_is ∙ default)).0;
-      patterns = λ default. patterns_are ∙ (bare_default p.is_default p.regions right.0 (sym default_is ∙ default)).1;
+      regions = λ default. regions_are ∙ bare_default p.is_default p.regions right.0 (sym default_is ∙ default);
     }
 
 -- what holds at any rate holds of an `Ok`

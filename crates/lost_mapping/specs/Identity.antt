@@ -2,8 +2,9 @@
 use Rattle.std.specs.Prelude.{◌≡◌, not, Option, [], ◌∷◌, IsTrue}
 use Rattle.lost_spec.specs.declared.faults.MappingError.{MappingError}
 use Rattle.lost_spec.specs.declared.faults.MappingError.TheVariants.{BadSource, BadSourceId}
+use Rattle.lost_spec.specs.Token.{is_id}
 use Rattle.lost_spec.specs.Text.{Text, lowered, first_fault}
-use Rattle.lost_spec.specs.Mapping.{is_source, is_id}
+use Rattle.lost_spec.specs.Mapping.{is_source}
 
 -- the first refusal of a source and a sourceId (RFC 5222, section 5.1; order own)
 abbrev pub identity_fault : Text → Text → Option MappingError

@@ -3,7 +3,6 @@ pub mod Faults
 pub mod Fields
 pub mod Identity
 pub mod Parts
-pub mod Regions
 pub mod Shape
 pub mod Source
 pub mod Stamp

@@ -3,21 +3,12 @@ use Rattle.std.specs.Prelude.{List, map, option_map, string_bytes}
 use Rattle.std.specs.Option.{option_copied}
 use Rattle.lost_spec.specs.Text.{Text}
 use Rattle.lost_spec.specs.Mapping as spec
-use Rattle.lost_civic.specs.Pairs.{seen_pairs}
+use Rattle.lost_spec.specs.Place.{Region}
+use Rattle.lost_location.specs.Region.{regions_of}
 use Rattle.lost_mapping.specs.declared.parts.BorrowedParts.{BorrowedParts}
 use Rattle.lost_mapping.specs.declared.parts.DisplayName.{DisplayName}
 use Rattle.lost_mapping.specs.declared.parts.Parts.{Parts}
-use Rattle.lost_mapping.specs.declared.parts.Region.{Region}
-use Rattle.lost_mapping.specs.declared.parts.Region.TheVariants.{Ring, Pattern, Unreadable}
 use Rattle.lost_mapping.specs.Texts.{texts_of}
-
-abbrev pub region_of : Region → spec.Region
-region_of (Ring positions) = spec.RingRegion positions.items
-region_of (Pattern pairs) = spec.PatternRegion (seen_pairs pairs.items)
-region_of Unreadable = spec.UnreadableRegion
-
-abbrev pub regions_of : List Region → List spec.Region
-regions_of regions = map region_of regions
 
 abbrev pub display_name_of : DisplayName → spec.DisplayName
 display_name_of name = record { lang = string_bytes name.lang; text = string_bytes name.text }
@@ -41,7 +32,7 @@ parts_of parts = record {
 }
 
 -- parts where they lie, by what the items of their lists tell
-abbrev pub borrowed_parts_of : {U R N : Type 0} → (U → Text) → (R → spec.Region) → (N → spec.DisplayName) → BorrowedParts U R N → spec.Parts
+abbrev pub borrowed_parts_of : {U R N : Type 0} → (U → Text) → (R → Region) → (N → spec.DisplayName) → BorrowedParts U R N → spec.Parts
 borrowed_parts_of uri_of region_of display_name_of parts = record {
   source = parts.source.now;
   source_id = parts.source_id.now;

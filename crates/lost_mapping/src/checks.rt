@@ -4,10 +4,10 @@ ghost use Rattle.std.specs.Result.{result_err};
 ghost use Rattle.lost_mapping.specs.Faults.{contact_fault, areas_fault};
 ghost use Rattle.lost_mapping.specs.Parts.{borrowed_parts_of};
 
+use crate::counted::count_regions;
 use crate::number::is_number;
 use crate::part_items::PartItems;
 use crate::parts::BorrowedParts;
-use crate::regions::count_regions;
 use crate::shape::check_shape;
 use crate::uris::are_uris;
 use lost_spec::faults::MappingError;

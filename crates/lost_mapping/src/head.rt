@@ -6,7 +6,8 @@ ghost use Rattle.lost_spec.specs.Service.{read_service as read_service_text};
 ghost use Rattle.lost_spec.specs.Moment.{is_stamp, stamp_of};
 ghost use Rattle.lost_spec.specs.Mapping.{expires_of};
 ghost use Rattle.lost_mapping.specs.Expires.{expires_seen};
-ghost use Rattle.lost_mapping.specs.Faults.{Refuses, fault_if, terms_fault, head_fault_of, head_fault};
+ghost use Rattle.lost_location.specs.Refusals.{Refuses, fault_if};
+ghost use Rattle.lost_mapping.specs.Faults.{terms_fault, head_fault_of, head_fault};
 ghost use Rattle.lost_mapping.specs.Parts.{parts_of};
 
 use crate::expires::Expires;

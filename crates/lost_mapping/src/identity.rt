@@ -4,13 +4,14 @@ ghost use Rattle.std.specs.Hash as fed;
 ghost use Rattle.std.specs.Result.{result_err};
 ghost use Rattle.std.proofs.Common.{rules};
 ghost use Rattle.std.specs.Cmp.Rules.{comparing, hashing};
+ghost use Rattle.lost_spec.specs.Token.{is_id};
 ghost use Rattle.lost_spec.specs.Text.{lowered};
-ghost use Rattle.lost_spec.specs.Mapping.{is_source, is_id};
+ghost use Rattle.lost_spec.specs.Mapping.{is_source};
 ghost use Rattle.lost_mapping.specs.Identity.{identity_fault};
 
-use crate::id::is_id;
 use crate::labels::is_source;
 use crate::source::Source;
+use lost_profile::is_id;
 use lost_spec::faults::MappingError;
 use std::alloc::{AllocError, Global};
 use std::hash::{Hash, Hasher};

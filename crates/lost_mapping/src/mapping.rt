@@ -5,7 +5,7 @@ ghost use Rattle.std.specs.Result.{result_err};
 ghost use Rattle.lost_spec.specs.Mapping.{parts_fault, mapping_of, is_live};
 ghost use Rattle.lost_spec.specs.Book.{identity_of};
 ghost use Rattle.lost_mapping.specs.Expires.{expires_seen};
-ghost use Rattle.lost_mapping.specs.Faults.{Refuses};
+ghost use Rattle.lost_location.specs.Refusals.{Refuses};
 ghost use Rattle.lost_mapping.specs.Parts.{parts_of, borrowed_parts_of, display_names_of};
 ghost use Rattle.lost_mapping.specs.Shape.{IsShaped};
 ghost use Rattle.lost_mapping.specs.Texts.{texts_of};
@@ -17,10 +17,11 @@ use crate::identity::Identity;
 use crate::moment::Moment;
 use crate::part_items::PartItems;
 use crate::parts::{BorrowedParts, DisplayName, Parts};
-use crate::regions::Areas;
 use crate::stamp::Stamp;
 use lost_civic::CivicPattern;
 use lost_geo::Polygon;
+use lost_location::Regions;
+use lost_profile::TokenSet;
 use lost_spec::faults::MappingError;
 use lost_urn::ServiceUrn;
 use std::alloc::{AllocError, Global};
@@ -42,8 +43,7 @@ struct Fields {
     service: ServiceUrn,
     uris: Vec<String>,
     number: Option<String>,
-    polygons: Vec<Polygon>,
-    patterns: Vec<CivicPattern>,
+    regions: Regions,
     is_default: bool,
     display_names: Vec<DisplayName>,
     key: Option<String>,
@@ -71,10 +71,10 @@ impl Mapping {
     ///
     /// The first that applies, in the order of the codes: [`MappingError::BadSource`] to [`MappingError::BadService`]
     /// for the text of that name, [`MappingError::BadUri`] unless there are 1 to 16 URIs and no scheme twice in any
-    /// case, [`MappingError::BadNumber`], [`MappingError::BadRegion`] where a region is no polygon and no civic
-    /// pattern, [`MappingError::RegionMissing`] for a default with a region or another mapping without one,
-    /// [`MappingError::TooLarge`] for more than 64 polygons, 256 patterns or 16 display names, or a language or text
-    /// of more than 1,024 bytes in one, [`MappingError::BadKey`] where a default has a key, or another mapping has
+    /// case, [`MappingError::BadNumber`], [`MappingError::BadRegion`] where a region is no polygon, no civic
+    /// pattern and no token set, [`MappingError::RegionMissing`] for a default with a region or another mapping without one,
+    /// [`MappingError::TooLarge`] for more than 64 polygons, 256 patterns, 64 token sets or 16 display names, or a
+    /// language or text of more than 1,024 bytes in one, [`MappingError::BadKey`] where a default has a key, or another mapping has
     /// none or a bad one. [`MappingError::Memory`] comes only after the checks.
     pub fn build(alloc: Global, parts: Parts) -> Result<Mapping, MappingError>
         ensures accepted { OnOk result (parts_fault (parts_of parts) ≡ None) }
@@ -86,7 +86,7 @@ impl Mapping {
     {
         Mapping::check::<Parts>(&parts.borrowed())?;
         let head = Head::read(alloc, &parts)?;
-        let areas = Areas::read(alloc, parts.regions)?;
+        let regions = Regions::read(alloc, parts.regions)?;
         Mapping::share(
             alloc,
             Fields {
@@ -96,8 +96,7 @@ impl Mapping {
                 service: head.service,
                 uris: parts.uris,
                 number: parts.number,
-                polygons: areas.polygons,
-                patterns: areas.patterns,
+                regions,
                 is_default: parts.is_default,
                 display_names: parts.display_names,
                 key: parts.key,
@@ -188,20 +187,33 @@ impl Mapping {
         &self.inner.display_names
     }
 
-    /// The polygons where the mapping holds, in the order given (RFC 5222, section 5.5).
-    pub fn polygons(&self) -> &[Polygon]
-        ensures polygons { result.now ≡ self.now.polygons }
+    /// Where the mapping holds (RFC 5222, section 5.5).
+    pub fn regions(&self) -> &Regions
+        ensures regions { result.now ≡ self.now.regions }
         ensures is_shaped { IsShaped self.now }
     {
-        &self.inner.polygons
+        &self.inner.regions
+    }
+
+    /// The polygons where the mapping holds, in the order given (RFC 5222, section 5.5).
+    pub fn polygons(&self) -> &[Polygon]
+        ensures { result.now ≡ self.now.regions.polygons }
+    {
+        self.inner.regions.polygons()
     }
 
     /// The civic patterns where the mapping holds, in the order given (RFC 5222, section 5.5).
     pub fn patterns(&self) -> &[CivicPattern]
-        ensures patterns { result.now ≡ self.now.patterns }
-        ensures is_shaped { IsShaped self.now }
+        ensures { result.now ≡ self.now.regions.patterns }
     {
-        &self.inner.patterns
+        self.inner.regions.patterns()
+    }
+
+    /// The token sets where the mapping holds, in the order given.
+    pub fn token_sets(&self) -> &[TokenSet]
+        ensures { result.now ≡ self.now.regions.token_sets }
+    {
+        self.inner.regions.token_sets()
     }
 
     /// What names the regions; a default has none, and any other mapping has one (RFC 5222, section 5.6; own rule).

@@ -1,17 +1,18 @@
 //! How to read the parts of a mapping from the items of lists, so that one check serves parts wherever they lie.
 ghost use Rattle.std.specs.Prelude.{string_bytes};
-ghost use Rattle.lost_mapping.specs.Parts.{region_of, display_name_of};
+ghost use Rattle.lost_location.specs.Region.{region_of};
+ghost use Rattle.lost_mapping.specs.Parts.{display_name_of};
 
-use crate::parts::{DisplayName, Parts, Region, RegionKind};
-use lost_civic::CivicPattern;
-use lost_geo::is_ring;
+use crate::parts::{DisplayName, Parts};
+use lost_location::{PlaceKind, Region};
 
 /// How to read the URIs, the regions and the display names of a mapping from the items of lists.
 pub trait PartItems {
     ghost use Rattle.std.specs.Prelude.{◌≡◌};
     ghost use Rattle.lost_spec.specs.Mapping as spec;
+    ghost use Rattle.lost_spec.specs.Place as places;
     ghost use Rattle.lost_spec.specs.Text.{Text};
-    ghost use Rattle.lost_mapping.specs.Regions.{region_kind as kind_of_region};
+    ghost use Rattle.lost_location.specs.Region.{region_kind as kind_of_region};
 
     /// An item that holds a URI.
     type Uri;
@@ -26,7 +27,7 @@ pub trait PartItems {
     ghost uri_of: { Self.Uri → Text };
 
     // The region of an item.
-    ghost region_of: { Self.Region → spec.Region };
+    ghost region_of: { Self.Region → places.Region };
 
     // The display name of an item.
     ghost display_name_of: { Self.DisplayName → spec.DisplayName };
@@ -35,9 +36,8 @@ pub trait PartItems {
     fn uri(uri: &Self::Uri) -> &str
         ensures { result.now ≡ uri_of uri.now };
 
-    /// The kind of a region: a ring of points, or a pattern that is not refused. `None` where it is neither (RFC 5222,
-    /// section 5.5).
-    fn region_kind(region: &Self::Region) -> Option<RegionKind>
+    /// The kind of a region. `None` where it cannot be read or is refused (RFC 5222, section 5.5).
+    fn region_kind(region: &Self::Region) -> Option<PlaceKind>
         ensures { result ≡ kind_of_region (region_of region.now) };
 
     /// The language of a display name (RFC 5222, section 5.3).
@@ -67,14 +67,8 @@ impl PartItems for Parts {
         uri.as_str()
     }
 
-    fn region_kind(region: &Region) -> Option<RegionKind> {
-        match region {
-            Region::Ring(positions) => is_ring(positions.as_slice()).then_some(RegionKind::Polygon),
-            Region::Pattern(pairs) => CivicPattern::check(pairs.as_slice())
-                .is_ok()
-                .then_some(RegionKind::Pattern),
-            Region::Unreadable => None,
-        }
+    fn region_kind(region: &Region) -> Option<PlaceKind> {
+        region.kind()
     }
 
     fn lang(name: &DisplayName) -> &str {

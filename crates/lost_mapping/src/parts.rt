@@ -1,5 +1,7 @@
 //! What a map desk hands in for a mapping, as plain texts and lists that nothing has checked yet.
 
+use lost_location::Region;
+
 /// The parts of a mapping (RFC 5222, section 5).
 #[derive(Debug, Drop)]
 pub struct Parts {
@@ -29,7 +31,8 @@ pub struct Parts {
 
 impl Parts {
     ghost use Rattle.std.specs.Prelude.{◌≡◌, string_bytes};
-    ghost use Rattle.lost_mapping.specs.Parts.{region_of, display_name_of, parts_of, borrowed_parts_of};
+    ghost use Rattle.lost_location.specs.Region.{region_of};
+    ghost use Rattle.lost_mapping.specs.Parts.{display_name_of, parts_of, borrowed_parts_of};
 
     /// The same parts, borrowed.
     pub fn borrowed(&self) -> BorrowedParts<'_, String, Region, DisplayName>
@@ -77,26 +80,6 @@ pub struct BorrowedParts<'a, U, R, N> {
     pub display_names: &'a [N],
     /// What names the regions (RFC 5222, section 5.6).
     pub key: Option<&'a str>,
-}
-
-/// One region of a mapping (RFC 5222, section 5.5).
-#[derive(Debug, Drop)]
-pub enum Region {
-    /// The positions of a ring, each a latitude and a longitude in whole 1e-7 degrees.
-    Ring(Vec<(i64, i64)>),
-    /// The names and values of a civic pattern.
-    Pattern(Vec<(String, String)>),
-    /// A region of no known form.
-    Unreadable,
-}
-
-/// The kind of a region that can be read (RFC 5222, section 5.5).
-#[derive(Clone, Copy, PartialEq, Eq, Debug)]
-pub enum RegionKind {
-    /// A ring of positions.
-    Polygon,
-    /// A civic pattern.
-    Pattern,
 }
 
 /// A name to show for the service (RFC 5222, section 5.3).

@@ -6,16 +6,10 @@ ghost use Rattle.std.specs.Result.{result_err};
 ghost use Rattle.lost_spec.specs.Mapping.{has_right_key as has_right_key_text};
 ghost use Rattle.lost_mapping.specs.Faults.{shape_fault, has_right_count as has_right_number, is_oversized as is_oversized_list};
 
-use crate::id::is_id;
 use crate::part_items::PartItems;
-use crate::regions::Counts;
+use lost_location::Counts;
+use lost_profile::is_id;
 use lost_spec::faults::MappingError;
-
-/// The most polygons that a mapping has.
-pub const MAX_POLYGONS: usize = 64;
-
-/// The most patterns that a mapping has.
-pub const MAX_PATTERNS: usize = 256;
 
 /// The most display names that a mapping has.
 pub const MAX_DISPLAY_NAMES: usize = 16;
@@ -32,7 +26,7 @@ pub(crate) fn check_shape<T: PartItems>(
     names: &[T::DisplayName],
     key: Option<&str>,
 ) -> Result<(), MappingError>
-    ensures { result_err result ≡ shape_fault is_default regions counts.polygons counts.patterns (map T.display_name_of names.now) (option_copied key.entry) }
+    ensures { result_err result ≡ shape_fault is_default regions counts (map T.display_name_of names.now) (option_copied key.entry) }
 {
     if !has_right_count(is_default, regions) {
         return Err(MappingError::RegionMissing);
@@ -58,12 +52,9 @@ fn has_right_count(is_default: bool, regions: usize) -> bool
 
 #[tactic(auto, using(std::proofs::lemmas::Bool::Decides::nat_tests))]
 fn is_oversized<T: PartItems>(counts: Counts, names: &[T::DisplayName]) -> bool
-    ensures { result ≡ is_oversized_list counts.polygons counts.patterns (map T.display_name_of names.now) }
+    ensures { result ≡ is_oversized_list counts (map T.display_name_of names.now) }
 {
-    counts.polygons > MAX_POLYGONS
-        || counts.patterns > MAX_PATTERNS
-        || names.len() > MAX_DISPLAY_NAMES
-        || has_long_name::<T>(names)
+    counts.are_over() || names.len() > MAX_DISPLAY_NAMES || has_long_name::<T>(names)
 }
 
 fn has_long_name<T: PartItems>(names: &[T::DisplayName]) -> bool

@@ -4,19 +4,11 @@ use Rattle.std.specs.Cow.{cow_str_bytes}
 use Rattle.std.specs.declared.borrow.CowStr.{CowStr}
 use Rattle.lost_spec.specs.Request as spec
 use Rattle.lost_spec.specs.Text.{Text}
-use Rattle.lost_civic.specs.Pairs.{seen_pairs}
-use Rattle.lost_message.specs.declared.request.Body.{Body}
-use Rattle.lost_message.specs.declared.request.Body.TheVariants.{Point, Address, Unreadable}
+use Rattle.lost_location.specs.Body.{body_of}
 use Rattle.lost_message.specs.declared.request.Location.{Location}
 use Rattle.lost_message.specs.declared.request.Locations.{Locations}
 use Rattle.lost_message.specs.declared.request.Request.{Request}
 use Rattle.lost_message.specs.declared.request.Request.TheVariants.{FindService, ListServicesByLocation, ListServices, GetServiceBoundary}
-
--- what a location holds (RFC 5222, section 12)
-abbrev pub body_of : Body → spec.Body
-body_of (Point lat lon) = spec.PointBody lat lon
-body_of (Address pairs) = spec.AddressBody (seen_pairs pairs.items)
-body_of Unreadable = spec.UnreadableBody
 
 -- a location of a request (RFC 5222, section 8.3.1)
 abbrev pub location_of : Location → spec.Location

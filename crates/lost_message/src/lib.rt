@@ -8,7 +8,8 @@ mod reply;
 mod request;
 
 pub use edit::Edit;
+pub use lost_location::{Body, PlaceKind};
 pub use lost_spec::answers::{AnswerError, Warning};
 pub use path::{Path, path_of};
 pub use reply::{Boundary, FoundMappings, Reply, Validation};
-pub use request::{Body, Location, Locations, Request};
+pub use request::{Location, Locations, Request};

@@ -1,5 +1,6 @@
 //! Replies.
 use crate::path::Path;
+use lost_location::PlaceKind;
 use lost_mapping::Mapping;
 use lost_spec::answers::{AnswerError, Warning};
 use lost_urn::ServiceUrn;
@@ -30,7 +31,7 @@ pub enum Reply<'a> {
         path: Path<'a>,
         services: Vec<ServiceUrn>,
     },
-    /// All regions of the mapping that has the key, polygons first (RFC 5222, section 9).
+    /// All regions of the mapping that has the key, in the order of their kinds (RFC 5222, section 9).
     GetServiceBoundaryResponse {
         edition: u64,
         path: Path<'a>,
@@ -64,10 +65,8 @@ pub struct FoundMappings {
 pub enum Boundary {
     /// Its key and its source.
     ByReference,
-    /// Its polygons.
-    ByPolygons,
-    /// Its civic patterns.
-    ByPatterns,
+    /// Its regions of a kind.
+    ByValue(PlaceKind),
 }
 
 /// The names of an address by the result of validation (RFC 5222, section 8.4.2).

@@ -1,4 +1,5 @@
 //! Requests, as they are read: the content of a location is not checked yet.
+use lost_location::Body;
 use lost_urn::ServiceUrn;
 use std::borrow::CowStr;
 
@@ -52,16 +53,5 @@ pub struct Location<'a> {
     /// Whether its reference system is known.
     pub srs_known: bool,
     /// Its content.
-    pub body: Body,
-}
-
-/// What a location holds (RFC 5222, section 12).
-#[derive(Drop)]
-pub enum Body {
-    /// A latitude and a longitude, in whole 1e-7 degrees, in range or not.
-    Point(i64, i64),
-    /// The names and values of a civic address.
-    Address(Vec<(String, String)>),
-    /// Content of another shape.
-    Unreadable,
+    pub body: Body<'a>,
 }

@@ -9,6 +9,6 @@ mod tokens;
 
 pub use lost_spec::faults::TokenError;
 pub use profile::Profile;
-pub use token::Token;
-pub use token_set::TokenSet;
+pub use token::{MAX_ID_BYTES, Token, is_id};
+pub use token_set::{TokenSet, TokenTexts, is_token_set, is_token_set_of};
 pub use tokens::Tokens;

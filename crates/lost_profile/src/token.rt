@@ -7,7 +7,7 @@ ghost use Rattle.std.specs.Cmp.{partial_equiv_from_equiv};
 ghost use Rattle.std.specs.Cmp.Lexicographic.{slice_cmp, texts_ties, nat_list_eq_equiv, nat_list_cmp_total};
 ghost use Rattle.std.specs.Cmp.Rules.{hashing};
 ghost use Rattle.std.proofs.Common.{rules};
-ghost use Rattle.lost_spec.specs.Token.{is_token};
+ghost use Rattle.lost_spec.specs.Token.{is_token, is_id};
 ghost use Rattle.lost_profile.specs.TokenOrder.{token_partial};
 
 use lost_spec::faults::TokenError;
@@ -16,8 +16,8 @@ use std::cmp::Ordering;
 use std::hash::{Hash, Hasher};
 use std::marker::Model;
 
-/// The most bytes that a token has.
-const MAX_BYTES: usize = 128;
+/// The most bytes that a sourceId, a key or a token has.
+pub const MAX_ID_BYTES: usize = 128;
 
 /// A token: a place by a name that those who make the map and those who ask agree on. It has 1 to 128 bytes of UTF-8, none
 /// below 32 and none 127, as a sourceId has (own rule). Tokens are compared, ordered and hashed by their bytes. Contracts
@@ -56,7 +56,7 @@ impl Token {
         Token::keep(alloc, text).map_err(|_| TokenError::Memory)
     }
 
-    fn keep(alloc: Global, text: &str) -> Result<Token, AllocError>
+    pub(crate) fn keep(alloc: Global, text: &str) -> Result<Token, AllocError>
         requires { IsTrue (is_token text.now) }
         ensures { IfOk result (λ token. token ≡ text.now) }
     {
@@ -92,17 +92,17 @@ fn read(bytes: &[u8]) -> Option<&str>
     let Ok(text) = str::from_utf8(bytes) else {
         return None;
     };
-    if is_token(text) { Some(text) } else { None }
+    if is_id(text) { Some(text) } else { None }
 }
 
-/// Whether a text is that of a token: 1 to 128 bytes, none below 32 and none 127.
-fn is_token(text: &str) -> bool
-    ensures { result ≡ is_token text.now }
+/// Whether a text is that of a sourceId, a key or a token: 1 to 128 bytes, none below 32 and none 127.
+pub fn is_id(text: &str) -> bool
+    ensures { result ≡ is_id text.now }
 {
-    !text.is_empty() && text.len() <= MAX_BYTES && has_token_bytes(text.as_bytes())
+    !text.is_empty() && text.len() <= MAX_ID_BYTES && has_id_bytes(text.as_bytes())
 }
 
-fn has_token_bytes(bytes: &[u8]) -> bool
+fn has_id_bytes(bytes: &[u8]) -> bool
     ensures { result ≡ list_all (λ b. nat_le 32 b && not (b == 127)) bytes.now }
 {
     bytes.iter().all(|byte| *byte >= 32 && *byte != 127)

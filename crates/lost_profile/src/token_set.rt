@@ -1,12 +1,12 @@
 //! Token sets.
-ghost use Rattle.std.specs.Prelude.{◌≡◌, ◌↔◌, ◌&&◌, false, not, IsTrue, IfOk, OnOk};
+ghost use Rattle.std.specs.Prelude.{◌≡◌, ◌↔◌, ◌&&◌, false, map, not, string_bytes, IsTrue, IfOk, OnOk};
 ghost use Rattle.std.specs.List.{list_all};
 ghost use Rattle.std.specs.Cmp.{partial_equiv_from_equiv};
 ghost use Rattle.lost_spec.specs.Text.{is_among, has_repeat, same_texts};
 ghost use Rattle.lost_spec.specs.Token.{is_token, is_token_set, contains_token};
 ghost use Rattle.lost_profile.specs.TokenSets.{same_texts-equiv};
 
-use crate::token::Token;
+use crate::token::{Token, is_id};
 use lost_spec::faults::TokenError;
 use std::alloc::{AllocError, Global};
 use std::marker::Model;
@@ -47,13 +47,45 @@ impl TokenSet {
         ensures value { IfOk result (λ set. set ≡ tokens.items) }
         ensures bad { (result ≡ Err TokenError.Bad) ↔ (is_token_set tokens.items ≡ false) }
     {
-        if !is_token_set(&tokens) {
+        if !is_token_set_of::<Token>(&tokens) {
             return Err(TokenError::Bad);
         }
         match Arc::new(alloc, tokens) {
             Ok(tokens) => Ok(TokenSet { tokens }),
             Err(_) => Err(TokenError::Memory),
         }
+    }
+
+    /// The set of the tokens of these texts (own rule).
+    ///
+    /// # Errors
+    ///
+    /// [`TokenError::Bad`] where [`is_token_set`] says no, and [`TokenError::Memory`]. A refusal takes no memory.
+    pub fn parse(alloc: Global, texts: &[String]) -> Result<TokenSet, TokenError>
+        ensures value { IfOk result (λ set. set ≡ map string_bytes texts.now) }
+        ensures bad { (result ≡ Err TokenError.Bad) ↔ (is_token_set (map string_bytes texts.now) ≡ false) }
+    {
+        if !is_token_set(texts) {
+            return Err(TokenError::Bad);
+        }
+        match TokenSet::copied(alloc, texts) {
+            Ok(set) => Ok(set),
+            Err(_) => Err(TokenError::Memory),
+        }
+    }
+
+    /// The same for texts that are a set.
+    fn copied(alloc: Global, texts: &[String]) -> Result<TokenSet, AllocError>
+        requires { IsTrue (is_token_set (map string_bytes texts.now)) }
+        ensures { IfOk result (λ set. set ≡ map string_bytes texts.now) }
+    {
+        let mut tokens = Vec::with_capacity(alloc, texts.len())?;
+        for text in texts {
+            tokens.push(Token::keep(alloc, text.as_str())?)?;
+        }
+        Ok(TokenSet {
+            tokens: Arc::new(alloc, tokens)?,
+        })
     }
 
     /// The tokens, as they were given.
@@ -65,10 +97,10 @@ impl TokenSet {
     }
 
     /// Whether the token is one of the set's, byte for byte (own rule). It takes no memory.
-    pub(crate) fn contains(&self, token: &Token) -> bool
+    pub fn contains(&self, token: &Token) -> bool
         ensures { result ≡ contains_token self.now token.now }
     {
-        is_among(token.text(), self.tokens())
+        is_among::<Token>(token.text(), self.tokens())
     }
 
     /// The same set once more. It costs a pointer.
@@ -81,20 +113,67 @@ impl TokenSet {
     }
 }
 
-/// Whether these tokens are a set.
-fn is_token_set(tokens: &[Token]) -> bool
-    ensures { result ≡ is_token_set tokens.now }
-{
-    !tokens.is_empty() && tokens.len() <= TokenSet::MAX_TOKENS && are_apart(tokens)
+/// How to read the texts of tokens from the items of a list, such as tokens, texts, or values of a tree.
+pub trait TokenTexts {
+    ghost use Rattle.std.specs.Prelude.{◌≡◌};
+    ghost use Rattle.lost_spec.specs.Text.{Text};
+
+    /// An item that holds the text of a token.
+    type Item;
+
+    // The text of an item.
+    ghost text_of: { Self.Item → Text };
+
+    /// The text of an item.
+    fn text(item: &Self::Item) -> &str
+        ensures { result.now ≡ text_of item.now };
 }
 
-/// Whether no token stands twice. It takes the square of their number, which is at most 64 where this is asked.
-fn are_apart(tokens: &[Token]) -> bool
-    ensures { result ≡ (list_all is_token tokens.now && not (has_repeat tokens.now)) }
+/// A text is its own.
+impl TokenTexts for String {
+    type Item = String;
+
+    ghost text_of = { string_bytes };
+
+    fn text(item: &String) -> &str {
+        item.as_str()
+    }
+}
+
+/// A token has a text.
+impl TokenTexts for Token {
+    type Item = Token;
+
+    ghost text_of = { λ token. token };
+
+    fn text(item: &Token) -> &str {
+        item.text()
+    }
+}
+
+/// Whether these texts are a token set: 1 to 64 tokens, none twice (own rule). It takes no memory.
+pub fn is_token_set(texts: &[String]) -> bool
+    ensures { result ≡ is_token_set (map string_bytes texts.now) }
 {
-    let mut rest = tokens;
-    while let Some((token, others)) = rest.split_first() {
-        if is_among(token.text(), others) {
+    is_token_set_of::<String>(texts)
+}
+
+/// The same for items that hold texts.
+pub fn is_token_set_of<T: TokenTexts>(items: &[T::Item]) -> bool
+    ensures { result ≡ is_token_set (map T.text_of items.now) }
+{
+    !items.is_empty() && items.len() <= TokenSet::MAX_TOKENS && are_apart::<T>(items)
+}
+
+/// Whether each is a token, and none stands twice. It takes the square of their number, which is at most 64 where this is
+/// asked.
+fn are_apart<T: TokenTexts>(items: &[T::Item]) -> bool
+    ensures { result ≡ (list_all is_token (map T.text_of items.now) && not (has_repeat (map T.text_of items.now))) }
+{
+    let mut rest = items;
+    while let Some((item, others)) = rest.split_first() {
+        let text = T::text(item);
+        if !is_id(text) || is_among::<T>(text, others) {
             return false;
         }
         rest = others;
@@ -102,11 +181,11 @@ fn are_apart(tokens: &[Token]) -> bool
     true
 }
 
-/// Whether this is the text of one of the tokens.
-fn is_among(text: &str, tokens: &[Token]) -> bool
-    ensures { result ≡ is_among text.now tokens.now }
+/// Whether this is the text of one of the items.
+fn is_among<T: TokenTexts>(text: &str, items: &[T::Item]) -> bool
+    ensures { result ≡ is_among text.now (map T.text_of items.now) }
 {
-    tokens.iter().any(|token| text == token.text())
+    items.iter().any(|item| text == T::text(item))
 }
 
 /// Two sets are equal where their tokens are, byte for byte and in their order.

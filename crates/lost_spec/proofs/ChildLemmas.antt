@@ -4,12 +4,12 @@ use Rattle.std.specs.List.{AllByRecursion, cons_option}
 use lib.Pointwise.{pointwise}
 use Rattle.std.proofs.Common.{refl, ap, ◌∙◌, subst, arith, ltb-true, take-take, length-take-le}
 use Rattle.std.proofs.lemmas.Bool.{and_parts}
+use Rattle.lost_spec.specs.Place.{Place}
 use Rattle.lost_spec.specs.Text.{same_text}
 use Rattle.lost_spec.specs.Service.{Service, service_text, is_at_or_below, is_above, child}
 use Rattle.lost_spec.specs.Moment.{Instant}
 use Rattle.lost_spec.specs.Mapping.{Mapping}
 use Rattle.lost_spec.specs.Book.{Book}
-use Rattle.lost_spec.specs.Find.{Place}
 use Rattle.lost_spec.specs.Services.{services, all_services, children_in, holding, living}
 use Rattle.lost_spec.specs.ListLaws.{AreChildren}
 use Rattle.lost_spec.proofs.OrderLemmas.{AllByRecursion-ascending_by, EachWithLater-ascending_by}

@@ -2,12 +2,13 @@
 use Rattle.std.proofs.Common.{◌≡◌, Bool, true, false, cond, not, ◌&&◌, List, [], ◌∷◌, ◌++◌, filter, find, IfSome, Some, sym, refl, ap, subst, ◌∙◌, length, is_none, if◌then◌else◌, arith}
 use Rattle.std.specs.List.{AllByRecursion, list_any}
 use Rattle.std.proofs.lemmas.Bool.{and_parts, false_from_ne_true}
+use Rattle.lost_spec.specs.Place.{Place}
 use Rattle.lost_spec.specs.Service.{Service, same_service, chain}
 use Rattle.lost_spec.specs.Civic.{Pairs}
 use Rattle.lost_spec.specs.Moment.{Instant}
 use Rattle.lost_spec.specs.Mapping.{Mapping, is_live}
 use Rattle.lost_spec.specs.Book.{Book, Edit, Publish, Replace, Withdraw, Identity, identity_of, has_identity, replaced, without, mappings_after, refusal, changed, after}
-use Rattle.lost_spec.specs.Find.{Place, holds, serves, at, defaults, unless_empty, first_with, finding, found, is_implemented}
+use Rattle.lost_spec.specs.Find.{holds, serves, at, defaults, unless_empty, first_with, finding, found, is_implemented}
 use Rattle.lost_spec.specs.Validation.{of_service, validation}
 use Rattle.lost_spec.specs.FindLaws.{IsOfChain, IsElsewhere}
 use Rattle.lost_spec.proofs.FilterLemmas.{list_any-filter, filter_drops}

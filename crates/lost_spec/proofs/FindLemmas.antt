@@ -3,11 +3,12 @@ use Rattle.std.proofs.Common.{◌≡◌, true, not, ◌&&◌, List, [], length, 
 use Rattle.std.specs.List.{list_any}
 use Rattle.std.proofs.lemmas.Bool.{and_parts, and_from, not-true, not_from_false}
 use Rattle.lost_spec.proofs.ListLemmas.{AllByRecursion-weaker}
+use Rattle.lost_spec.specs.Place.{Place}
 use Rattle.lost_spec.specs.Service.{Service, same_service, chain}
 use Rattle.lost_spec.specs.Moment.{Instant}
 use Rattle.lost_spec.specs.Mapping.{Mapping, is_live}
 use Rattle.lost_spec.specs.Book.{Book}
-use Rattle.lost_spec.specs.Find.{Place, holds, serves, at, defaults, first_with, finding, Finding, FoundHolders, FoundDefaults, FoundNothing, found, is_implemented}
+use Rattle.lost_spec.specs.Find.{holds, serves, at, defaults, first_with, finding, Finding, FoundHolders, FoundDefaults, FoundNothing, found, is_implemented}
 use Rattle.lost_spec.specs.Laws.{Picks}
 use Rattle.lost_spec.specs.FindLaws.{IsOfChain, HoldsHere, StandsBy, NoHolder, NoDefault, IsNowhere, IsWhatIsThere, FoundIsThere, NothingWhereNothingIs, NothingUnlessImplemented, IsHere, ImplementedMeansHere, HereMeansImplemented}
 use Rattle.lost_spec.proofs.FilterLemmas.{nil_from_Picks, Picks-filter, none_from_filter, none_from_list_any, list_any_from_none}

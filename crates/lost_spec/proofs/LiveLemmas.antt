@@ -1,16 +1,17 @@
 -- Mappings that are not live change no answer.
-use Rattle.std.specs.Prelude.{◌≡◌, Bool, true, false, not, ◌&&◌, if◌then◌else◌, List, [], ◌∷◌, ◌++◌, map, Option, Some}
+use Rattle.std.specs.Prelude.{◌≡◌, Bool, true, false, not, ◌&&◌, if◌then◌else◌, List, [], ◌∷◌, ◌++◌, map, Option, Some, None}
 use Rattle.std.specs.List.{list_any}
 use Rattle.std.proofs.Common.{refl, sym, ap, ◌∙◌}
 use Rattle.std.proofs.lemmas.Bool.{and_parts}
 use Rattle.lost_spec.specs.declared.answers.AnswerError.TheVariants.{Loop}
+use Rattle.lost_spec.specs.Place.{Place, address_at}
 use Rattle.lost_spec.specs.Text.{Text}
 use Rattle.lost_spec.specs.Service.{Service, same_service, chain}
 use Rattle.lost_spec.specs.Civic.{Pairs}
 use Rattle.lost_spec.specs.Moment.{Instant}
 use Rattle.lost_spec.specs.Mapping.{Mapping, is_live}
 use Rattle.lost_spec.specs.Book.{Book, has_key}
-use Rattle.lost_spec.specs.Find.{Place, AtPoint, AtAddress, holds, serves, at, defaults, first_with, finding, Finding, FoundHolders, FoundDefaults, FoundNothing, found, is_implemented, warnings_of}
+use Rattle.lost_spec.specs.Find.{holds, serves, at, defaults, first_with, finding, Finding, FoundHolders, FoundDefaults, FoundNothing, found, is_implemented, warnings_of}
 use Rattle.lost_spec.specs.Validation.{of_service, validation}
 use Rattle.lost_spec.specs.Services.{children_in, services, all_services, by_key}
 use Rattle.lost_spec.specs.Request.{Request, FindService, ListServicesByLocation, ListServices, GetServiceBoundary, FindServiceResponse, ListServicesByLocationResponse, ListServicesResponse, Errors}
@@ -68,15 +69,15 @@ module _ (b : Book) (t : Instant) where
 
   -- ---- answers
 
-  validation_for_live : (l : Place) (validate : Bool) (u : Service) (ms : List Mapping) → validation_for (without_expired b t) t l validate u ms ≡ validation_for b t l validate u ms
-  validation_for_live (AtPoint p) validate u ms = refl
-  validation_for_live (AtAddress address) true u ms = ap Some (validation_live u ms address)
-  validation_for_live (AtAddress address) false u ms = refl
+  validation_for_live : (o : Option Pairs) (validate : Bool) (u : Service) (ms : List Mapping) → validation_for (without_expired b t) t o validate u ms ≡ validation_for b t o validate u ms
+  validation_for_live None validate u ms = refl
+  validation_for_live (Some address) true u ms = ap Some (validation_live u ms address)
+  validation_for_live (Some address) false u ms = refl
 
   find_reply_live : (s : Service) (id : Text) (l : Place) (validate by_value : Bool) (path : List Text) (f : Finding)
       → find_reply (without_expired b t) t s id l validate by_value path f ≡ find_reply b t s id l validate by_value path f
   find_reply_live s id l validate by_value path (FoundHolders u ms) =
-      ap (λ v. FindServiceResponse b.edits id v (map (shown l by_value) ms) path (warnings_of s l validate (FoundHolders u ms))) (validation_for_live l validate u ms)
+      ap (λ v. FindServiceResponse b.edits id v (map (shown l by_value) ms) path (warnings_of s l validate (FoundHolders u ms))) (validation_for_live (address_at l) validate u ms)
   find_reply_live s id l validate by_value path (FoundDefaults u ms) = refl
   find_reply_live s id l validate by_value path FoundNothing = ap (λ i. Errors b.edits (error_of i)) (is_implemented_live s)
 

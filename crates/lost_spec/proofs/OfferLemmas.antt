@@ -4,11 +4,12 @@ use Rattle.std.specs.List.{AllByRecursion, cons_option}
 use Rattle.std.proofs.Common.{refl, sym, ap, ◌∙◌, subst, arith, inl, inr, append_assoc, length-append, take-append-drop, take_at}
 use Rattle.std.proofs.Math.Seq.{take-append_seam}
 use Rattle.std.proofs.lemmas.Bool.{and_parts, and_from, not-true, not_from_false}
+use Rattle.lost_spec.specs.Place.{Place}
 use Rattle.lost_spec.specs.Text.{Text, insert_by, ascending_by}
 use Rattle.lost_spec.specs.Service.{Service, service_text, is_at_or_below, is_above, child}
 use Rattle.lost_spec.specs.Moment.{Instant}
 use Rattle.lost_spec.specs.Mapping.{Mapping, is_live}
-use Rattle.lost_spec.specs.Find.{Place, holds}
+use Rattle.lost_spec.specs.Find.{holds}
 use Rattle.lost_spec.specs.Services.{services, all_services}
 use Rattle.lost_spec.specs.Laws.{SomeByRecursion, BeginsWith}
 use Rattle.lost_spec.specs.ListLaws.{Offers, OffersHere, AreWhatIsOffered, ServicesAreThere, AllServicesAreThere}

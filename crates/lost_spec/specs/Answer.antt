@@ -1,56 +1,37 @@
 -- The answer to a request, found from scratch over a book.
-use Rattle.std.specs.Prelude.{ℕ, Bool, not, ◌&&◌, ◌||◌, if◌then◌else◌, List, [], ◌∷◌, ◌++◌, map, Option, Some, None, is_none, ℤ, find, codes}
+use Rattle.std.specs.Prelude.{ℕ, Bool, not, ◌&&◌, ◌||◌, if◌then◌else◌, List, [], ◌∷◌, ◌++◌, map, Option, Some, None, is_some, find}
 use Rattle.std.specs.List.{list_any}
 use Rattle.lost_spec.specs.declared.answers.AnswerError.{AnswerError}
 use Rattle.lost_spec.specs.declared.answers.AnswerError.TheVariants.{Loop, LocationProfileUnrecognized, SrsInvalid, LocationInvalid, NotFound, ServiceNotImplemented}
-use Rattle.lost_spec.specs.Text.{Text, same_text, same_ignoring_case}
+use Rattle.lost_spec.specs.Text.{Text, same_ignoring_case}
 use Rattle.lost_spec.specs.Service.{Service}
-use Rattle.lost_spec.specs.Ring.{point_fault}
-use Rattle.lost_spec.specs.Civic.{Pairs, address_fault}
+use Rattle.lost_spec.specs.Civic.{Pairs}
+use Rattle.lost_spec.specs.Place.{Place, kind_of, has_system, place_in, kind_at, address_at, of_kind}
 use Rattle.lost_spec.specs.Moment.{Instant}
 use Rattle.lost_spec.specs.Mapping.{Mapping}
 use Rattle.lost_spec.specs.Book.{Book}
-use Rattle.lost_spec.specs.Find.{Place, AtPoint, AtAddress, Finding, FoundHolders, FoundDefaults, FoundNothing, found, is_implemented, warnings_of}
+use Rattle.lost_spec.specs.Find.{Finding, FoundHolders, FoundDefaults, FoundNothing, found, is_implemented, warnings_of}
 use Rattle.lost_spec.specs.Validation.{Validation, validation}
 use Rattle.lost_spec.specs.Services.{services, all_services, by_key}
-use Rattle.lost_spec.specs.Request.{Body, PointBody, AddressBody, UnreadableBody, Location, Request, FindService, ListServicesByLocation, ListServices, GetServiceBoundary, Boundary, ByReference, ByPolygons, ByPatterns, NoBoundary, ShownMapping, Reply, FindServiceResponse, ListServicesByLocationResponse, ListServicesResponse, GetServiceBoundaryResponse, Errors}
+use Rattle.lost_spec.specs.Request.{Location, Request, FindService, ListServicesByLocation, ListServices, GetServiceBoundary, Boundary, ByReference, ByValue, NoBoundary, ShownMapping, Reply, FindServiceResponse, ListServicesByLocationResponse, ListServicesResponse, GetServiceBoundaryResponse, Errors}
 
 -- ---- the location used (RFC 5222, sections 8.3.1 and 12.1)
 
-abbrev pub is_geodetic : Text → Bool
-is_geodetic profile = same_text profile (codes "geodetic-2d")
-
-abbrev pub is_civic : Text → Bool
-is_civic profile = same_text profile (codes "civic")
-
 -- the first location with a profile that is known
 abbrev pub location_used : List Location → Option Location
-location_used locations = find (λ l. is_geodetic l.profile || is_civic l.profile) locations
-
--- the point of a latitude and a longitude that are not refused, and the address of pairs that are not
-abbrev pub point_place : ℤ → ℤ → Option Place
-point_place lat lon = if is_none (point_fault lat lon) then Some (AtPoint (record { lat = lat; lon = lon })) else None
-
-abbrev pub address_place : Pairs → Option Place
-address_place pairs = if is_none (address_fault pairs) then Some (AtAddress pairs) else None
-
--- the place of a body of the profile: a point for `geodetic-2d`, an address for `civic`
-abbrev pub place_of : Bool → Body → Option Place
-place_of geodetic (PointBody lat lon) = if geodetic then point_place lat lon else None
-place_of geodetic (AddressBody pairs) = if geodetic then None else address_place pairs
-place_of geodetic UnreadableBody = None
+location_used locations = find (λ l. is_some (kind_of l.profile)) locations
 
 -- the answer at a location's place, or that it has none
 abbrev pub at_place : ℕ → Option Place → (Place → Reply) → Reply
 at_place edition None answer = Errors edition LocationInvalid
 at_place edition (Some l) answer = answer l
 
--- the answer at a location: its reference system is looked at for `geodetic-2d` alone
+-- the answer at a location: its reference system is looked at if its kind has one
 abbrev pub at_location : ℕ → Option Location → (Text → Place → Reply) → Reply
 at_location edition None answer = Errors edition LocationProfileUnrecognized
 at_location edition (Some location) answer =
-    if is_geodetic location.profile && not location.srs_known then Errors edition SrsInvalid
-    else at_place edition (place_of (is_geodetic location.profile) location.body) (answer location.id)
+    if has_system (kind_of location.profile) && not location.srs_known then Errors edition SrsInvalid
+    else at_place edition (place_in (kind_of location.profile) location.body) (answer location.id)
 
 -- ---- findService (RFC 5222, section 8)
 
@@ -59,10 +40,9 @@ abbrev pub reference_of : Option Text → Text → Boundary
 reference_of None source = NoBoundary
 reference_of (Some key) source = ByReference key source
 
--- the regions of the profile of the location used
+-- the regions of the kind of the place
 abbrev pub value_shown : Place → Mapping → Boundary
-value_shown (AtPoint p) m = ByPolygons m.polygons
-value_shown (AtAddress address) m = ByPatterns m.patterns
+value_shown l m = ByValue (of_kind (kind_at l) m.regions)
 
 -- a boundary as the client prefers it, and none for a default (RFC 5222, section 8.3.4)
 abbrev pub boundary_shown : Place → Bool → Mapping → Boundary
@@ -73,9 +53,9 @@ abbrev pub shown : Place → Bool → Mapping → ShownMapping
 shown l by_value m = record { mapping = m; boundary = boundary_shown l by_value m }
 
 -- validation, where the place is an address, it is asked for, and what was found are no defaults
-abbrev pub validation_for : Book → Instant → Place → Bool → Service → List Mapping → Option Validation
-validation_for b t (AtPoint p) validate u ms = None
-validation_for b t (AtAddress address) validate u ms = if validate then Some (validation b t u ms address) else None
+abbrev pub validation_for : Book → Instant → Option Pairs → Bool → Service → List Mapping → Option Validation
+validation_for b t None validate u ms = None
+validation_for b t (Some address) validate u ms = if validate then Some (validation b t u ms address) else None
 
 -- the error where nothing is found (RFC 5222, section 13.1; reading own)
 abbrev pub error_of : Bool → AnswerError
@@ -84,7 +64,7 @@ error_of implemented = if implemented then NotFound else ServiceNotImplemented
 -- the reply for what was found for service s at a place
 abbrev pub find_reply : Book → Instant → Service → Text → Place → Bool → Bool → List Text → Finding → Reply
 find_reply b t s id l validate by_value path (FoundHolders u ms) =
-    FindServiceResponse b.edits id (validation_for b t l validate u ms) (map (shown l by_value) ms) path (warnings_of s l validate (FoundHolders u ms))
+    FindServiceResponse b.edits id (validation_for b t (address_at l) validate u ms) (map (shown l by_value) ms) path (warnings_of s l validate (FoundHolders u ms))
 find_reply b t s id l validate by_value path (FoundDefaults u ms) =
     FindServiceResponse b.edits id None (map (shown l by_value) ms) path (warnings_of s l validate (FoundDefaults u ms))
 find_reply b t s id l validate by_value path FoundNothing = Errors b.edits (error_of (is_implemented b t s))
@@ -93,7 +73,7 @@ find_reply b t s id l validate by_value path FoundNothing = Errors b.edits (erro
 
 abbrev pub boundary_reply : ℕ → List Text → Option Mapping → Reply
 boundary_reply edition path None = Errors edition NotFound
-boundary_reply edition path (Some m) = GetServiceBoundaryResponse edition path m.polygons m.patterns
+boundary_reply edition path (Some m) = GetServiceBoundaryResponse edition path m.regions
 
 -- ---- the answer
 

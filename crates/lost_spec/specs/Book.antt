@@ -2,12 +2,10 @@
 use Rattle.std.specs.Prelude.{ℕ, ◌+◌, ◌-◌, Bool, true, false, not, ◌&&◌, if◌then◌else◌, List, [], ◌∷◌, ◌++◌, length, take, drop, Option, Some, None, is_none, nat_le, find, fold}
 use Rattle.std.specs.List.{list_any}
 use Rattle.std.specs.Map.{lookup}
-use lib.Pointwise.{pointwise}
 use Rattle.lost_spec.specs.declared.faults.EditError.{EditError}
 use Rattle.lost_spec.specs.declared.faults.EditError.TheVariants.{IdentityHeld, IdentityUnknown, NotNewer, KeyHeld, KeyUnchanged, Full, EditsSpent, Withdrawn, TracesFull}
 use Rattle.lost_spec.specs.Text.{Text, same_text, is_between, first_fault}
-use Rattle.lost_spec.specs.Ring.{same_point}
-use Rattle.lost_spec.specs.Civic.{Pairs}
+use Rattle.lost_spec.specs.Place.{same_regions}
 use Rattle.lost_spec.specs.Moment.{is_earlier, Stamp}
 use Rattle.lost_spec.specs.Mapping.{Mapping}
 
@@ -107,13 +105,6 @@ abbrev pub is_not_after : Option Stamp → Stamp → Bool
 is_not_after None stamp = false
 is_not_after (Some trace) stamp = not (is_earlier trace.moment stamp.moment)
 
--- regions are the same: polygons by positions, patterns by names and values as given
-abbrev pub same_pairs : Pairs → Pairs → Bool
-same_pairs xs ys = pointwise (λ x y. same_text x.0 y.0 && same_text x.1 y.1) xs ys
-
-abbrev pub same_regions : Mapping → Mapping → Bool
-same_regions m n = pointwise (λ x y. pointwise same_point x y) m.polygons n.polygons && pointwise same_pairs m.patterns n.patterns
-
 -- keys are the same, or both absent
 abbrev pub same_key : Option Text → Option Text → Bool
 same_key None None = true
@@ -124,7 +115,7 @@ same_key (Some key) (Some other) = same_text key other
 -- the regions changed, and the key did not (RFC 5222, section 5.6)
 abbrev pub is_key_unchanged : Option Mapping → Mapping → Bool
 is_key_unchanged None m = false
-is_key_unchanged (Some old) m = not (same_regions old m) && same_key old.key m.key
+is_key_unchanged (Some old) m = not (same_regions old.regions m.regions) && same_key old.key m.key
 
 -- ---- refusals, in the order of their checks (own)
 

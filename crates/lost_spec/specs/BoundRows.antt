@@ -4,12 +4,14 @@ use Rattle.lost_spec.specs.declared.faults.UrnError.TheVariants.{BadCharacter, T
 use Rattle.lost_spec.specs.declared.faults.GeoError.TheVariants.{Latitude, Longitude}
 use Rattle.lost_spec.specs.declared.faults.CivicError.TheVariants.{Repeated, TooLong as CivicTooLong}
 use Rattle.lost_spec.specs.declared.faults.MappingError.TheVariants.{TooLarge}
+use Rattle.lost_spec.specs.Token.{is_id}
+use Rattle.lost_spec.specs.Place.{Region, RingRegion, PatternRegion}
 use Rattle.lost_spec.specs.Text.{Text}
 use Rattle.lost_spec.specs.Service.{read_service}
 use Rattle.lost_spec.specs.Ring.{Point, point_fault, ring_fault, normal}
 use Rattle.lost_spec.specs.Civic.{Pairs, address_fault, pattern_fault}
 use Rattle.lost_spec.specs.Moment.{Instant, is_earlier, Stamp, read_stamp, is_stamp}
-use Rattle.lost_spec.specs.Mapping.{Region, RingRegion, PatternRegion, DisplayName, is_source, is_id, is_uri, are_uris, is_number, parts_fault}
+use Rattle.lost_spec.specs.Mapping.{DisplayName, is_source, is_uri, are_uris, is_number, parts_fault}
 use Rattle.lost_spec.specs.Validation.{ordered_names}
 use Rattle.lost_spec.specs.Examples.{ring_a}
 use Rattle.lost_spec.specs.Rows.{parts_a, english}

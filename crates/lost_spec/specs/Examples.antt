@@ -1,17 +1,19 @@
 -- The things that the worked rows speak of: rings, mappings, edits, requests and replies, each written out.
 use Rattle.std.specs.Prelude.{ℕ, true, false, List, [], ◌∷◌, ◌++◌, map, Option, Some, None, ℤ, pos, negsuc, codes}
 use Rattle.lost_spec.specs.declared.answers.Warning.{Warning}
+use Rattle.lost_spec.specs.Token.{is_id}
+use Rattle.lost_spec.specs.Place.{Region, Regions, no_regions, point_of, Body, PointBody, AddressBody, TokenBody}
 use Rattle.lost_spec.specs.Text.{Text}
 use Rattle.lost_spec.specs.Service.{Service, read_service}
 use Rattle.lost_spec.specs.Ring.{Point}
 use Rattle.lost_spec.specs.Civic.{Pairs}
 use Rattle.lost_spec.specs.Moment.{Instant, Stamp, is_stamp, moment_of}
-use Rattle.lost_spec.specs.Mapping.{Region, Parts, Mapping, NoExpiration, point_of, is_source, is_id, is_uri, parts_fault, mapping_of}
+use Rattle.lost_spec.specs.Mapping.{Parts, Mapping, NoExpiration, is_source, is_uri, parts_fault, mapping_of}
 use Rattle.lost_spec.specs.Book.{Limits, Edit, book_of}
 use Rattle.lost_spec.specs.Find.{found, is_implemented}
 use Rattle.lost_spec.specs.Validation.{validation}
 use Rattle.lost_spec.specs.Services.{services, all_services, by_key}
-use Rattle.lost_spec.specs.Request.{Body, PointBody, AddressBody, Location, Request, FindService, ListServicesByLocation, ByReference, ByPolygons, NoBoundary, ShownMapping, Reply, FindServiceResponse}
+use Rattle.lost_spec.specs.Request.{Location, Request, FindService, ListServicesByLocation, ByReference, ByValue, NoBoundary, ShownMapping, Reply, FindServiceResponse}
 use Rattle.lost_spec.specs.Answer.{answer}
 use Rattle.std.specs.Str.{chars, is_utf8}
 use lib.Utf8.{encode}
@@ -91,7 +93,11 @@ parts_of x service regions = record {
   key = Some (key_of x);
 }
 
--- the mapping X with its regions
+-- polygons and patterns
+abbrev pub regions_with : List (List Point) → List Pairs → Regions
+regions_with polygons patterns = record { polygons = polygons; patterns = patterns; token_sets = [] }
+
+-- the mapping X with its polygons and patterns
 abbrev pub mapping_with : Text → Service → List (List Point) → List Pairs → Mapping
 mapping_with x service polygons patterns = record {
   source = desk;
@@ -101,8 +107,7 @@ mapping_with x service polygons patterns = record {
   service = service;
   uris = uri_of x ∷ [];
   number = None;
-  polygons = polygons;
-  patterns = patterns;
+  regions = regions_with polygons patterns;
   is_default = false;
   display_names = [];
   key = Some (key_of x);
@@ -112,9 +117,9 @@ mapping_with x service polygons patterns = record {
 abbrev pub mapping_on : Text → Service → List (ℤ × ℤ) → Mapping
 mapping_on x service ring = mapping_with x service (points ring ∷ []) []
 
--- a mapping with another stamp, key and polygons, as a replacement has them
+-- a mapping with another stamp and key and with one ring, as a replacement has them
 abbrev pub renewed : Mapping → Stamp → Text → List (ℤ × ℤ) → Mapping
-renewed m stamp key ring = record m { stamp = stamp; polygons = points ring ∷ []; key = Some key }
+renewed m stamp key ring = record m { stamp = stamp; regions = regions_with (points ring ∷ []) []; key = Some key }
 
 -- the ring of A, and those of B, C and the world
 abbrev pub ring_a : List (ℤ × ℤ)
@@ -149,7 +154,7 @@ mapping_d = mapping_on (codes "D") police ring_a
 
 -- the default T of service sos
 abbrev pub mapping_t : Mapping
-mapping_t = record mapping_a { source_id = codes "T"; service = sos; uris = uri_of (codes "T") ∷ []; polygons = []; is_default = true; key = None }
+mapping_t = record mapping_a { source_id = codes "T"; service = sos; uris = uri_of (codes "T") ∷ []; regions = no_regions; is_default = true; key = None }
 
 -- the patterns of the civic row
 abbrev pub wide_pattern : Pairs
@@ -185,15 +190,21 @@ geodetic = codes "geodetic-2d"
 abbrev pub civic : Text
 civic = codes "civic"
 
+abbrev pub x_token : Text
+x_token = codes "x-token"
+
 abbrev pub location_at : Text → Text → Body → Location
 location_at id profile body = record { id = id; profile = profile; srs_known = true; body = body }
 
--- the location p at a point, and at an address
+-- the location p at a point, at an address, and at a token
 abbrev pub at_point : ℤ → ℤ → Location
 at_point lat lon = location_at (codes "p") geodetic (PointBody lat lon)
 
 abbrev pub at_address : Pairs → Location
 at_address pairs = location_at (codes "p") civic (AddressBody pairs)
+
+abbrev pub at_token : Text → Location
+at_token token = location_at (codes "p") x_token (TokenBody token)
 
 -- findService for a service and locations, with no options
 abbrev pub find_at : Service → List Location → Request
@@ -217,7 +228,7 @@ abbrev pub by_reference : Text → Mapping → ShownMapping
 by_reference key m = record { mapping = m; boundary = ByReference key desk }
 
 abbrev pub by_polygons : List (List Point) → Mapping → ShownMapping
-by_polygons polygons m = record { mapping = m; boundary = ByPolygons polygons }
+by_polygons polygons m = record { mapping = m; boundary = ByValue (regions_with polygons []) }
 
 abbrev pub as_default : Mapping → ShownMapping
 as_default m = record { mapping = m; boundary = NoBoundary }

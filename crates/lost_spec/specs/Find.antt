@@ -4,21 +4,15 @@ use Rattle.std.specs.List.{list_any}
 use Rattle.lost_spec.specs.declared.answers.Warning.{Warning}
 use Rattle.lost_spec.specs.declared.answers.Warning.TheVariants.{ServiceSubstitution, DefaultMappingReturned, LocationValidationUnavailable}
 use Rattle.lost_spec.specs.Service.{Service, same_service, chain}
-use Rattle.lost_spec.specs.Ring.{Point, inside}
-use Rattle.lost_spec.specs.Civic.{Pairs, matches}
+use Rattle.lost_spec.specs.Civic.{Pairs}
+use Rattle.lost_spec.specs.Place.{Place, contains, address_at}
 use Rattle.lost_spec.specs.Moment.{Instant}
 use Rattle.lost_spec.specs.Mapping.{Mapping, is_live}
 use Rattle.lost_spec.specs.Book.{Book}
 
--- where a request asks: a point, or a civic address (RFC 5222, section 12)
-pub data Place : Type 0 where
-  AtPoint : (point : Point) → Place
-  AtAddress : (address : Pairs) → Place
-
--- a mapping holds a place: some polygon has the point inside, or some pattern matches the address (RFC 5222, section 12.1)
+-- a mapping holds a place: its regions contain it (RFC 5222, section 12.1)
 abbrev pub holds : Mapping → Place → Bool
-holds m (AtPoint p) = list_any (λ ring. inside ring p) m.polygons
-holds m (AtAddress address) = list_any (λ pattern. matches pattern address) m.patterns
+holds m l = contains m.regions l
 
 -- a mapping is live at t and has service u
 abbrev pub serves : Mapping → Instant → Service → Bool
@@ -80,12 +74,12 @@ abbrev pub substitution_warnings : Service → Service → List Warning
 substitution_warnings s u = if same_service s u then [] else ServiceSubstitution ∷ []
 
 -- validation of an address was asked for, and can't be done for defaults
-abbrev pub unavailable_warnings : Place → Bool → List Warning
-unavailable_warnings (AtPoint p) validate = []
-unavailable_warnings (AtAddress address) validate = if validate then LocationValidationUnavailable ∷ [] else []
+abbrev pub unavailable_warnings : Option Pairs → Bool → List Warning
+unavailable_warnings None validate = []
+unavailable_warnings (Some address) validate = if validate then LocationValidationUnavailable ∷ [] else []
 
 -- the warnings of what was found for service s at a place, in their order
 abbrev pub warnings_of : Service → Place → Bool → Finding → List Warning
 warnings_of s l validate (FoundHolders u ms) = substitution_warnings s u
-warnings_of s l validate (FoundDefaults u ms) = substitution_warnings s u ++ (DefaultMappingReturned ∷ unavailable_warnings l validate)
+warnings_of s l validate (FoundDefaults u ms) = substitution_warnings s u ++ (DefaultMappingReturned ∷ unavailable_warnings (address_at l) validate)
 warnings_of s l validate FoundNothing = []

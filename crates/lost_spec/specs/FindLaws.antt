@@ -1,12 +1,13 @@
 -- Laws of what is found, in the words of RFC 5222 and without the steps of a search.
 use Rattle.std.specs.Prelude.{◌≡◌, ◌≢◌, ℕ, ◌<◌, Bool, IsTrue, IsFalse, List, [], IfSome, length}
 use Rattle.std.specs.List.{AllByRecursion}
+use Rattle.lost_spec.specs.Place.{Place}
 use Rattle.lost_spec.specs.Text.{Text}
 use Rattle.lost_spec.specs.Service.{Service}
 use Rattle.lost_spec.specs.Moment.{Instant}
 use Rattle.lost_spec.specs.Mapping.{Mapping, is_live}
 use Rattle.lost_spec.specs.Book.{Book, Edit, Publish, Replace, Withdraw, identity_of, held, after}
-use Rattle.lost_spec.specs.Find.{Place, holds, Finding, FoundHolders, FoundDefaults, FoundNothing, found, is_implemented}
+use Rattle.lost_spec.specs.Find.{holds, Finding, FoundHolders, FoundDefaults, FoundNothing, found, is_implemented}
 use Rattle.lost_spec.specs.Request.{Location, FindService, Reply, FindServiceResponse, ListServicesByLocationResponse, ListServicesResponse, GetServiceBoundaryResponse, Errors, BadRequest, InternalError}
 use Rattle.lost_spec.specs.Answer.{answer}
 use Rattle.lost_spec.specs.Laws.{Picks, BeginsWith}
@@ -98,7 +99,7 @@ abbrev pub with_edition : ℕ → Reply → Reply
 with_edition n (FindServiceResponse edition id validation ms path warnings) = FindServiceResponse n id validation ms path warnings
 with_edition n (ListServicesByLocationResponse edition id path services) = ListServicesByLocationResponse n id path services
 with_edition n (ListServicesResponse edition path services) = ListServicesResponse n path services
-with_edition n (GetServiceBoundaryResponse edition path polygons patterns) = GetServiceBoundaryResponse n path polygons patterns
+with_edition n (GetServiceBoundaryResponse edition path regions) = GetServiceBoundaryResponse n path regions
 with_edition n (Errors edition error) = Errors n error
 with_edition n BadRequest = BadRequest
 with_edition n InternalError = InternalError

@@ -2,10 +2,11 @@
 use Rattle.std.specs.Prelude.{◌≡◌, ℕ, ◌≤◌, not, ◌&&◌, if◌then◌else◌, List, [], length, take, Option, None, Some}
 use Rattle.lost_spec.specs.Text.{Text}
 use Rattle.lost_spec.specs.Positions.{positions}
-use Rattle.lost_spec.specs.Find.{Place, holds}
+use Rattle.lost_spec.specs.Place.{Place, kind_of, has_system, place_in}
+use Rattle.lost_spec.specs.Find.{holds}
 use Rattle.lost_spec.specs.Book.{Limits, Book, Edit, book_of}
 use Rattle.lost_spec.specs.Request.{Location, Request, FindService, ListServicesByLocation, ListServices, GetServiceBoundary}
-use Rattle.lost_spec.specs.Answer.{is_geodetic, location_used, place_of, path_of, is_loop}
+use Rattle.lost_spec.specs.Answer.{location_used, path_of, is_loop}
 
 -- the locations of a request; two kinds have none (RFC 5222, sections 8 to 11)
 abbrev pub locations_in : Request → List Location
@@ -18,8 +19,8 @@ locations_in (GetServiceBoundary key path) = []
 abbrev pub place_at : Option Location → Option Place
 place_at None = None
 place_at (Some location) =
-    if is_geodetic location.profile && not location.srs_known then None
-    else place_of (is_geodetic location.profile) location.body
+    if has_system (kind_of location.profile) && not location.srs_known then None
+    else place_in (kind_of location.profile) location.body
 
 -- the place of the location used by the server of this name; none for a loop, and none where the locations are refused (RFC 5222; order own)
 abbrev pub place_used : Text → Request → Option Place

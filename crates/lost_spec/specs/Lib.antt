@@ -4,10 +4,11 @@ pub mod Positions
 pub mod Service
 pub mod Ring
 pub mod Civic
+pub mod Token
+pub mod Place
 pub mod Moment
 pub mod Decimal
 pub mod Mapping
-pub mod Token
 pub mod Book
 pub mod Find
 pub mod Validation

@@ -1,6 +1,7 @@
 -- Laws of the lists of an answer: the names of a validation, the services below a service, and positions.
 use Rattle.std.specs.Prelude.{◌≡◌, ℕ, ◌+◌, ◌<◌, Bool, IsTrue, IsFalse, List, [], ◌++◌, map, filter, Option, Some, slice_get, length, unwrap_or}
 use Rattle.std.specs.List.{AllByRecursion}
+use Rattle.lost_spec.specs.Place.{Place}
 use Rattle.lost_spec.specs.Text.{Text, is_among, has_repeat}
 use Rattle.lost_spec.specs.Positions.{positions}
 use Rattle.lost_spec.specs.Service.{Service, service_text, is_at_or_below, is_service_before}
@@ -8,7 +9,7 @@ use Rattle.lost_spec.specs.Civic.{Pairs, names_of}
 use Rattle.lost_spec.specs.Moment.{Instant}
 use Rattle.lost_spec.specs.Mapping.{Mapping, is_live}
 use Rattle.lost_spec.specs.Book.{Book}
-use Rattle.lost_spec.specs.Find.{Place, holds}
+use Rattle.lost_spec.specs.Find.{holds}
 use Rattle.lost_spec.specs.Validation.{Validation, validation}
 use Rattle.lost_spec.specs.Services.{services, all_services}
 use Rattle.lost_spec.specs.Laws.{EachWithLater, SomeByRecursion, BeginsWith}

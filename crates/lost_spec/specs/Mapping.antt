@@ -1,14 +1,13 @@
 -- Mappings: what they carry, which parts make one, and when one is live.
-use Rattle.std.specs.Prelude.{ℕ, ◌+◌, Bool, true, false, not, ◌&&◌, ◌||◌, if◌then◌else◌, List, [], ◌∷◌, map, length, Option, Some, None, is_none, Result, Ok, Err, is_err, ℤ, nat_le, nat_lt, ◌==◌, take_while, filter_map, codes}
+use Rattle.std.specs.Prelude.{ℕ, ◌+◌, Bool, true, false, not, ◌&&◌, ◌||◌, if◌then◌else◌, List, [], ◌∷◌, map, length, Option, Some, None, is_none, Result, Ok, Err, is_err, nat_le, nat_lt, ◌==◌, take_while, codes}
 use Rattle.std.specs.List.{list_all, list_any}
 use Rattle.std.specs.Result.{result_unwrap_or}
-use Rattle.std.specs.Str.{is_utf8}
 use Rattle.lost_spec.specs.declared.faults.MappingError.{MappingError}
 use Rattle.lost_spec.specs.declared.faults.MappingError.TheVariants.{BadSource, BadSourceId, BadStamp, BadExpires, BadService, BadUri, BadNumber, BadRegion, RegionMissing, TooLarge, BadKey}
 use Rattle.lost_spec.specs.Text.{Text, same_text, lowered, has_repeat, is_between, is_letter, is_digit, first_is, first_fault}
 use Rattle.lost_spec.specs.Service.{Service, label_fault, split_at_dots, read_service}
-use Rattle.lost_spec.specs.Ring.{Point, point_fault, ring_fault}
-use Rattle.lost_spec.specs.Civic.{Pairs, pattern_fault}
+use Rattle.lost_spec.specs.Token.{is_id}
+use Rattle.lost_spec.specs.Place.{Region, Regions, by_kind, is_region, are_too_many}
 use Rattle.lost_spec.specs.Moment.{Instant, is_earlier, Stamp, stamp_of, is_stamp}
 
 -- ---- texts of a mapping
@@ -16,10 +15,6 @@ use Rattle.lost_spec.specs.Moment.{Instant, is_earlier, Stamp, stamp_of, is_stam
 -- a source, and a server's name: 1 to 253 bytes, labels joined by single dots, in any case (RFC 5222, section 5.1; spelling own)
 unfoldable pub is_source : Text → Bool
 is_source text = is_between 1 253 (length text) && list_all (λ label. is_none (label_fault label)) (split_at_dots (lowered text))
-
--- a sourceId, and a key: 1 to 128 bytes of UTF-8 without bytes below 32 and without byte 127 (own)
-unfoldable pub is_id : Text → Bool
-is_id text = is_between 1 128 (length text) && is_utf8 text && list_all (λ b. nat_le 32 b && not (b == 127)) text
 
 -- the scheme of a URI: what stands before its first colon (RFC 3986, section 3.1)
 abbrev pub scheme_of : Text → Text
@@ -59,12 +54,6 @@ pub data Expires : Type 0 where
   NoExpiration : Expires
   At : (stamp : Stamp) → Expires
 
--- a region as it is handed in: positions, pairs, or what could not be read (RFC 5222, section 5.5)
-pub data Region : Type 0 where
-  RingRegion : (positions : List (ℤ × ℤ)) → Region
-  PatternRegion : (pairs : Pairs) → Region
-  UnreadableRegion : Region
-
 -- a display name: its language and its text (RFC 5222, section 5.3)
 pub record DisplayName : Type 0 where
   pub lang : Text
@@ -93,8 +82,7 @@ pub record Mapping : Type 0 where
   pub service : Service
   pub uris : List Text
   pub number : Option Text
-  pub polygons : List (List Point)
-  pub patterns : List Pairs
+  pub regions : Regions
   pub is_default : Bool
   pub display_names : List DisplayName
   pub key : Option Text
@@ -114,45 +102,15 @@ is_expires text = same_text text no_cache || same_text text no_expiration || is_
 abbrev pub expires_of : Text → Expires
 expires_of text = if same_text text no_cache then NoCache else (if same_text text no_expiration then NoExpiration else At (stamp_of text))
 
-abbrev pub point_of : ℤ × ℤ → Point
-point_of position = record { lat = position.0; lon = position.1 }
-
--- each position is a point, and together they are a ring
-abbrev pub is_ring : List (ℤ × ℤ) → Bool
-is_ring positions = list_all (λ position. is_none (point_fault position.0 position.1)) positions && is_none (ring_fault (map point_of positions))
-
--- a region that can be read, of positions or of pairs that are not refused
-abbrev pub is_region : Region → Bool
-is_region (RingRegion positions) = is_ring positions
-is_region (PatternRegion pairs) = is_none (pattern_fault pairs)
-is_region UnreadableRegion = false
-
--- the polygon of a region, and its pattern, where it is one
-abbrev pub polygon_of : Region → Option (List Point)
-polygon_of (RingRegion positions) = Some (map point_of positions)
-polygon_of (PatternRegion pairs) = None
-polygon_of UnreadableRegion = None
-
-abbrev pub pattern_of : Region → Option Pairs
-pattern_of (RingRegion positions) = None
-pattern_of (PatternRegion pairs) = Some pairs
-pattern_of UnreadableRegion = None
-
-abbrev pub polygons_of : List Region → List (List Point)
-polygons_of regions = filter_map polygon_of regions
-
-abbrev pub patterns_of : List Region → List Pairs
-patterns_of regions = filter_map pattern_of regions
-
 -- a default has no region, and any other mapping has one (own)
 abbrev pub has_right_regions : Bool → List Region → Bool
 has_right_regions true regions = length regions == 0
 has_right_regions false regions = nat_lt 0 (length regions)
 
--- over 64 polygons, over 256 patterns, over 16 display names, or one with a text of over 1,024 bytes (own)
+-- too many regions of a kind, over 16 display names, or one with a text of over 1,024 bytes (own)
 abbrev pub is_too_large : Parts → Bool
 is_too_large parts =
-    nat_lt 64 (length (polygons_of parts.regions)) || nat_lt 256 (length (patterns_of parts.regions))
+    are_too_many (by_kind parts.regions)
     || nat_lt 16 (length parts.display_names)
     || list_any (λ name. nat_lt 1024 (length name.lang) || nat_lt 1024 (length name.text)) parts.display_names
 
@@ -189,8 +147,7 @@ mapping_of parts = record {
   service = result_unwrap_or (read_service parts.service) [];
   uris = parts.uris;
   number = parts.number;
-  polygons = polygons_of parts.regions;
-  patterns = patterns_of parts.regions;
+  regions = by_kind parts.regions;
   is_default = parts.is_default;
   display_names = parts.display_names;
   key = parts.key;

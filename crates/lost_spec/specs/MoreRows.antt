@@ -4,14 +4,15 @@ use Rattle.lost_spec.specs.declared.faults.EditError.TheVariants.{IdentityHeld, 
 use Rattle.lost_spec.specs.declared.faults.MappingError.TheVariants.{BadExpires}
 use Rattle.lost_spec.specs.declared.answers.AnswerError.TheVariants.{Loop, LocationProfileUnrecognized, LocationInvalid, NotFound, ServiceNotImplemented}
 use Rattle.lost_spec.specs.declared.answers.Warning.TheVariants.{DefaultMappingReturned}
+use Rattle.lost_spec.specs.Place.{RingRegion, PatternRegion, Body, PointBody, AddressBody, UnreadableBody}
 use Rattle.lost_spec.specs.Text.{Text}
 use Rattle.lost_spec.specs.Service.{Service}
 use Rattle.lost_spec.specs.Ring.{inside}
 use Rattle.lost_spec.specs.Moment.{Stamp}
-use Rattle.lost_spec.specs.Mapping.{RingRegion, PatternRegion, Parts, Mapping, NoCache, At, build}
+use Rattle.lost_spec.specs.Mapping.{Parts, Mapping, NoCache, At, build}
 use Rattle.lost_spec.specs.Book.{Book, Publish, Replace, Withdraw, refusal, book_of, is_accepted}
-use Rattle.lost_spec.specs.Request.{Body, Location, PointBody, AddressBody, UnreadableBody, FindService, ListServicesByLocation, ListServices, GetServiceBoundary, FindServiceResponse, ListServicesByLocationResponse, ListServicesResponse, GetServiceBoundaryResponse, Errors}
-use Rattle.lost_spec.specs.Examples.{points, second_day, sos, police, mapping_with, mapping_on, renewed, ring_a, ring_b, mapping_a, mapping_b, mapping_t, wide_pattern, house_pattern, mapping_g, address_with, usual_limits, ask, geodetic, civic, location_at, at_point, at_address, find_at, query, services_at, own_path, by_reference, as_default, found_with, found_reply, validated}
+use Rattle.lost_spec.specs.Request.{Location, FindService, ListServicesByLocation, ListServices, GetServiceBoundary, FindServiceResponse, ListServicesByLocationResponse, ListServicesResponse, GetServiceBoundaryResponse, Errors}
+use Rattle.lost_spec.specs.Examples.{points, second_day, sos, police, regions_with, mapping_with, mapping_on, renewed, ring_a, ring_b, mapping_a, mapping_b, mapping_t, wide_pattern, house_pattern, mapping_g, address_with, usual_limits, ask, geodetic, civic, location_at, at_point, at_address, find_at, query, services_at, own_path, by_reference, as_default, found_with, found_reply, validated}
 use Rattle.lost_spec.specs.Rows.{published, parts_a, english, mapping_both, expiring, at_midnight, past_midnight}
 use Rattle.lost_spec.specs.OwnRows.{called}
 
@@ -69,8 +70,7 @@ KeptAsGiven =
       expires = NoCache;
       uris = codes "SIP:A@map.example" ∷ codes "tel:112" ∷ [];
       number = Some (codes "112");
-      polygons = points ring_a ∷ points ring_b ∷ [];
-      patterns = wide_pattern ∷ house_pattern ∷ [];
+      regions = regions_with (points ring_a ∷ points ring_b ∷ []) (wide_pattern ∷ house_pattern ∷ []);
       display_names = english ∷ record { lang = codes "de"; text = codes "Polizei" } ∷ [];
     })
 
@@ -88,10 +88,10 @@ abbrev pub PatternChange : Type 0
 PatternChange =
     let book : Book = book_of usual_limits (Publish mapping_g ∷ []) in
     let newer : Mapping = record mapping_g { stamp = second_day } in
-    (refusal book (Replace (record newer { patterns = wide_pattern ∷ [] })) ≡ Some KeyUnchanged)
-    × (refusal book (Replace (record newer { patterns = house_pattern ∷ wide_pattern ∷ [] })) ≡ Some KeyUnchanged)
-    × (refusal book (Replace (record newer { patterns = ((codes "A1", codes "nj") ∷ (codes "A3", codes "Leonia") ∷ (codes "country", codes "US") ∷ []) ∷ house_pattern ∷ [] })) ≡ Some KeyUnchanged)
-    × (refusal book (Replace (record newer { patterns = wide_pattern ∷ []; key = Some (codes "G-2") })) ≡ None)
+    (refusal book (Replace (record newer { regions = regions_with [] (wide_pattern ∷ []) })) ≡ Some KeyUnchanged)
+    × (refusal book (Replace (record newer { regions = regions_with [] (house_pattern ∷ wide_pattern ∷ []) })) ≡ Some KeyUnchanged)
+    × (refusal book (Replace (record newer { regions = regions_with [] (((codes "A1", codes "nj") ∷ (codes "A3", codes "Leonia") ∷ (codes "country", codes "US") ∷ []) ∷ house_pattern ∷ []) })) ≡ Some KeyUnchanged)
+    × (refusal book (Replace (record newer { regions = regions_with [] (wide_pattern ∷ []); key = Some (codes "G-2") })) ≡ None)
     × (refusal book (Replace (record newer { uris = codes "tel:112" ∷ [] })) ≡ None)
 
 abbrev pub evening : Stamp
@@ -118,7 +118,7 @@ Expired =
     × (ask gone (services_at None (pos 5_000_000) (pos 5_000_000)) ≡ ListServicesByLocationResponse 1 (codes "p") own_path [])
     × (ask here (services_at None (pos 5_000_000) (pos 5_000_000)) ≡ ListServicesByLocationResponse 1 (codes "p") own_path (sos ∷ []))
     × (ask gone (GetServiceBoundary (codes "A-1") []) ≡ Errors 1 NotFound)
-    × (ask here (GetServiceBoundary (codes "A-1") []) ≡ GetServiceBoundaryResponse 1 own_path (points ring_a ∷ []) [])
+    × (ask here (GetServiceBoundary (codes "A-1") []) ≡ GetServiceBoundaryResponse 1 own_path (regions_with (points ring_a ∷ []) []))
     × (ask (published (expired_t ∷ [])) (query police (pos 0) (pos 0)) ≡ Errors 1 ServiceNotImplemented)
     × (ask (published (record mapping_a { expires = NoCache } ∷ [])) (services_at None (pos 5_000_000) (pos 5_000_000)) ≡ ListServicesByLocationResponse 1 (codes "p") own_path (sos ∷ []))
     × (refusal (book_of usual_limits gone) (Publish mapping_a) ≡ Some IdentityHeld)
@@ -173,7 +173,7 @@ Paths =
     (ask es (FindService police here false false asked) ≡ FindServiceResponse 1 (codes "p") None (by_reference (codes "A-1") mapping_both ∷ []) path [])
     × (ask es (ListServicesByLocation None here asked) ≡ ListServicesByLocationResponse 1 (codes "p") path (sos ∷ []))
     × (ask es (ListServices None asked) ≡ ListServicesResponse 1 path (sos ∷ []))
-    × (ask es (GetServiceBoundary (codes "A-1") asked) ≡ GetServiceBoundaryResponse 1 path (points ring_a ∷ []) (wide_pattern ∷ []))
+    × (ask es (GetServiceBoundary (codes "A-1") asked) ≡ GetServiceBoundaryResponse 1 path (regions_with (points ring_a ∷ []) (wide_pattern ∷ [])))
     × (ask es (ListServices None (codes "LOST.example" ∷ asked)) ≡ Errors 1 Loop)
 
 -- polygons add up: a point is held by one of them, or by more

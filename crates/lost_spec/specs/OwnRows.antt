@@ -8,13 +8,14 @@ use Rattle.lost_spec.specs.declared.faults.MappingError.TheVariants.{BadSource, 
 use Rattle.lost_spec.specs.declared.faults.EditError.TheVariants.{IdentityHeld, IdentityUnknown, NotNewer, Full, EditsSpent}
 use Rattle.lost_spec.specs.declared.answers.AnswerError.TheVariants.{Loop, LocationProfileUnrecognized, SrsInvalid, NotFound, ServiceNotImplemented}
 use Rattle.lost_spec.specs.declared.answers.Warning.TheVariants.{DefaultMappingReturned}
+use Rattle.lost_spec.specs.Place.{RingRegion, UnreadableRegion, PointBody, AddressBody}
 use Rattle.lost_spec.specs.Text.{Text}
 use Rattle.lost_spec.specs.Service.{read_service}
 use Rattle.lost_spec.specs.Ring.{Point, point_fault, ring_fault}
 use Rattle.lost_spec.specs.Civic.{Pairs, address_fault, pattern_fault, comparison_text}
-use Rattle.lost_spec.specs.Mapping.{RingRegion, UnreadableRegion, Parts, Mapping, build}
+use Rattle.lost_spec.specs.Mapping.{Parts, Mapping, build}
 use Rattle.lost_spec.specs.Book.{Book, Identity, Publish, Replace, Withdraw, refusal, after, empty_book}
-use Rattle.lost_spec.specs.Request.{Location, PointBody, AddressBody, FindService, FindServiceResponse, Errors}
+use Rattle.lost_spec.specs.Request.{Location, FindService, FindServiceResponse, Errors}
 use Rattle.lost_spec.specs.Examples.{first_day, second_day, desk, sos, police, mapping_with, ring_a, mapping_a, mapping_b, mapping_c, mapping_t, mapping_g, address_with, ask, geodetic, civic, at_point, at_address, find_at, query, by_reference, shown_a, shown_c, as_default, found_reply, validated}
 use Rattle.lost_spec.specs.Rows.{published, english}
 

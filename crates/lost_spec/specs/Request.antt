@@ -1,21 +1,14 @@
 -- Requests and replies, as data.
-use Rattle.std.specs.Prelude.{ℕ, Bool, List, Option, ℤ}
+use Rattle.std.specs.Prelude.{ℕ, Bool, List, Option}
 use Rattle.lost_spec.specs.declared.answers.AnswerError.{AnswerError}
 use Rattle.lost_spec.specs.declared.answers.Warning.{Warning}
 use Rattle.lost_spec.specs.Text.{Text}
 use Rattle.lost_spec.specs.Service.{Service}
-use Rattle.lost_spec.specs.Ring.{Point}
-use Rattle.lost_spec.specs.Civic.{Pairs}
+use Rattle.lost_spec.specs.Place.{Body, Regions}
 use Rattle.lost_spec.specs.Mapping.{Mapping}
 use Rattle.lost_spec.specs.Validation.{Validation}
 
 -- ---- requests
-
--- what a location holds (RFC 5222, section 12): a latitude and a longitude, the pairs of an address, or what could not be read
-pub data Body : Type 0 where
-  PointBody : (lat lon : ℤ) → Body
-  AddressBody : (pairs : Pairs) → Body
-  UnreadableBody : Body
 
 -- a location of a request (RFC 5222, section 8.3.1); srs_known says that its reference system is known
 pub record Location : Type 0 where
@@ -33,11 +26,10 @@ pub data Request : Type 0 where
 
 -- ---- replies
 
--- the boundary that a mapping is shown with: a key and its source, or the regions of one profile, or none (RFC 5222, sections 5.5 and 5.6)
+-- the boundary that a mapping is shown with: a key and its source, or regions, or none (RFC 5222, sections 5.5 and 5.6)
 pub data Boundary : Type 0 where
   ByReference : (key source : Text) → Boundary
-  ByPolygons : (polygons : List (List Point)) → Boundary
-  ByPatterns : (patterns : List Pairs) → Boundary
+  ByValue : (regions : Regions) → Boundary
   NoBoundary : Boundary
 
 -- a mapping as a reply shows it (RFC 5222, section 8.4.1)
@@ -50,7 +42,7 @@ pub data Reply : Type 0 where
   FindServiceResponse : (edition : ℕ) (location_used : Text) (validation : Option Validation) (mappings : List ShownMapping) (path : List Text) (warnings : List Warning) → Reply
   ListServicesByLocationResponse : (edition : ℕ) (location_used : Text) (path : List Text) (services : List Service) → Reply
   ListServicesResponse : (edition : ℕ) (path : List Text) (services : List Service) → Reply
-  GetServiceBoundaryResponse : (edition : ℕ) (path : List Text) (polygons : List (List Point)) (patterns : List Pairs) → Reply
+  GetServiceBoundaryResponse : (edition : ℕ) (path : List Text) (regions : Regions) → Reply
   Errors : (edition : ℕ) (error : AnswerError) → Reply
   BadRequest : Reply
   InternalError : Reply

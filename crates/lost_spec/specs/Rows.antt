@@ -5,13 +5,14 @@ use Rattle.lost_spec.specs.declared.faults.MappingError.TheVariants.{BadUri, Bad
 use Rattle.lost_spec.specs.declared.faults.EditError.TheVariants.{IdentityHeld, IdentityUnknown, NotNewer, KeyHeld, KeyUnchanged, Full, EditsSpent}
 use Rattle.lost_spec.specs.declared.answers.AnswerError.TheVariants.{Loop, LocationProfileUnrecognized, SrsInvalid, LocationInvalid, NotFound, ServiceNotImplemented}
 use Rattle.lost_spec.specs.declared.answers.Warning.TheVariants.{ServiceSubstitution, DefaultMappingReturned, LocationValidationUnavailable}
+use Rattle.lost_spec.specs.Place.{RingRegion, PatternRegion, UnreadableBody, PointBody, no_regions}
 use Rattle.lost_spec.specs.Text.{lowered}
 use Rattle.lost_spec.specs.Service.{read_service, service_text, chain}
 use Rattle.lost_spec.specs.Moment.{Stamp, read_stamp}
-use Rattle.lost_spec.specs.Mapping.{RingRegion, PatternRegion, DisplayName, Parts, Mapping, At, is_source, build}
+use Rattle.lost_spec.specs.Mapping.{DisplayName, Parts, Mapping, At, is_source, build}
 use Rattle.lost_spec.specs.Book.{Book, Edit, Publish, Replace, Withdraw, limits_of, refusal, after, empty_book, book_of, is_accepted}
-use Rattle.lost_spec.specs.Request.{UnreadableBody, PointBody, FindService, ListServices, GetServiceBoundary, ByPatterns, FindServiceResponse, ListServicesByLocationResponse, ListServicesResponse, GetServiceBoundaryResponse, Errors}
-use Rattle.lost_spec.specs.Examples.{points, december, first_day, second_day, third_day, fourth_day, desk, sos, police, parts_of, mapping_with, mapping_on, renewed, ring_a, ring_b, world_ring, far_ring, wide_ring, mapping_a, mapping_b, mapping_c, mapping_d, mapping_t, wide_pattern, house_pattern, mapping_g, address_with, usual_limits, ask, geodetic, location_at, at_point, at_address, find_at, query, services_at, own_path, by_reference, by_polygons, as_default, shown_a, shown_b, shown_c, shown_d, found_with, found_reply, validated}
+use Rattle.lost_spec.specs.Request.{FindService, ListServices, GetServiceBoundary, ByValue, FindServiceResponse, ListServicesByLocationResponse, ListServicesResponse, GetServiceBoundaryResponse, Errors}
+use Rattle.lost_spec.specs.Examples.{points, december, first_day, second_day, third_day, fourth_day, desk, sos, police, parts_of, regions_with, mapping_with, mapping_on, renewed, ring_a, ring_b, world_ring, far_ring, wide_ring, mapping_a, mapping_b, mapping_c, mapping_d, mapping_t, wide_pattern, house_pattern, mapping_g, address_with, usual_limits, ask, geodetic, location_at, at_point, at_address, find_at, query, services_at, own_path, by_reference, by_polygons, as_default, shown_a, shown_b, shown_c, shown_d, found_with, found_reply, validated}
 
 -- the edits that publish mappings, in order
 abbrev pub published : List Mapping → List Edit
@@ -166,7 +167,7 @@ ReplaceCodes =
 
 -- a replacement by a default is accepted, since the key changes with the regions
 abbrev pub ReplaceByDefault : Type 0
-ReplaceByDefault = refusal book_a (Replace (record mapping_a { stamp = second_day; polygons = []; is_default = true; key = None })) ≡ None
+ReplaceByDefault = refusal book_a (Replace (record mapping_a { stamp = second_day; regions = no_regions; is_default = true; key = None })) ≡ None
 
 -- the limits of a book, and the limits that are allowed
 abbrev pub LimitsRow : Type 0
@@ -250,7 +251,7 @@ TwoProfiles =
     let es = published (mapping_both ∷ []) in
     (ask es (FindService police (at_point (pos 5_000_000) (pos 5_000_000) ∷ []) false true []) ≡ found_reply 1 (by_polygons (points ring_a ∷ []) mapping_both ∷ []))
     × (ask es (FindService police (at_address (address_with (codes "07605")) ∷ []) false true [])
-    ≡ found_reply 1 (record { mapping = mapping_both; boundary = ByPatterns (wide_pattern ∷ []) } ∷ []))
+    ≡ found_reply 1 (record { mapping = mapping_both; boundary = ByValue (regions_with [] (wide_pattern ∷ [])) } ∷ []))
 
 -- ---- time
 
@@ -279,7 +280,7 @@ abbrev pub BoundaryAndPath : Type 0
 BoundaryAndPath =
     let es = published (mapping_a ∷ []) in
     let here = at_point (pos 5_000_000) (pos 5_000_000) ∷ [] in
-    (ask es (GetServiceBoundary (codes "A-1") []) ≡ GetServiceBoundaryResponse 1 own_path (points ring_a ∷ []) [])
+    (ask es (GetServiceBoundary (codes "A-1") []) ≡ GetServiceBoundaryResponse 1 own_path (regions_with (points ring_a ∷ []) []))
     × (ask es (GetServiceBoundary (codes "none") []) ≡ Errors 1 NotFound)
     × (ask es (FindService police here false false (codes "Lost.Example" ∷ [])) ≡ Errors 1 Loop)
     × (ask es (FindService police here false false (codes "a.example" ∷ []))

@@ -1,11 +1,12 @@
 -- The services below a service, at a place or anywhere, and the mapping of a key.
 use Rattle.std.specs.Prelude.{Bool, not, ◌&&◌, List, Option, filter, filter_map, find}
+use Rattle.lost_spec.specs.Place.{Place}
 use Rattle.lost_spec.specs.Text.{Text, ascending_by}
 use Rattle.lost_spec.specs.Service.{Service, service_text, child}
 use Rattle.lost_spec.specs.Moment.{Instant}
 use Rattle.lost_spec.specs.Mapping.{Mapping, is_live}
 use Rattle.lost_spec.specs.Book.{Book, has_key}
-use Rattle.lost_spec.specs.Find.{Place, holds}
+use Rattle.lost_spec.specs.Find.{holds}
 
 -- the children of q over the services of these mappings, ascending by text, each once (own order)
 abbrev pub children_in : Option Service → List Mapping → List Service

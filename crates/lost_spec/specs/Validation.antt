@@ -27,7 +27,7 @@ ordered_names address = filter (λ name. is_among name (names_of address)) eleme
 -- ---- patterns
 
 abbrev pub patterns_in : List Mapping → List Pairs
-patterns_in ms = flat_map (λ m. m.patterns) ms
+patterns_in ms = flat_map (λ m. m.regions.patterns) ms
 
 -- the live mappings of service u, defaults too, in list order
 abbrev pub of_service : Book → Instant → Service → List Mapping

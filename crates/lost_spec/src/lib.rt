@@ -9,6 +9,7 @@ pub mod answers;
 mod code;
 pub mod faults;
 pub mod laws;
+pub mod places;
 pub mod rows;
 
 pub use code::Coded;

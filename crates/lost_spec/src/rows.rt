@@ -7,7 +7,7 @@ ghost use Rattle.lost_spec.specs.BoundRows.{StampFractions, StampBounds, DayOrde
 ghost use Rattle.lost_spec.specs.MoreRows.{Slopes, KeptAsGiven, FreedKey, PatternChange, LaterDay, Expired, OtherReference, DefaultAsked, DeepServices, Paths, UnfittingBodies, Additive, ExactCase};
 ghost use Rattle.lost_spec.specs.DecimalRows.{DecimalTexts, NoDecimals};
 ghost use Rattle.lost_spec.specs.TraceRows.{PublishedAgain, TracesLimit, WithdrawnBeforeFull, AllowedTraces, TraceOrder, OtherIdentities, WhichTraces};
-ghost use Rattle.lost_spec.specs.TokenRows.{TokenBounds, TokenSetBounds, TokenMembers};
+ghost use Rattle.lost_spec.specs.TokenRows.{TokenBounds, TokenSetBounds, TokenMembers, TokenServed, TokenRegions, ThreeKinds, TokenChange, UnfittingTokens};
 
 /// A text spells a service URN, or is refused by the first check that fails.
 pub fn urn()
@@ -357,4 +357,29 @@ pub fn token_set_bounds()
 /// Which tokens a set contains.
 pub fn token_members()
     ensures { TokenMembers }
+{}
+
+/// A mapping is found by a token of its set alone, and shows the set as given.
+pub fn token_served()
+    ensures { TokenServed }
+{}
+
+/// Regions that are no token set, and too many that are.
+pub fn token_regions()
+    ensures { TokenRegions }
+{}
+
+/// A mapping with regions of all kinds is found by each, and shown with those of the location used.
+pub fn three_kinds()
+    ensures { ThreeKinds }
+{}
+
+/// A replacement that changes tokens, or their order, wants a new key.
+pub fn token_change()
+    ensures { TokenChange }
+{}
+
+/// Content that is not of its profile's kind is no place.
+pub fn unfitting_tokens()
+    ensures { UnfittingTokens }
 {}

@@ -1,9 +1,9 @@
-use Rattle.std.proofs.Common.{◌≡◌, length}
+use Rattle.std.proofs.Common.{◌≡◌, length, map}
 use Rattle.lost_profile.proofs.TokenLemmas.{are_apart}
 use Rattle.lost_profile.proofs.token_set.are_apart.Given as goal
 
-abbrev pub invariant-loop-token : goal.invariant-loop-token
-invariant-loop-token l = are_apart l.tokens ≡ are_apart l.rest
+abbrev pub invariant-loop-item : goal.invariant-loop-item
+invariant-loop-item g l = are_apart (map g.T.TokenTexts.text_of l.items) ≡ are_apart (map g.T.TokenTexts.text_of l.rest)
 
-abbrev pub decreases-loop-token : goal.decreases-loop-token
-decreases-loop-token l = length l.rest
+abbrev pub decreases-loop-item : goal.decreases-loop-item
+decreases-loop-item g l = length l.rest

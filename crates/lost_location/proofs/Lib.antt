@@ -1,0 +1,3 @@
+pub mod EqualPlaces
+mod PlaceLemmas
+mod RegionLemmas

@@ -1,0 +1,5 @@
+pub mod Place
+pub mod Body
+pub mod Region
+pub mod Counted
+pub mod Refusals

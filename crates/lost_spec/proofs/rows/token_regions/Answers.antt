@@ -1,0 +1,7 @@
+use Rattle.std.proofs.Common.{refl}
+use Rattle.lost_spec.specs.Examples.{all_words}
+use Rattle.lost_spec.proofs.rows.token_regions.Goals as goal
+
+pub returns : goal.returns
+unfolding all_words
+returns c = (refl, refl, refl, refl)
