@@ -1,3 +1,4 @@
 pub mod ChainLemmas
 pub mod PositionLemmas
+pub mod RefusalLemmas
 pub mod TraceLemmas

@@ -16,6 +16,6 @@ pub use held::{has_identity, has_key};
 pub use limits::Limits;
 pub use lost_message::Edit;
 pub use lost_spec::faults::EditError;
-pub use places::{holds_address, holds_point, serves};
+pub use places::{holds, serves};
 pub use register::{Register, check_edit, check_publish, check_replace, check_withdraw};
 pub use traces::Traces;

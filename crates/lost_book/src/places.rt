@@ -2,10 +2,10 @@
 ghost use Rattle.std.specs.Prelude.{◌≡◌};
 ghost use Rattle.std.specs.List.{list_any};
 ghost use Rattle.lost_spec.specs.Service.{same_service, chain};
-ghost use Rattle.lost_spec.specs.Find.{AtPoint, AtAddress, holds, serves, is_of_chain};
+ghost use Rattle.lost_spec.specs.Find.{holds, serves, is_of_chain};
+ghost use Rattle.lost_location.specs.Place.{place_of};
 
-use lost_civic::CivicAddress;
-use lost_geo::GeoPoint;
+use lost_location::Place;
 use lost_mapping::{Mapping, Moment};
 use lost_urn::ServiceUrn;
 
@@ -16,24 +16,11 @@ pub fn serves(mapping: &Mapping, moment: &Moment, service: &ServiceUrn) -> bool
     mapping.is_live(moment) && mapping.service() == service
 }
 
-/// Whether some polygon has the point inside (RFC 5222, section 12.1).
-pub fn holds_point(mapping: &Mapping, point: &GeoPoint) -> bool
-    ensures { result ≡ holds mapping.now (AtPoint point.now) }
+/// Whether some region of the mapping contains the place (RFC 5222, section 12.1).
+pub fn holds(mapping: &Mapping, place: &Place) -> bool
+    ensures { result ≡ holds mapping.now (place_of place.now) }
 {
-    mapping
-        .polygons()
-        .iter()
-        .any(|polygon| polygon.inside(point))
-}
-
-/// Whether some pattern matches the address (RFC 5222, section 12.1).
-pub fn holds_address(mapping: &Mapping, address: &CivicAddress) -> bool
-    ensures { result ≡ holds mapping.now (AtAddress address.now) }
-{
-    mapping
-        .patterns()
-        .iter()
-        .any(|pattern| pattern.matches(address))
+    mapping.regions().contains(place)
 }
 
 /// Whether the mapping is live at an instant and has the service or one above it (RFC 5222, section 13.1; own reading).

@@ -23,5 +23,5 @@ module _ (b : Book) (t : Instant) (key : Text) (o : Option ℕ) (found : o ≡ p
 
 -- the reply with the regions of a copy of the mapping that was found
 pub boundary_reply-some : (edits edition : ℕ) (path shown : List Text) (held copy : Mapping) (o : Option Mapping) → edition ≡ edits → shown ≡ path → copy ≡ held → o ≡ Some held
-    → GetServiceBoundaryResponse edition shown copy.polygons copy.patterns ≡ boundary_reply edits path o
+    → GetServiceBoundaryResponse edition shown copy.regions ≡ boundary_reply edits path o
 boundary_reply-some edits edition path shown held copy o same_edition same_path same found = rw (same_edition, same_path, same, found) refl

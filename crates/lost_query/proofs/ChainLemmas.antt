@@ -3,11 +3,12 @@ use Rattle.std.specs.Prelude.{◌≡◌, ◌≢◌, ℕ, zero, suc, ◌-◌, ◌
 use Rattle.std.specs.List.{list_any}
 use Rattle.std.proofs.Common.{⊎_elim, refl, sym, ap, subst, ◌∙◌, arith}
 use Rattle.std.proofs.lemmas.Bool.{cases_lt, or_left, or_right}
+use Rattle.lost_spec.specs.Place.{Place}
 use Rattle.lost_spec.specs.Service.{Service, same_service, cuts, chain}
 use Rattle.lost_spec.specs.Moment.{Instant}
 use Rattle.lost_spec.specs.Mapping.{Mapping, is_live}
 use Rattle.lost_spec.specs.Book.{Book}
-use Rattle.lost_spec.specs.Find.{Place, holds, is_holder, at, unless_empty, first_with}
+use Rattle.lost_spec.specs.Find.{holds, is_holder, at, unless_empty, first_with}
 use Rattle.lost_spec.specs.Services.{is_holding, holding}
 use Rattle.lost_spec.specs.Positions.{positions}
 use Rattle.lost_query.specs.Finding.{at_positions, of_chain}

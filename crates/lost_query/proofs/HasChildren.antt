@@ -1,13 +1,13 @@
 -- How far the search for the children of a service has come: the last mappings of a list are done.
 use Rattle.std.proofs.Common.{◌≡◌, ℕ, zero, suc, ◌-◌, ◌<◌, ◌≤◌, Bool, true, false, cond, List, [], ◌∷◌, ◌++◌, length, drop, filter, filter_map, Option, Some, None, unwrap_or, refl, sym, ap, subst, ◌∙◌, arith}
 use Rattle.std.specs.List.{cons_option, slice_get}
+use Rattle.lost_spec.specs.Place.{Place}
 use Rattle.lost_spec.specs.Text.{ascending_by}
 use Rattle.lost_spec.specs.Service.{Service, service_text, child}
 use Rattle.lost_spec.specs.Moment.{Instant}
 use Rattle.lost_spec.specs.Mapping.{Mapping, is_live}
 use Rattle.lost_spec.specs.Book.{Book}
 use Rattle.lost_spec.specs.Positions.{positions}
-use Rattle.lost_spec.specs.Find.{Place}
 use Rattle.lost_query.specs.Finding.{at_positions}
 use Rattle.lost_query.proofs.PositionLemmas.{at_positions-positions}
 use Rattle.std.proofs.lemmas.List.{nil_from_length}

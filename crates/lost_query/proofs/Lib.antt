@@ -1,7 +1,6 @@
 pub mod AddedLemmas
 pub mod BoundaryLemmas
 pub mod ChainLemmas
-pub mod EqualPlaces
 pub mod FindLemmas
 pub mod HasChildren
 pub mod InsertLemmas
@@ -10,6 +9,5 @@ pub mod MemberLemmas
 pub mod NameLemmas
 pub mod PatternLemmas
 pub mod PickLemmas
-pub mod PlaceLemmas
 pub mod PositionLemmas
 pub mod SplitLemmas

@@ -52,13 +52,13 @@ filter_all test before xs ys i old past same so_far = so_far ∙ ap (λ zs. befo
 
 -- ---- the patterns of a list of mappings
 
-patterns_in_push : (ms : List Mapping) (m : Mapping) → patterns_in (ms ++ m ∷ []) ≡ patterns_in ms ++ m.patterns
-patterns_in_push ms m = sym (flat_map_more (λ (n : Mapping). n.patterns) [] ms m)
+patterns_in_push : (ms : List Mapping) (m : Mapping) → patterns_in (ms ++ m ∷ []) ≡ patterns_in ms ++ m.regions.patterns
+patterns_in_push ms m = sym (flat_map_more (λ (n : Mapping). n.regions.patterns) [] ms m)
 
 -- the patterns that pass, of one more mapping
-pub patterns_in_more : (test : Pairs → Bool) (ms : List Mapping) (m : Mapping) (old new : List Pairs) → old ≡ filter test (patterns_in ms) → new ≡ old ++ filter test m.patterns → new ≡ filter test (patterns_in (ms ++ m ∷ []))
+pub patterns_in_more : (test : Pairs → Bool) (ms : List Mapping) (m : Mapping) (old new : List Pairs) → old ≡ filter test (patterns_in ms) → new ≡ old ++ filter test m.regions.patterns → new ≡ filter test (patterns_in (ms ++ m ∷ []))
 patterns_in_more test ms m old new so_far added =
-    added ∙ ap (λ ps. ps ++ filter test m.patterns) so_far ∙ sym (ap (filter test) (patterns_in_push ms m) ∙ filter-append test (patterns_in ms) m.patterns)
+    added ∙ ap (λ ps. ps ++ filter test m.regions.patterns) so_far ∙ sym (ap (filter test) (patterns_in_push ms m) ∙ filter-append test (patterns_in ms) m.regions.patterns)
 
 -- ---- the patterns that pass, of mappings that have some
 
@@ -69,20 +69,20 @@ filter_of_none test (p ∷ ps) none =
     ap (λ b. cond b (p ∷ filter test ps) (filter test ps)) parts.0 ∙ filter_of_none test ps parts.1
 
 -- mappings without a pattern that passes add none
-pub passing_of_some : (test : Pairs → Bool) (serving : Mapping → Bool) (ms : List Mapping) → filter test (patterns_in (filter (λ m. serving m && list_any test m.patterns) ms)) ≡ filter test (patterns_in (filter serving ms))
+pub passing_of_some : (test : Pairs → Bool) (serving : Mapping → Bool) (ms : List Mapping) → filter test (patterns_in (filter (λ m. serving m && list_any test m.regions.patterns) ms)) ≡ filter test (patterns_in (filter serving ms))
 passing_of_some test serving [] = refl
-passing_of_some test serving (m ∷ ms) = by (serving m) (list_any test m.patterns) refl (passing_of_some test serving ms)
+passing_of_some test serving (m ∷ ms) = by (serving m) (list_any test m.regions.patterns) refl (passing_of_some test serving ms)
   where
     by :
-        (b some : Bool) → list_any test m.patterns ≡ some
-        → filter test (patterns_in (filter (λ n. serving n && list_any test n.patterns) ms)) ≡ filter test (patterns_in (filter serving ms))
-        → filter test (patterns_in (cond (b && some) (m ∷ filter (λ n. serving n && list_any test n.patterns) ms) (filter (λ n. serving n && list_any test n.patterns) ms)))
+        (b some : Bool) → list_any test m.regions.patterns ≡ some
+        → filter test (patterns_in (filter (λ n. serving n && list_any test n.regions.patterns) ms)) ≡ filter test (patterns_in (filter serving ms))
+        → filter test (patterns_in (cond (b && some) (m ∷ filter (λ n. serving n && list_any test n.regions.patterns) ms) (filter (λ n. serving n && list_any test n.regions.patterns) ms)))
         ≡ filter test (patterns_in (cond b (m ∷ filter serving ms) (filter serving ms)))
     by false some e later = later
     by true true e later =
-        filter-append test m.patterns (patterns_in (filter (λ n. serving n && list_any test n.patterns) ms))
-        ∙ ap (λ rest. filter test m.patterns ++ rest) later
-        ∙ sym (filter-append test m.patterns (patterns_in (filter serving ms)))
+        filter-append test m.regions.patterns (patterns_in (filter (λ n. serving n && list_any test n.regions.patterns) ms))
+        ∙ ap (λ rest. filter test m.regions.patterns ++ rest) later
+        ∙ sym (filter-append test m.regions.patterns (patterns_in (filter serving ms)))
     by true false e later =
         later
-        ∙ sym (filter-append test m.patterns (patterns_in (filter serving ms)) ∙ ap (λ front. front ++ filter test (patterns_in (filter serving ms))) (filter_of_none test m.patterns e))
+        ∙ sym (filter-append test m.regions.patterns (patterns_in (filter serving ms)) ∙ ap (λ front. front ++ filter test (patterns_in (filter serving ms))) (filter_of_none test m.regions.patterns e))

@@ -4,7 +4,7 @@ use Rattle.lost_spec.specs.Book.{Book}
 use Rattle.lost_spec.specs.Find.{Finding}
 use Rattle.lost_spec.specs.Request as spec
 use Rattle.lost_spec.specs.Answer.{find_reply}
-use Rattle.lost_query.specs.Place.{place_of}
+use Rattle.lost_location.specs.Place.{place_of}
 use Rattle.lost_message.specs.Path.{shown_path}
 use Rattle.lost_query.specs.declared.find_service.Ask.{Ask}
 use Rattle.lost_message.specs.declared.path.Path.{Path}

@@ -33,7 +33,7 @@ is_reference valid address pattern = list_all (λ element. agrees address (eleme
 
 -- a mapping is live at t, has service u, and some pattern of it names each of these elements with the address's comparison text (own policy)
 abbrev pub is_referring : Instant → Service → Pairs → List Element → Mapping → Bool
-is_referring t u address elements m = serves m t u && list_any (is_reference elements address) m.patterns
+is_referring t u address elements m = serves m t u && list_any (is_reference elements address) m.regions.patterns
 
 -- a pattern of a found mapping matches the address and names the element (RFC 5222, section 8.4.2; policy own)
 abbrev pub is_valid_element : List Mapping → Pairs → Element → Bool

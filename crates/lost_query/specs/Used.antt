@@ -1,9 +1,9 @@
 -- The reply to a request with locations, by the location that is used.
 use Rattle.std.specs.Prelude.{ℕ, Option, None, Some}
+use Rattle.lost_spec.specs.Place.{Place}
 use Rattle.lost_spec.specs.Text.{Text}
-use Rattle.lost_spec.specs.Find.{Place}
 use Rattle.lost_spec.specs.Request.{Reply, Errors}
-use Rattle.lost_query.specs.Place.{place_of}
+use Rattle.lost_location.specs.Place.{place_of}
 use Rattle.lost_query.specs.declared.places.Used.{Used}
 use Rattle.lost_query.specs.declared.places.Used.TheVariants.{At, Refused}
 

@@ -1,10 +1,10 @@
 //! The plain book as holdings.
 use crate::holdings::{Holdings, Positions};
-use crate::place::Place;
 use crate::services::services_below;
 use crate::validation::patterns::refers;
 use lost_book::Book;
 use lost_civic::{CivicAddress, Element};
+use lost_location::Place;
 use lost_mapping::{Mapping, Moment};
 use lost_urn::ServiceUrn;
 use smallvec::SmallVec;
@@ -34,11 +34,7 @@ impl Holdings for Book {
     }
 
     fn holding(&self, moment: &Moment, place: &Place) -> Result<Positions, AllocError> {
-        let positions = match place {
-            Place::Point(point) => self.holding_point(moment, point),
-            Place::Address(address) => self.holding_address(moment, address),
-        }?;
-        Ok(SmallVec::from_vec(positions))
+        Ok(SmallVec::from_vec(Book::holding(self, moment, place)?))
     }
 
     fn at(
@@ -47,11 +43,7 @@ impl Holdings for Book {
         place: &Place,
         service: &ServiceUrn,
     ) -> Result<Positions, AllocError> {
-        let positions = match place {
-            Place::Point(point) => self.at_point(moment, point, service),
-            Place::Address(address) => self.at_address(moment, address, service),
-        }?;
-        Ok(SmallVec::from_vec(positions))
+        Ok(SmallVec::from_vec(Book::at(self, moment, place, service)?))
     }
 
     fn defaults(&self, moment: &Moment, service: &ServiceUrn) -> Result<Positions, AllocError> {

@@ -1,21 +1,22 @@
 //! The reply to findService at a place (RFC 5222, section 8).
 ghost use Rattle.std.specs.Prelude.{◌≡◌, IfOk, option_map};
+ghost use Rattle.lost_spec.specs.Place.{address_at};
 ghost use Rattle.lost_spec.specs.Moment.{Instant};
 ghost use Rattle.lost_spec.specs.Find.{FoundHolders, FoundDefaults, found, is_implemented};
 ghost use Rattle.lost_spec.specs.Answer.{error_of, validation_for};
 ghost use Rattle.lost_query.specs.Finding.{mappings_of};
-ghost use Rattle.lost_query.specs.Place.{place_of};
+ghost use Rattle.lost_location.specs.Place.{place_of};
 ghost use Rattle.lost_message.specs.Reply.{validation_of, reply_of};
 ghost use Rattle.lost_query.specs.Ask.{asked_reply};
 
 use crate::finding::{Finding, find};
 use crate::found::Found;
 use crate::holdings::Holdings;
-use crate::place::Place;
 use crate::refusals::refusal;
 use crate::shown::show;
 use crate::validation::validate;
 use crate::warnings::{default_warnings, substitution_warnings};
+use lost_location::Place;
 use lost_mapping::Moment;
 use lost_message::{Path, Reply, Validation};
 use lost_spec::answers::AnswerError;
@@ -125,17 +126,14 @@ fn validation_for<H: Holdings>(
     found: &Found,
 ) -> Result<Option<Validation>, AllocError>
     ensures { IfOk result (λ judged. option_map validation_of judged ≡ validation_for (H.book holdings.now) moment.now
-        (place_of ask.now.place) ask.now.validate service.now (mappings_of found.now)) }
+        (address_at (place_of ask.now.place)) ask.now.validate service.now (mappings_of found.now)) }
 {
-    match &ask.place {
-        Place::Point(_) => Ok(None),
-        Place::Address(address) => {
-            if ask.validate {
-                let judged = validate(alloc, holdings, moment, service, found, address)?;
-                Ok(Some(judged))
-            } else {
-                Ok(None)
-            }
-        }
+    let Some(address) = ask.place.address() else {
+        return Ok(None);
+    };
+    if !ask.validate {
+        return Ok(None);
     }
+    let judged = validate(alloc, holdings, moment, service, found, address)?;
+    Ok(Some(judged))
 }

@@ -3,13 +3,13 @@ ghost use Rattle.std.specs.Prelude.{◌≡◌, IfOk};
 ghost use Rattle.lost_spec.specs.Service.{chain};
 ghost use Rattle.lost_spec.specs.Find.{at, defaults, first_with, found};
 ghost use Rattle.lost_query.specs.Finding.{all_found, first_of, finding_of};
-ghost use Rattle.lost_query.specs.Place.{place_of};
+ghost use Rattle.lost_location.specs.Place.{place_of};
 
 use crate::chain::ChainService;
 use crate::found::Found;
 use crate::holdings::Holdings;
 use crate::picks::{of_service_at, standing_at};
-use crate::place::Place;
+use lost_location::Place;
 use lost_mapping::Moment;
 use lost_urn::ServiceUrn;
 use std::alloc::{AllocError, Global};

@@ -8,10 +8,10 @@ ghost use Rattle.lost_spec.specs.Find.{is_holder, is_standby, serves, is_impleme
 ghost use Rattle.lost_spec.specs.Services.{is_holding, has_live_key, all_services, holding};
 ghost use Rattle.lost_query.specs.Finding.{at_positions, of_chain};
 ghost use Rattle.lost_query.specs.Judged.{is_referring};
-ghost use Rattle.lost_query.specs.Place.{place_of};
+ghost use Rattle.lost_location.specs.Place.{place_of};
 
-use crate::place::Place;
 use lost_civic::{CivicAddress, Element};
+use lost_location::Place;
 use lost_mapping::{Mapping, Moment};
 use lost_urn::ServiceUrn;
 use smallvec::SmallVec;

@@ -3,6 +3,7 @@
 #![tactic(auto)]
 
 mod answering;
+mod asked;
 mod book;
 mod boundaries;
 mod chain;
@@ -12,7 +13,6 @@ mod found;
 mod holdings;
 mod lists;
 mod picks;
-mod place;
 mod places;
 mod refusals;
 mod services;
@@ -21,13 +21,13 @@ mod used;
 mod validation;
 mod warnings;
 
-pub use answering::answer;
+pub use answering::{answer, answer_asked};
+pub use asked::{Asked, place_used};
 pub use holdings::{Holdings, Positions};
+pub use lost_location::{Place, law_equal_places_are_one};
 pub use lost_message::{
     AnswerError, Body, Boundary, FoundMappings, Location, Locations, Path, Reply, Request,
     Validation, Warning,
 };
-pub use place::{Place, law_equal_places_are_one};
-pub use places::place_used;
 pub use services::children::Children;
 pub use validation::patterns::refers;

@@ -2,11 +2,11 @@
 ghost use Rattle.std.specs.Prelude.{◌≡◌, map};
 ghost use Rattle.lost_spec.specs.Answer.{shown};
 ghost use Rattle.lost_query.specs.Finding.{mappings_of};
-ghost use Rattle.lost_query.specs.Place.{place_of};
+ghost use Rattle.lost_location.specs.Place.{place_of};
 ghost use Rattle.lost_message.specs.Reply.{shown_with, all_shown_of};
 
 use crate::found::Found;
-use crate::place::Place;
+use lost_location::Place;
 use lost_message::{Boundary, FoundMappings};
 
 /// The mappings, each with the boundary that the client prefers (RFC 5222, section 8.3.4).
@@ -20,14 +20,14 @@ pub(crate) fn show(found: Found, place: &Place, by_value: bool) -> FoundMappings
     }
 }
 
-/// The boundary that a mapping that is no default is shown with: by value, its regions of the place's profile;
-/// otherwise its key and source (RFC 5222, section 8.3.4).
+/// The boundary that a mapping that is no default is shown with: by value, its regions of the place's kind; otherwise its
+/// key and source (RFC 5222, section 8.3.4).
 fn boundary_shown(place: &Place, by_value: bool) -> Boundary
     ensures { shown_with result ≡ shown (place_of place.now) by_value }
 {
-    match place {
-        Place::Point(_) if by_value => Boundary::ByPolygons,
-        Place::Address(_) if by_value => Boundary::ByPatterns,
-        _ => Boundary::ByReference,
+    if by_value {
+        Boundary::ByValue(place.kind())
+    } else {
+        Boundary::ByReference
     }
 }

@@ -1,29 +1,18 @@
 //! The location of a request that is used.
-ghost use Rattle.std.specs.Prelude.{◌≡◌, ◌||◌, map, option_map};
+ghost use Rattle.std.specs.Prelude.{◌≡◌, map, option_map, is_some};
 ghost use Rattle.std.specs.Option.{option_copied};
-ghost use Rattle.lost_spec.specs.Answer.{is_geodetic, is_civic, location_used};
+ghost use Rattle.lost_spec.specs.Place.{kind_of};
+ghost use Rattle.lost_spec.specs.Answer.{location_used};
 ghost use Rattle.lost_message.specs.Request.{location_of, locations_of};
 
+use lost_location::kind_of;
 use lost_message::{Location, Locations};
 
-/// The name of the profile of points (RFC 5222, section 12.2).
-const GEODETIC: &str = "geodetic-2d";
-
-/// The name of the profile of civic addresses (RFC 5222, section 12.3).
-const CIVIC: &str = "civic";
-
-/// Whether a profile is that of points (RFC 5222, section 12.2).
-pub(crate) fn is_geodetic(profile: &str) -> bool
-    ensures { result ≡ is_geodetic profile.now }
-{
-    profile == GEODETIC
-}
-
-/// Whether a profile is one of the two that the server knows (RFC 5222, section 12.1).
+/// Whether the server knows a profile (RFC 5222, section 12.1).
 fn is_known(profile: &str) -> bool
-    ensures { result ≡ (is_geodetic profile.now || is_civic profile.now) }
+    ensures { result ≡ is_some (kind_of profile.now) }
 {
-    is_geodetic(profile) || profile == CIVIC
+    kind_of(profile).is_some()
 }
 
 /// The first location of a known profile (RFC 5222, section 12.1).

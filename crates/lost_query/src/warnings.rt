@@ -1,9 +1,10 @@
 //! The warnings of an answer to findService (RFC 5222, section 13.2).
 ghost use Rattle.std.specs.Prelude.{◌≡◌, ◌∷◌, ◌++◌, [], IfOk, cond};
+ghost use Rattle.lost_spec.specs.Place.{address_at};
 ghost use Rattle.lost_spec.specs.Find.{substitution_warnings, unavailable_warnings};
-ghost use Rattle.lost_query.specs.Place.{place_of};
+ghost use Rattle.lost_location.specs.Place.{place_of};
 
-use crate::place::Place;
+use lost_location::Place;
 use lost_spec::answers::Warning;
 use lost_urn::ServiceUrn;
 use std::alloc::{AllocError, Global};
@@ -35,7 +36,7 @@ pub(crate) fn default_warnings(
     validate: bool,
 ) -> Result<Vec<Warning>, AllocError>
     ensures { IfOk result (λ warnings. warnings.items ≡ substitution_warnings asked.now found.now
-        ++ (Warning.DefaultMappingReturned ∷ unavailable_warnings (place_of place.now) validate)) }
+        ++ (Warning.DefaultMappingReturned ∷ unavailable_warnings (address_at (place_of place.now)) validate)) }
 {
     let mut warnings = substitution_warnings(alloc, asked, found)?;
     warnings.push(Warning::DefaultMappingReturned)?;
@@ -47,11 +48,8 @@ pub(crate) fn default_warnings(
 
 /// Whether validation of an address was asked for.
 fn is_unavailable(place: &Place, validate: bool) -> bool
-    ensures { unavailable_warnings (place_of place.now) validate
+    ensures { unavailable_warnings (address_at (place_of place.now)) validate
         ≡ cond result (Warning.LocationValidationUnavailable ∷ []) [] }
 {
-    match place {
-        Place::Point(_) => false,
-        Place::Address(_) => validate,
-    }
+    validate && place.address().is_some()
 }

@@ -3,72 +3,41 @@ ghost use Rattle.std.specs.Prelude.{◌≡◌, Bool, None, IfOk, MatchOption, po
 ghost use Rattle.std.specs.Fn.{FnReturnsAt};
 ghost use Rattle.lost_spec.specs.Mapping as spec;
 ghost use Rattle.lost_spec.specs.Positions.{positions};
-ghost use Rattle.lost_spec.specs.Find.{AtPoint, AtAddress, is_holder, is_standby, serves, is_implemented};
+ghost use Rattle.lost_spec.specs.Find.{is_holder, is_standby, serves, is_implemented};
 ghost use Rattle.lost_spec.specs.Services.{is_holding, has_live_key, by_key};
+ghost use Rattle.lost_location.specs.Place.{place_of};
 
 use crate::book::Book;
 use crate::held::position_of_live_key;
-use crate::places::{holds_address, holds_point, is_of_chain, serves};
-use lost_civic::CivicAddress;
-use lost_geo::GeoPoint;
+use crate::places::{holds, is_of_chain, serves};
+use lost_location::Place;
 use lost_mapping::{Mapping, Moment};
 use lost_urn::ServiceUrn;
 use std::alloc::{AllocError, Global};
 
 impl Book {
-    /// The mappings that are live, are no defaults, have this service and hold the point (RFC 5222, section 8).
-    pub fn at_point(
+    /// The mappings that are live, are no defaults, have this service and hold the place (RFC 5222, section 8).
+    pub fn at(
         &self,
         moment: &Moment,
-        point: &GeoPoint,
+        place: &Place,
         service: &ServiceUrn,
     ) -> Result<Vec<usize>, AllocError>
         ensures { IfOk result (λ found.
-            found.items ≡ positions (is_holder moment.now (AtPoint point.now) service.now) self.now.mappings) }
+            found.items ≡ positions (is_holder moment.now (place_of place.now) service.now) self.now.mappings) }
     {
         positions_of(self.mappings(), self.alloc(), |mapping| {
-            serves(mapping, moment, service) && !mapping.is_default() && holds_point(mapping, point)
+            serves(mapping, moment, service) && !mapping.is_default() && holds(mapping, place)
         })
     }
 
-    /// The mappings that are live, are no defaults, have this service and hold the address (RFC 5222, section 8).
-    pub fn at_address(
-        &self,
-        moment: &Moment,
-        address: &CivicAddress,
-        service: &ServiceUrn,
-    ) -> Result<Vec<usize>, AllocError>
+    /// The mappings that are live, are no defaults and hold the place (RFC 5222, section 11).
+    pub fn holding(&self, moment: &Moment, place: &Place) -> Result<Vec<usize>, AllocError>
         ensures { IfOk result (λ found.
-            found.items ≡ positions (is_holder moment.now (AtAddress address.now) service.now) self.now.mappings) }
+            found.items ≡ positions (is_holding moment.now (place_of place.now)) self.now.mappings) }
     {
         positions_of(self.mappings(), self.alloc(), |mapping| {
-            serves(mapping, moment, service)
-                && !mapping.is_default()
-                && holds_address(mapping, address)
-        })
-    }
-
-    /// The mappings that are live, are no defaults and hold the point (RFC 5222, section 11).
-    pub fn holding_point(&self, moment: &Moment, point: &GeoPoint) -> Result<Vec<usize>, AllocError>
-        ensures { IfOk result (λ found.
-            found.items ≡ positions (is_holding moment.now (AtPoint point.now)) self.now.mappings) }
-    {
-        positions_of(self.mappings(), self.alloc(), |mapping| {
-            mapping.is_live(moment) && !mapping.is_default() && holds_point(mapping, point)
-        })
-    }
-
-    /// The mappings that are live, are no defaults and hold the address (RFC 5222, section 11).
-    pub fn holding_address(
-        &self,
-        moment: &Moment,
-        address: &CivicAddress,
-    ) -> Result<Vec<usize>, AllocError>
-        ensures { IfOk result (λ found.
-            found.items ≡ positions (is_holding moment.now (AtAddress address.now)) self.now.mappings) }
-    {
-        positions_of(self.mappings(), self.alloc(), |mapping| {
-            mapping.is_live(moment) && !mapping.is_default() && holds_address(mapping, address)
+            mapping.is_live(moment) && !mapping.is_default() && holds(mapping, place)
         })
     }
 

@@ -70,7 +70,7 @@ fn is_reference(pattern: &CivicPattern, address: &CivicAddress, valid: &[Element
 
 /// Whether some pattern of a mapping names each of these elements with the address's comparison text (own policy).
 pub fn refers(mapping: &Mapping, address: &CivicAddress, elements: &[Element]) -> bool
-    ensures { result ≡ list_any (is_reference elements.now address.now) mapping.now.patterns }
+    ensures { result ≡ list_any (is_reference elements.now address.now) mapping.now.regions.patterns }
 {
     mapping
         .patterns()
@@ -86,7 +86,7 @@ fn add_patterns<'a, F: Fn(&CivicPattern) -> bool>(
 ) -> Result<(), AllocError>
     requires { F.IsAlwaysCallable passes }
     ensures added { (test : Pairs → Bool) → ((p : Pairs) (r : Bool) → FnReturnsAt F.Fn passes p r → r ≡ test p)
-        → OnOk result (map (λ p. p.now) patterns.new.items ≡ map (λ p. p.now) patterns.old.items ++ filter test mapping.now.patterns) }
+        → OnOk result (map (λ p. p.now) patterns.new.items ≡ map (λ p. p.now) patterns.old.items ++ filter test mapping.now.regions.patterns) }
     ensures lawful { OnOk result (AllByRecursion (λ p. pattern_fault p ≡ None) (map (λ p. p.now) patterns.old.items)
         → AllByRecursion (λ p. pattern_fault p ≡ None) (map (λ p. p.now) patterns.new.items)) }
 {

@@ -1,6 +1,6 @@
 use Rattle.std.proofs.Common.{◌≡◌, ◌<◌, ◌∙◌, [], All, length, sym, ap, subst, arith}
 use Rattle.lost_spec.specs.Find.{at}
-use Rattle.lost_query.specs.Place.{place_of}
+use Rattle.lost_location.specs.Place.{place_of}
 use Rattle.lost_query.specs.Finding.{at_positions, of_chain, chain_service, mappings_of, all_found}
 use Rattle.lost_query.proofs.ChainLemmas.{at-from_chain, cons_nonempty, first_with-passed, first_with-found}
 use Rattle.lost_query.proofs.finding.first_holders.Goals as goal

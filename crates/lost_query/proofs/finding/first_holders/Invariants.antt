@@ -1,7 +1,7 @@
 use Rattle.std.proofs.Common.{◌≡◌, ◌≤◌, length}
 use Rattle.lost_spec.specs.Service.{chain, cuts}
 use Rattle.lost_spec.specs.Find.{at, first_with}
-use Rattle.lost_query.specs.Place.{place_of}
+use Rattle.lost_location.specs.Place.{place_of}
 use Rattle.lost_query.proofs.finding.first_holders.Given as goal
 
 abbrev pub invariant-loop-depth : goal.invariant-loop-depth

@@ -3,7 +3,7 @@ use Rattle.std.specs.Option.{option_copied}
 use Rattle.std.specs.Iterator.Adapters.{rev_source}
 use Rattle.std.specs.Slice.Iter.{iter_rest}
 use Rattle.lost_spec.specs.Services.{is_holding, services}
-use Rattle.lost_query.specs.Place.{place_of}
+use Rattle.lost_location.specs.Place.{place_of}
 use Rattle.lost_query.proofs.HasChildren.{services-HasChildren}
 use Rattle.lost_query.proofs.PositionLemmas.{position-below}
 use Rattle.lost_query.proofs.services.services_at.Goals as goal

@@ -4,7 +4,7 @@ use Rattle.std.specs.Iterator.Adapters.{rev_source}
 use Rattle.std.specs.Slice.Iter.{iter_rest}
 use Rattle.lost_spec.specs.Positions.{positions}
 use Rattle.lost_spec.specs.Services.{is_holding}
-use Rattle.lost_query.specs.Place.{place_of}
+use Rattle.lost_location.specs.Place.{place_of}
 use Rattle.lost_query.proofs.HasChildren.{HasChildren}
 use Rattle.lost_query.specs.Finding.{at_positions}
 use Rattle.lost_query.proofs.services.services_at.Given as goal

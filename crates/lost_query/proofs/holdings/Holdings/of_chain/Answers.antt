@@ -4,7 +4,7 @@ use Rattle.std.proofs.lemmas.Result.{IfOk-weaker}
 use Rattle.lost_spec.specs.Positions.{positions}
 use Rattle.lost_spec.specs.Services.{is_holding, holding}
 use Rattle.lost_query.specs.Finding.{at_positions, of_chain}
-use Rattle.lost_query.specs.Place.{place_of}
+use Rattle.lost_location.specs.Place.{place_of}
 use Rattle.lost_query.proofs.ChainLemmas.{of_chain-holding}
 use Rattle.lost_query.proofs.PositionLemmas.{positions-within}
 use Rattle.lost_query.proofs.holdings.Holdings.of_chain.Goals as goal

@@ -30,4 +30,4 @@ loop-pattern-preserved g c =
 
 pub returns-clause-added : goal.returns-clause-added
 returns-clause-added g c = λ test is.
-    filter_all test (map (λ (p : Bor Pairs). p.now) c.args.patterns.now.items) c.patterns-pattern-items.result.now c.args.mapping.now.patterns c.loop-pattern.pattern-index (map (λ (p : Bor Pairs). p.now) c.loop-pattern.patterns.items) c.loop-pattern-test.false c.patterns-pattern-items.ensures.patterns (c.loop-pattern.invariant.0 test is)
+    filter_all test (map (λ (p : Bor Pairs). p.now) c.args.patterns.now.items) c.patterns-pattern-items.result.now c.args.mapping.now.regions.patterns c.loop-pattern.pattern-index (map (λ (p : Bor Pairs). p.now) c.loop-pattern.patterns.items) c.loop-pattern-test.false c.patterns-pattern-items.ensures (c.loop-pattern.invariant.0 test is)
