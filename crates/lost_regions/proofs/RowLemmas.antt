@@ -3,6 +3,7 @@ use Rattle.std.proofs.Common.{◌≡◌, ℕ, ◌<◌, false, List, [], ◌∷�
 use Rattle.std.specs.List.{AllByRecursion}
 use Rattle.std.proofs.lemmas.List.{map-append}
 use Rattle.std.proofs.lemmas.List.Elements.{All-nil}
+use Rattle.lost_spec.specs.Text.{Text}
 use Rattle.lost_spec.specs.Ring.{Point}
 use Rattle.lost_spec.specs.Civic.{Pairs}
 use Rattle.lost_spec.specs.Mapping.{Mapping}
@@ -68,47 +69,55 @@ module _ {R : Type 0} (of : Mapping → List R) where
       removed n (of m) (entries (before ++ (n, m) ∷ behind)) (entries-held n m before behind not_before not_behind)
       ∙ sym (map-append (λ e. (e.0, of e.1)) before behind)
 
--- ---- all three
+-- ---- all four
 
 abbrev polygons_in : Mapping → List (List Point)
-polygons_in m = m.polygons
+polygons_in m = m.regions.polygons
 
 abbrev patterns_in : Mapping → List Pairs
-patterns_in m = m.patterns
+patterns_in m = m.regions.patterns
+
+abbrev token_sets_in : Mapping → List (List Text)
+token_sets_in m = m.regions.token_sets
 
 pub regions-put : (n : ℕ) (m : Mapping) (rows : Rows) → with_mapping n m (regions_of rows) ≡ regions_of (rows ++ (n, m) ∷ [])
-regions-put n m rows = sym (same_lists _ _ _ _ _ _ (entries-split polygons_in rows [] (n, m)) (entries-split patterns_in rows [] (n, m)) (entries-split patterns_in rows [] (n, m)))
+regions-put n m rows = sym (same_lists _ _ _ _ _ _ _ _ (entries-split polygons_in rows [] (n, m)) (entries-split patterns_in rows [] (n, m)) (entries-split patterns_in rows [] (n, m)) (entries-split token_sets_in rows [] (n, m)))
 
 pub regions-above : (n : ℕ) (rows : Rows) → AreBelow n rows → IsAboveAll n (regions_of rows)
 regions-above n rows below = record {
   points = entries-above polygons_in n rows below;
   addresses = entries-above patterns_in n rows below;
   references = entries-above patterns_in n rows below;
+  tokens = entries-above token_sets_in n rows below;
 }
 
 module _ (n : ℕ) (m : Mapping) (before behind : Rows) (not_before : HasNo n before) (not_behind : HasNo n behind) where
-  pub regions-held : HasAll n m.polygons m.patterns (regions_of (before ++ (n, m) ∷ behind))
+  pub regions-held : HasAll n m.regions (regions_of (before ++ (n, m) ∷ behind))
   regions-held = record {
     points = entries-held polygons_in n m before behind not_before not_behind;
     addresses = entries-held patterns_in n m before behind not_before not_behind;
     references = entries-held patterns_in n m before behind not_before not_behind;
+    tokens = entries-held token_sets_in n m before behind not_before not_behind;
   }
 
   pub regions-are_held : AreHeld n (regions_of (before ++ (n, m) ∷ behind))
   regions-are_held = record {
-    points = is_held n m.polygons _ (entries-held polygons_in n m before behind not_before not_behind);
-    addresses = is_held n m.patterns _ (entries-held patterns_in n m before behind not_before not_behind);
-    references = is_held n m.patterns _ (entries-held patterns_in n m before behind not_before not_behind);
+    points = is_held n m.regions.polygons _ (entries-held polygons_in n m before behind not_before not_behind);
+    addresses = is_held n m.regions.patterns _ (entries-held patterns_in n m before behind not_before not_behind);
+    references = is_held n m.regions.patterns _ (entries-held patterns_in n m before behind not_before not_behind);
+    tokens = is_held n m.regions.token_sets _ (entries-held token_sets_in n m before behind not_before not_behind);
   }
 
   pub regions-changed : (other : Mapping) → with_other n other (regions_of (before ++ (n, m) ∷ behind)) ≡ regions_of (before ++ (n, other) ∷ behind)
-  regions-changed other = same_lists _ _ _ _ _ _
+  regions-changed other = same_lists _ _ _ _ _ _ _ _
       (entries-changed polygons_in n m other before behind not_before not_behind)
       (entries-changed patterns_in n m other before behind not_before not_behind)
       (entries-changed patterns_in n m other before behind not_before not_behind)
+      (entries-changed token_sets_in n m other before behind not_before not_behind)
 
   pub regions-removed : without_number n (regions_of (before ++ (n, m) ∷ behind)) ≡ regions_of (before ++ behind)
-  regions-removed = same_lists _ _ _ _ _ _
+  regions-removed = same_lists _ _ _ _ _ _ _ _
       (entries-removed polygons_in n m before behind not_before not_behind)
       (entries-removed patterns_in n m before behind not_before not_behind)
       (entries-removed patterns_in n m before behind not_before not_behind)
+      (entries-removed token_sets_in n m before behind not_before not_behind)

@@ -4,11 +4,12 @@ ghost use Rattle.std.specs.Prelude.{◌≡◌, IfOk};
 use lost_civic::CivicPattern;
 use lost_geo::Polygon;
 use lost_mapping::Mapping;
+use lost_profile::TokenSet;
 use std::alloc::{AllocError, Global};
 
 /// The polygons of a mapping.
 pub(crate) fn polygons_of(alloc: Global, mapping: &Mapping) -> Result<Vec<Polygon>, AllocError>
-    ensures { IfOk result (λ polygons. polygons.items ≡ mapping.now.polygons) }
+    ensures { IfOk result (λ polygons. polygons.items ≡ mapping.now.regions.polygons) }
 {
     let mut polygons = Vec::with_capacity(alloc, mapping.polygons().len())?;
     for polygon in mapping.polygons() {
@@ -19,11 +20,22 @@ pub(crate) fn polygons_of(alloc: Global, mapping: &Mapping) -> Result<Vec<Polygo
 
 /// The patterns of a mapping.
 pub(crate) fn patterns_of(alloc: Global, mapping: &Mapping) -> Result<Vec<CivicPattern>, AllocError>
-    ensures { IfOk result (λ patterns. patterns.items ≡ mapping.now.patterns) }
+    ensures { IfOk result (λ patterns. patterns.items ≡ mapping.now.regions.patterns) }
 {
     let mut patterns = Vec::with_capacity(alloc, mapping.patterns().len())?;
     for pattern in mapping.patterns() {
         patterns.push(pattern.clone()?)?;
     }
     Ok(patterns)
+}
+
+/// The token sets of a mapping.
+pub(crate) fn token_sets_of(alloc: Global, mapping: &Mapping) -> Result<Vec<TokenSet>, AllocError>
+    ensures { IfOk result (λ sets. sets.items ≡ mapping.now.regions.token_sets) }
+{
+    let mut sets = Vec::with_capacity(alloc, mapping.token_sets().len())?;
+    for set in mapping.token_sets() {
+        sets.push(set.clone()?)?;
+    }
+    Ok(sets)
 }

@@ -1,31 +1,31 @@
-//! The three indexes.
+//! The four indexes.
 ghost use Rattle.std.specs.Prelude.{◌≡◌, ◌∷◌, ◌++◌, ℕ, [], All, Contains, IfOk, OnOk, OnErr};
 ghost use Rattle.std.specs.List.Sorted.{IsStrictlyIncreasing};
-ghost use Rattle.lost_spec.specs.Ring.{inside};
-ghost use Rattle.lost_spec.specs.Civic.{matches};
+ghost use Rattle.lost_location.specs.Place.{place_of};
 ghost use Rattle.lost_civicdex.specs.Covers.{names_all};
-ghost use Rattle.lost_index.specs.Entries.{IsAbove, IsHeld, holders, with_number};
+ghost use Rattle.lost_index.specs.Entries.{IsAbove, holders, with_number};
 ghost use Rattle.lost_regions.specs.UnderNumber.{IsHeldWith};
-ghost use Rattle.lost_regions.specs.Regions.{no_regions, AreHeld, IsAboveAll, HasAll, with_mapping, with_more, with_other, without_number};
+ghost use Rattle.lost_regions.specs.Regions.{no_regions, AreHeld, IsAboveAll, HasAll, joined, with_mapping, with_more, with_other, without_number, numbers_at, holders_at};
 
-use crate::copies::{patterns_of, polygons_of};
+use crate::copies::{patterns_of, polygons_of, token_sets_of};
 use crate::part::{keep_first, keep_rest};
-use lost_civic::CivicAddress;
 use lost_civicdex::{Civic, References, RequiredElements};
-use lost_geo::GeoPoint;
 use lost_grid::Geodetic2d;
 use lost_index::Index;
+use lost_location::Place;
 use lost_mapping::Mapping;
+use lost_profile::Tokens;
 use std::alloc::{AllocError, Global};
 use std::marker::Model;
 
-/// The regions of mappings under their numbers, which rise. Contracts see three lists of (number, regions).
+/// The regions of mappings under their numbers, which rise. Contracts see four lists of (number, regions).
 #[derive(Drop)]
 pub struct Regions {
     alloc: Global,
     points: Index<Geodetic2d>,
     addresses: Index<Civic>,
     references: Index<References>,
+    tokens: Index<Tokens>,
 }
 
 impl Model for Regions {
@@ -33,7 +33,7 @@ impl Model for Regions {
 
     ghost Value = { spec.Regions };
 
-    ghost view = { λ r. record { points = r.points; addresses = r.addresses; references = r.references } };
+    ghost view = { λ r. record { points = r.points; addresses = r.addresses; references = r.references; tokens = r.tokens } };
 }
 
 impl Regions {
@@ -46,6 +46,7 @@ impl Regions {
             points: Index::new(alloc),
             addresses: Index::new(alloc),
             references: Index::new(alloc),
+            tokens: Index::new(alloc),
         }
     }
 
@@ -57,8 +58,30 @@ impl Regions {
         ensures refused { OnErr result (self.new ≡ self.old) }
     {
         self.points.put(number, polygons_of(self.alloc, mapping)?)?;
-        if self.put_patterns(number, mapping).is_err() {
+        if self.put_named(number, mapping).is_err() {
             self.points.take(number);
+            return Err(AllocError);
+        }
+        Ok(())
+    }
+
+    /// Does the same for the token sets and the patterns alone.
+    fn put_named(&mut self, number: u64, mapping: &Mapping) -> Result<(), AllocError>
+        requires addresses { IsAbove number self.old.addresses }
+        requires references { IsAbove number self.old.references }
+        requires tokens { IsAbove number self.old.tokens }
+        ensures put { OnOk result (self.new ≡ record {
+          points = self.old.points;
+          addresses = self.old.addresses ++ (number, mapping.now.regions.patterns) ∷ [];
+          references = self.old.references ++ (number, mapping.now.regions.patterns) ∷ [];
+          tokens = self.old.tokens ++ (number, mapping.now.regions.token_sets) ∷ [];
+        }) }
+        ensures refused { OnErr result (self.new ≡ self.old) }
+    {
+        self.tokens
+            .put(number, token_sets_of(self.alloc, mapping)?)?;
+        if self.put_patterns(number, mapping).is_err() {
+            self.tokens.take(number);
             return Err(AllocError);
         }
         Ok(())
@@ -70,8 +93,9 @@ impl Regions {
         requires references { IsAbove number self.old.references }
         ensures put { OnOk result (self.new ≡ record {
           points = self.old.points;
-          addresses = self.old.addresses ++ (number, mapping.now.patterns) ∷ [];
-          references = self.old.references ++ (number, mapping.now.patterns) ∷ [];
+          addresses = self.old.addresses ++ (number, mapping.now.regions.patterns) ∷ [];
+          references = self.old.references ++ (number, mapping.now.regions.patterns) ∷ [];
+          tokens = self.old.tokens;
         }) }
         ensures refused { OnErr result (self.new ≡ self.old) }
     {
@@ -87,7 +111,7 @@ impl Regions {
 
     /// Replaces the regions of a held number by those of another mapping. If memory is refused, nothing changes.
     pub fn change(&mut self, number: u64, old: &Mapping, new: &Mapping) -> Result<(), AllocError>
-        requires { HasAll number old.now.polygons old.now.patterns self.old }
+        requires { HasAll number old.now.regions self.old }
         ensures changed { OnOk result (self.new ≡ with_other number new.now self.old) }
         ensures refused { OnErr result (self.new ≡ self.old) }
     {
@@ -98,13 +122,34 @@ impl Regions {
 
     /// Adds the regions of another mapping behind those of a number. If memory is refused, nothing changes.
     fn grow(&mut self, number: u64, old: &Mapping, new: &Mapping) -> Result<(), AllocError>
-        requires { HasAll number old.now.polygons old.now.patterns self.old }
+        requires { HasAll number old.now.regions self.old }
         ensures grown { OnOk result (self.new ≡ with_more number new.now self.old) }
         ensures refused { OnErr result (self.new ≡ self.old) }
     {
         self.points.add(number, polygons_of(self.alloc, new)?)?;
-        if self.grow_patterns(number, old, new).is_err() {
+        if self.grow_named(number, old, new).is_err() {
             keep_first(&mut self.points, number, old.polygons(), new.polygons());
+            return Err(AllocError);
+        }
+        Ok(())
+    }
+
+    /// Does the same for the token sets and the patterns alone.
+    fn grow_named(&mut self, number: u64, old: &Mapping, new: &Mapping) -> Result<(), AllocError>
+        requires addresses { IsHeldWith number old.now.regions.patterns self.old.addresses }
+        requires references { IsHeldWith number old.now.regions.patterns self.old.references }
+        requires tokens { IsHeldWith number old.now.regions.token_sets self.old.tokens }
+        ensures grown { OnOk result (self.new ≡ record {
+          points = self.old.points;
+          addresses = with_number number (λ regions. regions ++ new.now.regions.patterns) self.old.addresses;
+          references = with_number number (λ regions. regions ++ new.now.regions.patterns) self.old.references;
+          tokens = with_number number (λ regions. regions ++ new.now.regions.token_sets) self.old.tokens;
+        }) }
+        ensures refused { OnErr result (self.new ≡ self.old) }
+    {
+        self.tokens.add(number, token_sets_of(self.alloc, new)?)?;
+        if self.grow_patterns(number, old, new).is_err() {
+            keep_first(&mut self.tokens, number, old.token_sets(), new.token_sets());
             return Err(AllocError);
         }
         Ok(())
@@ -112,12 +157,13 @@ impl Regions {
 
     /// Does the same for the patterns alone.
     fn grow_patterns(&mut self, number: u64, old: &Mapping, new: &Mapping) -> Result<(), AllocError>
-        requires addresses { IsHeldWith number old.now.patterns self.old.addresses }
-        requires references { IsHeldWith number old.now.patterns self.old.references }
+        requires addresses { IsHeldWith number old.now.regions.patterns self.old.addresses }
+        requires references { IsHeldWith number old.now.regions.patterns self.old.references }
         ensures grown { OnOk result (self.new ≡ record {
           points = self.old.points;
-          addresses = with_number number (λ regions. regions ++ new.now.patterns) self.old.addresses;
-          references = with_number number (λ regions. regions ++ new.now.patterns) self.old.references;
+          addresses = with_number number (λ regions. regions ++ new.now.regions.patterns) self.old.addresses;
+          references = with_number number (λ regions. regions ++ new.now.regions.patterns) self.old.references;
+          tokens = self.old.tokens;
         }) }
         ensures refused { OnErr result (self.new ≡ self.old) }
     {
@@ -132,12 +178,13 @@ impl Regions {
 
     /// Keeps only the new mapping's regions of a number, which stand behind the old mapping's. It takes no memory.
     fn shed(&mut self, number: u64, old: &Mapping, new: &Mapping)
-        requires { HasAll number (old.now.polygons ++ new.now.polygons) (old.now.patterns ++ new.now.patterns) self.old }
+        requires { HasAll number (joined old.now.regions new.now.regions) self.old }
         ensures { self.new ≡ with_other number new.now self.old }
     {
         keep_rest(&mut self.points, number, old.polygons(), new.polygons());
         keep_rest(&mut self.addresses, number, old.patterns(), new.patterns());
         keep_rest(&mut self.references, number, old.patterns(), new.patterns());
+        keep_rest(&mut self.tokens, number, old.token_sets(), new.token_sets());
     }
 
     /// Removes a held number with its regions. It takes no memory.
@@ -148,30 +195,26 @@ impl Regions {
         self.points.take(number);
         self.addresses.take(number);
         self.references.take(number);
+        self.tokens.take(number);
     }
 
-    /// Numbers with a polygon that may have the point inside, rising, each once. Each number with a polygon that has is
-    /// among them (RFC 5222, section 12.2). No polygon is asked.
-    pub fn near_point(&self, point: &GeoPoint) -> Result<Vec<u64>, AllocError>
+    /// Numbers with a region of the place's kind that may contain it, rising, each once. Each number with a region that
+    /// contains it is among them (RFC 5222, section 12). No region is asked.
+    pub fn near(&self, place: &Place) -> Result<Vec<u64>, AllocError>
         ensures holders { IfOk result (λ near. (number : ℕ)
-            → Contains (holders inside point.now self.now.points) number → Contains near.items number) }
-        ensures held { IfOk result (λ near. All (λ number. IsHeld number self.now.points) near.items) }
+            → Contains (holders_at (place_of place.now) self.now) number → Contains near.items number) }
+        ensures held { IfOk result (λ near. All (Contains (numbers_at (place_of place.now) self.now)) near.items) }
         ensures rising { IfOk result (λ near. IsStrictlyIncreasing near.items) }
     {
-        // A local copy is not read anew for each note.
-        let place = *point;
-        self.points.near(&place)
-    }
-
-    /// Numbers with a pattern that may match the address, rising, each once. Each number with a pattern that does is
-    /// among them (RFC 5222, section 12.3). No pattern is asked.
-    pub fn near_address(&self, address: &CivicAddress) -> Result<Vec<u64>, AllocError>
-        ensures holders { IfOk result (λ near. (number : ℕ)
-            → Contains (holders matches address.now self.now.addresses) number → Contains near.items number) }
-        ensures held { IfOk result (λ near. All (λ number. IsHeld number self.now.addresses) near.items) }
-        ensures rising { IfOk result (λ near. IsStrictlyIncreasing near.items) }
-    {
-        self.addresses.near(address)
+        match place {
+            Place::Point(point) => {
+                // A local copy is not read anew for each note.
+                let point = *point;
+                self.points.near(&point)
+            }
+            Place::Address(address) => self.addresses.near(address),
+            Place::Token(token) => self.tokens.near(token),
+        }
     }
 
     /// The numbers with a pattern that names all required elements (RFC 5222, section 8.4.2; own policy), rising.

@@ -2,10 +2,11 @@
 use Rattle.std.proofs.Common.{◌≡◌, ◌<◌, ℕ, zero, suc, Bool, true, false, not, cond, ◌&&◌, ⊎_elim, List, [], ◌∷◌, All, length, take, filter, refl, sym, ap, subst, ◌∙◌}
 use Rattle.std.specs.List.{list_any}
 use Rattle.std.proofs.lemmas.Bool.{false≢true, or_cases}
+use Rattle.lost_spec.specs.Place.{Place}
 use Rattle.lost_spec.specs.Service.{Service, same_service, cuts, chain, is_at_or_below}
 use Rattle.lost_spec.specs.Moment.{Instant}
 use Rattle.lost_spec.specs.Mapping.{Mapping, is_live}
-use Rattle.lost_spec.specs.Find.{Place, holds}
+use Rattle.lost_spec.specs.Find.{holds}
 use Rattle.lost_spec.specs.Book.{Book}
 use Rattle.lost_spec.specs.Services.{is_holding, holding}
 use Rattle.lost_spec.specs.Positions.{positions}
@@ -79,13 +80,11 @@ module _ (t : Instant) (l : Place) (s : Service) (ms : List Mapping) (found : Li
       (λ m. third_implied (is_live m t) (not m.is_default) (is_at_or_below s m.service) (holds m l) (on_chain m) (below_cut m.service s (length s))) ms
       ∙ sym (filter-both (is_holding t l) on_chain ms)
 
--- so too of a book, whose mappings these are, at a place that is this one
-module _ (b : Book) (ms : List Mapping) (t : Instant) (l asked : Place) (s : Service) (held : ms ≡ b.mappings) (place : l ≡ asked)
+-- so too of a book, whose mappings these are
+module _ (b : Book) (ms : List Mapping) (t : Instant) (l : Place) (s : Service) (held : ms ≡ b.mappings)
     (found : List ℕ) (are : found ≡ positions (is_chain_holder t l s) ms) where
   pub book_chain_within : All (λ position. position < length b.mappings) found
   book_chain_within = subst (λ list. All (λ position. position < length list) found) held (chain_within t l s ms found are)
 
-  pub book_chain_found : of_chain s (at_positions b.mappings found) ≡ of_chain s (holding b t asked)
-  book_chain_found =
-      subst (λ p. of_chain s (at_positions b.mappings found) ≡ of_chain s (holding b t p)) place
-      (chain_found t l s b.mappings found (are ∙ ap (positions (is_chain_holder t l s)) held))
+  pub book_chain_found : of_chain s (at_positions b.mappings found) ≡ of_chain s (holding b t l)
+  book_chain_found = chain_found t l s b.mappings found (are ∙ ap (positions (is_chain_holder t l s)) held)

@@ -6,14 +6,16 @@ use Rattle.std.proofs.lemmas.Bool.{false≢true}
 use Rattle.std.proofs.lemmas.Bool.Decides.{nat_tests}
 use Rattle.std.proofs.lemmas.Map.Views.{Contains-from_any, list_any-from_Contains}
 use Rattle.std.proofs.lemmas.Slice.Eq.{bytes_eq-Decides}
+use Rattle.lost_spec.specs.Place.{Place, AtPoint, AtAddress, AtToken}
 use Rattle.lost_spec.specs.Text.{Text, same_text}
 use Rattle.lost_spec.specs.Service.{Service, same_service}
-use Rattle.lost_spec.specs.Ring.{Point, inside}
+use Rattle.lost_spec.specs.Ring.{inside}
 use Rattle.lost_spec.specs.Civic.{Pairs, matches}
+use Rattle.lost_spec.specs.Token.{contains_token}
 use Rattle.lost_spec.specs.Moment.{Instant}
 use Rattle.lost_spec.specs.Mapping.{Mapping, is_live}
 use Rattle.lost_spec.specs.Book.{Identity, identity_of, has_identity, has_key, is_key}
-use Rattle.lost_spec.specs.Find.{AtPoint, AtAddress, holds, serves, is_standby}
+use Rattle.lost_spec.specs.Find.{holds, serves, is_standby}
 use Rattle.lost_spec.specs.Services.{has_live_key}
 use Rattle.lost_urn.specs.Order.{same_service_is}
 use Rattle.lost_civic.specs.declared.elements.Element.{Element}
@@ -24,7 +26,7 @@ use Rattle.lost_index.specs.Entries.{holders}
 use Rattle.lost_tables.specs.declared.tables.Tables.{Tables}
 use Rattle.lost_tables.specs.Lookup.{ByIdentity, ByKey, ByService, ByDefault, numbers_of, IsListed, IsFullyListed}
 use Rattle.lost_tables.specs.Picks.{Covers}
-use Rattle.lost_regions.specs.Regions.{Regions}
+use Rattle.lost_regions.specs.Regions.{Regions, regions_of, holders_at}
 use Rattle.lost_routing.specs.Invariants.{IsStore}
 
 itself : (n : ℕ) → nat_eq n n ≡ true
@@ -93,6 +95,13 @@ module _ {R L : Type 0} (of : Mapping → List R) (holds : R → L → Bool) (lo
   holder_at (k ∷ ns) (x ∷ ms) (suc i) n m at_m at_n some =
       listed_later (passes (k, of x)) n k (of x) (filter passes (entries (zip ns ms))) (holder_at ns ms i n m at_m at_n some)
 
+-- a mapping that holds a place is among the holders there
+place_holder_at : (l : Place) (ns : List ℕ) (ms : List Mapping) (i n : ℕ) (m : Mapping) → slice_get ms i ≡ Some m → slice_get ns i ≡ Some n
+    → holds m l ≡ true → list_any (nat_eq n) (holders_at l (regions_of (zip ns ms))) ≡ true
+place_holder_at (AtPoint point) ns ms i n m at_m at_n h = holder_at (λ x. x.regions.polygons) inside point ns ms i n m at_m at_n h
+place_holder_at (AtAddress address) ns ms i n m at_m at_n h = holder_at (λ x. x.regions.patterns) matches address ns ms i n m at_m at_n h
+place_holder_at (AtToken token) ns ms i n m at_m at_n h = holder_at (λ x. x.regions.token_sets) contains_token token ns ms i n m at_m at_n h
+
 -- ---- what a test tells of a mapping
 
 same_parts : (a b c d : Text) → a ≡ b → c ≡ d → ◌≡◌ {A = Identity} (record { source = a; source_id = c }) (record { source = b; source_id = d })
@@ -156,7 +165,7 @@ module _ (ns : List ℕ) (ms : List Mapping) (tables : Tables) (regions : Region
       → candidates ≡ numbers_of tables (ByService u) → Covers (is_referring t u address elements) ns ms candidates
   covers_referring t u address elements candidates is =
       covers_serving (is_referring t u address elements) t u candidates
-      (λ m h. left_of (serves m t u) (list_any (is_reference elements address) m.patterns) h) is
+      (λ m h. left_of (serves m t u) (list_any (is_reference elements address) m.regions.patterns) h) is
 
   pub covers_default : (t : Instant) (u : Service) (candidates : List ℕ) → candidates ≡ numbers_of tables (ByDefault u)
       → Covers (is_standby t u) ns ms candidates
@@ -165,28 +174,18 @@ module _ (ns : List ℕ) (ms : List Mapping) (tables : Tables) (regions : Region
       (subst (λ s. IsListed tables (ByDefault s) number) (service_is m t u (left_of (serves m t u) m.is_default h))
       ((noted_at place number m at_m at_n).by_default (right_of (serves m t u) m.is_default h)))
 
-  pub covers_at_point : (test : Mapping → Bool) (p : Point) (candidates : List ℕ) → ((m : Mapping) → test m ≡ true → holds m (AtPoint p) ≡ true)
-      → ((n : ℕ) → Contains (holders inside p regions.points) n → Contains candidates n) → Covers test ns ms candidates
-  covers_at_point test p candidates tells among place number m at_m at_n h =
+  pub covers_at : (test : Mapping → Bool) (l : Place) (candidates : List ℕ) → ((m : Mapping) → test m ≡ true → holds m l ≡ true)
+      → ((n : ℕ) → Contains (holders_at l regions) n → Contains candidates n) → Covers test ns ms candidates
+  covers_at test l candidates tells among place number m at_m at_n h =
       list_any-from_Contains nat_eq_equiv number candidates
       (among number
-      (Contains-from_any same_number number (holders inside p regions.points)
-      (subst (λ l. Among l number) (sym (ap (λ r. holders inside p r.points) kept.indexed))
-      (holder_at (λ x. x.polygons) inside p ns ms place number m at_m at_n (tells m h)))))
-
-  pub covers_at_address : (test : Mapping → Bool) (address : Pairs) (candidates : List ℕ)
-      → ((m : Mapping) → test m ≡ true → holds m (AtAddress address) ≡ true)
-      → ((n : ℕ) → Contains (holders matches address regions.addresses) n → Contains candidates n) → Covers test ns ms candidates
-  covers_at_address test address candidates tells among place number m at_m at_n h =
-      list_any-from_Contains nat_eq_equiv number candidates
-      (among number
-      (Contains-from_any same_number number (holders matches address regions.addresses)
-      (subst (λ l. Among l number) (sym (ap (λ r. holders matches address r.addresses) kept.indexed))
-      (holder_at (λ x. x.patterns) matches address ns ms place number m at_m at_n (tells m h)))))
+      (Contains-from_any same_number number (holders_at l regions)
+      (subst (λ r. Among (holders_at l r) number) (sym kept.indexed)
+      (place_holder_at l ns ms place number m at_m at_n (tells m h)))))
 
   pub covers_at_reference : (test : Mapping → Bool) (required : List Key) (candidates : List ℕ)
-      → ((m : Mapping) → test m ≡ true → list_any (λ pattern. names_all pattern required) m.patterns ≡ true)
+      → ((m : Mapping) → test m ≡ true → list_any (λ pattern. names_all pattern required) m.regions.patterns ≡ true)
       → candidates ≡ holders names_all required regions.references → Covers test ns ms candidates
   covers_at_reference test required candidates tells is place number m at_m at_n h =
       subst (λ l. Among l number) (sym (is ∙ ap (λ r. holders names_all required r.references) kept.indexed))
-      (holder_at (λ x. x.patterns) names_all required ns ms place number m at_m at_n (tells m h))
+      (holder_at (λ x. x.regions.patterns) names_all required ns ms place number m at_m at_n (tells m h))

@@ -103,11 +103,11 @@ module _ (address : Pairs) where
 
   module _ (t : Instant) (u : Service) (elements : List Element) where
     named_by_some : (m : Mapping) → is_referring t u address elements m ≡ true
-        → list_any (λ pattern. names_all pattern (keys_of_all elements)) m.patterns ≡ true
+        → list_any (λ pattern. names_all pattern (keys_of_all elements)) m.regions.patterns ≡ true
     named_by_some m referring =
         any_weaker (is_reference elements address) (λ pattern. names_all pattern (keys_of_all elements))
-        (λ pattern named. named_by_keys pattern elements named) m.patterns
-        (second_so (serves m t u) (list_any (is_reference elements address) m.patterns) referring)
+        (λ pattern named. named_by_keys pattern elements named) m.regions.patterns
+        (second_so (serves m t u) (list_any (is_reference elements address) m.regions.patterns) referring)
 
     -- none refers where an element does not stand in the address
     pub nowhere_where_missing : (ms : List Mapping) → (length (keys_of_all elements) < length elements)
@@ -116,8 +116,8 @@ module _ (address : Pairs) where
         nowhere (is_referring t u address elements)
         (λ m. fails_unless (is_referring t u address elements m)
         (λ referring. false≢true (sym (any_never (is_reference elements address)
-        (λ pattern. fails_unless (is_reference elements address pattern) (λ named. apart (length (keys_of_all elements)) (length elements) missing (stand_where_named pattern elements named))) m.patterns)
-        ∙ second_so (serves m t u) (list_any (is_reference elements address) m.patterns) referring))) 0 ms
+        (λ pattern. fails_unless (is_reference elements address pattern) (λ named. apart (length (keys_of_all elements)) (length elements) missing (stand_where_named pattern elements named))) m.regions.patterns)
+        ∙ second_so (serves m t u) (list_any (is_reference elements address) m.regions.patterns) referring))) 0 ms
 
     pub nowhere_where_none : (ms : List Mapping) → keys_of_all elements ≡ [] → 0 < length elements → positions (is_referring t u address elements) ms ≡ []
     nowhere_where_none ms none some =

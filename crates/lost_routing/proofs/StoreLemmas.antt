@@ -89,8 +89,8 @@ module _ (a b : List ℕ) (c d : List Mapping) (n : ℕ) (o : Mapping) (t : Tabl
   indexed_rows : r ≡ regions_of (zip a c ++ (n, o) ∷ zip b d)
   indexed_rows = kept.indexed ∙ ap regions_of (zipped o)
 
-  split_has : HasAll n o.polygons o.patterns r
-  split_has = subst (HasAll n o.polygons o.patterns) (sym indexed_rows) (regions-held n o (zip a c) (zip b d) not_before not_behind)
+  split_has : HasAll n o.regions r
+  split_has = subst (HasAll n o.regions) (sym indexed_rows) (regions-held n o (zip a c) (zip b d) not_before not_behind)
 
   split_held : AreHeld n r
   split_held = subst (AreHeld n) (sym indexed_rows) (regions-are_held n o (zip a c) (zip b d) not_before not_behind)
@@ -151,7 +151,7 @@ module _ (ns : List ℕ) (ms : List Mapping) (t : Tables) (r : Regions) (kept : 
       let other : length (take i ms) ≡ i = length-take-le i ms (omega (arith, within)) in
       one ∙ sym other
 
-  pub at_has : HasAll n o.polygons o.patterns r
+  pub at_has : HasAll n o.regions r
   at_has = split_has (take i ns) (drop (suc i) ns) (take i ms) (drop (suc i) ms) n o t r kept_split even_fronts
 
   pub at_held : AreHeld n r

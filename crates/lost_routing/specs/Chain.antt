@@ -1,9 +1,10 @@
 -- What is tested of a mapping that may hold a place, its regions last.
 use Rattle.std.specs.Prelude.{Bool, not, ◌&&◌}
+use Rattle.lost_spec.specs.Place.{Place}
 use Rattle.lost_spec.specs.Service.{Service, is_at_or_below}
 use Rattle.lost_spec.specs.Moment.{Instant}
 use Rattle.lost_spec.specs.Mapping.{Mapping, is_live}
-use Rattle.lost_spec.specs.Find.{Place, holds}
+use Rattle.lost_spec.specs.Find.{holds}
 
 -- a mapping is live at t, is no default, and has s or a service above it (own)
 abbrev pub is_eligible : Instant → Service → Mapping → Bool

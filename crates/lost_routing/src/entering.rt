@@ -40,7 +40,7 @@ pub(crate) fn exchange(
     new: &Mapping,
     number: u64,
 ) -> Result<(), AllocError>
-    requires { HasAll number old.now.polygons old.now.patterns regions.old }
+    requires { HasAll number old.now.regions regions.old }
     ensures listed { OnOk result (IsFullyListed tables.new new.now number) }
     ensures taken_back { OnOk result (IsListedAtMostAs tables.new new.now old.now number) }
     ensures unlisted { OnErr result (IsListedAtMostAs tables.new old.now new.now number) }

@@ -5,8 +5,9 @@ ghost use Rattle.lost_spec.specs.Services.{all_services};
 
 use crate::routing::Routing;
 use lost_civic::{CivicAddress, Element};
+use lost_location::Place;
 use lost_mapping::{Mapping, Moment};
-use lost_query::{Holdings, Place, Positions};
+use lost_query::{Holdings, Positions};
 use lost_urn::ServiceUrn;
 use std::alloc::AllocError;
 
@@ -35,10 +36,7 @@ impl Holdings for Routing {
     }
 
     fn holding(&self, moment: &Moment, place: &Place) -> Result<Positions, AllocError> {
-        match place {
-            Place::Point(point) => self.store.holding_point(moment, point),
-            Place::Address(address) => self.store.holding_address(moment, address),
-        }
+        self.store.holding(moment, place)
     }
 
     fn of_chain(
@@ -47,10 +45,7 @@ impl Holdings for Routing {
         place: &Place,
         service: &ServiceUrn,
     ) -> Result<Positions, AllocError> {
-        match place {
-            Place::Point(point) => self.store.chain_at_point(moment, point, service),
-            Place::Address(address) => self.store.chain_at_address(moment, address, service),
-        }
+        self.store.chain_at(moment, place, service)
     }
 
     fn at(
@@ -59,10 +54,7 @@ impl Holdings for Routing {
         place: &Place,
         service: &ServiceUrn,
     ) -> Result<Positions, AllocError> {
-        match place {
-            Place::Point(point) => self.store.at_point(moment, point, service),
-            Place::Address(address) => self.store.at_address(moment, address, service),
-        }
+        self.store.at(moment, place, service)
     }
 
     fn defaults(&self, moment: &Moment, service: &ServiceUrn) -> Result<Positions, AllocError> {

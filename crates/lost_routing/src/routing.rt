@@ -2,12 +2,12 @@
 ghost use Rattle.std.specs.Prelude.{◌≡◌, ◌<◌, Some, IfOk, length, slice_get};
 ghost use Rattle.lost_spec.specs.Book.{empty_book};
 ghost use Rattle.lost_spec.specs.Holders.{holders_of};
-ghost use Rattle.lost_query.specs.Place.{place_of};
+ghost use Rattle.lost_location.specs.Place.{place_of};
 
 use crate::store::Store;
 use lost_book::{Limits, Traces};
+use lost_location::Place;
 use lost_mapping::Mapping;
-use lost_query::Place;
 use std::alloc::{AllocError, Global};
 use std::marker::Model;
 
@@ -73,10 +73,7 @@ impl Routing {
     pub fn holders(&self, place: &Place) -> Result<Vec<usize>, AllocError>
         ensures { IfOk result (λ places. places.items ≡ holders_of self.now (place_of place.now)) }
     {
-        let places = match place {
-            Place::Point(point) => self.store.holders_of_point(point),
-            Place::Address(address) => self.store.holders_of_address(address),
-        }?;
+        let places = self.store.holders_of(place)?;
         Ok(places.into_vec()?)
     }
 

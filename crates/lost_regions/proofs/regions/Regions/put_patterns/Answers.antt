@@ -13,10 +13,10 @@ take-requires c =
 pub returns-then-is_err-clause-refused : goal.returns-then-is_err-clause-refused
 returns-then-is_err-clause-refused c =
     let references : c.put-2.new.self ≡ c.self.inside.references = search rules in
-    same_lists _ _ _ _ _ _ refl
+    same_lists _ _ _ _ _ _ _ _ refl
     (c.take.ensures
     ∙ put_undone c.args.number c.in_ok-patterns_of.field-0.items c.self.inside.addresses c.put.new.self
     (subst (IsAbove c.args.number) (sym (ap (λ r. r.addresses) c.self.view_is)) c.requires.addresses)
     c.in_ok-put.ensures.put)
-    references
+    references refl
     ∙ c.self.view_is
