@@ -8,8 +8,8 @@ use Rattle.std.specs.Map.{keys_of}
 use Rattle.serde_json.specs.Find.{as_str}
 use Rattle.serde_json.specs.View.{view, members_view}
 use Rattle.serde_json.proofs.Views.{Entry}
+use Rattle.lost_spec.specs.Place.{is_region, PatternRegion, UnreadableRegion}
 use Rattle.lost_spec.specs.Text.{Text, is_among, has_repeat, is_between}
-use Rattle.lost_spec.specs.Mapping.{is_region, PatternRegion, UnreadableRegion}
 use Rattle.lost_spec.specs.Civic.{Pairs, names_of}
 use Rattle.lost_civic.specs.Pairs.{is_pattern_pair}
 use Rattle.lost_civic.proofs.PatternLemmas.{is_none-pattern_fault}

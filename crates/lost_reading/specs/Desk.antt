@@ -4,12 +4,14 @@ use Rattle.serde_json.specs.Data.{Data, Members}
 use Rattle.serde_json.specs.Find.{as_bool, as_str, as_object}
 use Rattle.lost_spec.specs.declared.faults.MappingError.{MappingError}
 use Rattle.lost_spec.specs.declared.faults.MappingError.TheVariants.{BadStamp}
+use Rattle.lost_spec.specs.declared.places.PlaceKind.{PlaceKind}
+use Rattle.lost_spec.specs.declared.places.PlaceKind.TheVariants.{Geodetic2d, Civic, XToken}
+use Rattle.lost_spec.specs.Place.{kind_of, Region, RingRegion, PatternRegion, TokenRegion, UnreadableRegion}
 use Rattle.lost_spec.specs.Codes.{mapping_code}
 use Rattle.lost_spec.specs.Text.{Text, same_text, lowered}
 use Rattle.lost_spec.specs.Moment.{is_stamp, stamp_of}
-use Rattle.lost_spec.specs.Mapping.{Region, RingRegion, PatternRegion, UnreadableRegion, DisplayName, Parts, Mapping, parts_fault, mapping_of}
+use Rattle.lost_spec.specs.Mapping.{DisplayName, Parts, Mapping, parts_fault, mapping_of}
 use Rattle.lost_spec.specs.Book.{Edit, Publish, Replace, Withdraw}
-use Rattle.lost_spec.specs.Answer.{is_geodetic, is_civic}
 use Rattle.lost_mapping.specs.Identity.{identity_fault}
 use Rattle.lost_reading.specs.declared.desk.DeskFault.{DeskFault}
 use Rattle.lost_reading.specs.declared.desk.DeskFault.TheVariants.{BadLine, Mapping as MappingFault}
@@ -28,11 +30,19 @@ ring_region polygon = unwrap_or (option_map RingRegion (option_and_then (list_in
 abbrev pub pattern_region : Option Data → Region
 pattern_region pattern = unwrap_or (option_map PatternRegion (option_and_then pairs_in pattern)) UnreadableRegion
 
--- a region of this profile
+-- a list of texts (own)
+abbrev pub token_region : Option Data → Region
+token_region tokens = unwrap_or (option_map TokenRegion (option_and_then (list_in as_str) tokens)) UnreadableRegion
+
+-- a region of a kind, and of this profile
+abbrev pub region_of_kind : Option PlaceKind → Members → Region
+region_of_kind None _ = UnreadableRegion
+region_of_kind (Some Geodetic2d) members = ring_region (the_member (codes "polygon") members)
+region_of_kind (Some Civic) members = pattern_region (the_member (codes "pattern") members)
+region_of_kind (Some XToken) members = token_region (the_member (codes "tokens") members)
+
 abbrev pub region_with : Members → Text → Region
-region_with members profile =
-    if is_geodetic profile then ring_region (the_member (codes "polygon") members)
-    else (if is_civic profile then pattern_region (the_member (codes "pattern") members) else UnreadableRegion)
+region_with members profile = region_of_kind (kind_of profile) members
 
 abbrev pub region_of_members : Members → Region
 region_of_members members = unwrap_or (option_map (region_with members) (required as_str (codes "profile") members)) UnreadableRegion

@@ -2,9 +2,11 @@
 use Rattle.std.specs.Prelude.{Bool, true, false, if◌then◌else◌, not, ◌&&◌, ◌||◌, List, [], map, length, Option, Some, None, option_map, option_and_then, unwrap_or, nat_le, codes}
 use Rattle.serde_json.specs.Data.{Data, Members}
 use Rattle.serde_json.specs.Find.{as_bool, as_str, as_object}
+use Rattle.lost_spec.specs.declared.places.PlaceKind.{PlaceKind}
+use Rattle.lost_spec.specs.declared.places.PlaceKind.TheVariants.{Geodetic2d, Civic, XToken}
+use Rattle.lost_spec.specs.Place.{kind_of, has_system, Body, PointBody, AddressBody, TokenBody, UnreadableBody}
 use Rattle.lost_spec.specs.Text.{Text, same_text, has_repeat, is_between}
-use Rattle.lost_spec.specs.Request.{Body, PointBody, AddressBody, UnreadableBody, Location, Request, FindService, ListServicesByLocation, ListServices, GetServiceBoundary}
-use Rattle.lost_spec.specs.Answer.{is_geodetic, is_civic}
+use Rattle.lost_spec.specs.Request.{Location, Request, FindService, ListServicesByLocation, ListServices, GetServiceBoundary}
 use Rattle.lost_reading.specs.Members.{tree_of, the_member, required, optional, defaulting, list_in, service_in, position_in, pairs_in, only_member}
 
 -- ---- locations (RFC 5222, section 12)
@@ -17,20 +19,32 @@ point_body pos = unwrap_or (option_map (λ position. PointBody position.0 positi
 abbrev pub address_body : Option Data → Body
 address_body address = unwrap_or (option_map AddressBody (option_and_then pairs_in address)) UnreadableBody
 
+-- the content of a location of `x-token`: `token`, a text (own)
+abbrev pub token_body : Option Data → Body
+token_body token = unwrap_or (option_map TokenBody (option_and_then as_str token)) UnreadableBody
+
+-- the content of a location of a kind, by the members that hold one
+abbrev pub body_with : Option PlaceKind → (pos address token : Option Data) → Body
+body_with None pos address token = UnreadableBody
+body_with (Some Geodetic2d) pos address token = point_body pos
+body_with (Some Civic) pos address token = address_body address
+body_with (Some XToken) pos address token = token_body token
+
 -- the content of a location of another profile is not looked at
 abbrev pub body_in : Text → Members → Body
-body_in profile members =
-    if is_geodetic profile then point_body (the_member (codes "pos") members)
-    else (if is_civic profile then address_body (the_member (codes "address") members) else UnreadableBody)
+body_in profile members = body_with (kind_of profile) (the_member (codes "pos") members) (the_member (codes "address") members) (the_member (codes "token") members)
 
 -- the reference system is the one that is known: absent, or this text (RFC 5222, section 12.2)
 abbrev pub is_known_system : Option Data → Bool
 is_known_system None = true
 is_known_system (Some value) = unwrap_or (option_map (same_text (codes "urn:ogc:def:crs:EPSG::4326")) (as_str value)) false
 
--- it is looked at for `geodetic-2d` alone
+-- it is looked at where locations of the kind have one
+abbrev pub is_system_known : Option PlaceKind → Option Data → Bool
+is_system_known kind srs_name = not (has_system kind) || is_known_system srs_name
+
 abbrev pub srs_known_in : Text → Members → Bool
-srs_known_in profile members = not (is_geodetic profile) || is_known_system (the_member (codes "srsName") members)
+srs_known_in profile members = is_system_known (kind_of profile) (the_member (codes "srsName") members)
 
 -- a location with this id and profile
 abbrev pub location_with : Members → Text → Text → Location

@@ -5,8 +5,9 @@ use Rattle.serde_json.specs.Data.{Data, Members}
 use Rattle.serde_json.specs.Find.{as_str, as_object}
 use Rattle.serde_json.specs.View.{view}
 use Rattle.serde_json.specs.declared.value.Value.{Value}
+use Rattle.lost_spec.specs.Place.{Region, PatternRegion, UnreadableRegion}
 use Rattle.lost_spec.specs.Text.{Text}
-use Rattle.lost_spec.specs.Mapping.{Region, PatternRegion, UnreadableRegion, DisplayName, Parts}
+use Rattle.lost_spec.specs.Mapping.{DisplayName, Parts}
 use Rattle.lost_civic.specs.Pairs.{is_pattern_pair}
 use Rattle.lost_mapping.specs.Parts.{borrowed_parts_of}
 use Rattle.lost_mapping.specs.declared.parts.BorrowedParts.{BorrowedParts}

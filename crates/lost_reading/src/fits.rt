@@ -70,7 +70,7 @@ impl Fits for (i64, i64) {
 /// A value that is no region is an unreadable one.
 impl Fits for Region {
     ghost use Rattle.std.specs.Prelude.{Some};
-    ghost use Rattle.lost_spec.specs.Mapping as spec;
+    ghost use Rattle.lost_spec.specs.Place as spec;
 
     ghost Seen = { spec.Region };
 

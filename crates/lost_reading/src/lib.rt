@@ -23,6 +23,6 @@ mod walk;
 pub use desk::{DeskFault, DeskLine, read_desk};
 pub use kinds::position;
 pub use line::{Line, read_line_by_tree};
-pub use locations::{CIVIC, GEODETIC, KNOWN_SYSTEM, MAX_LOCATIONS, are_locations};
+pub use locations::{KNOWN_SYSTEM, MAX_LOCATIONS, are_locations};
 pub use options::{MAX_NAMES, by_value};
 pub use request::{ReadError, read_request};

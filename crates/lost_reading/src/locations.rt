@@ -1,29 +1,26 @@
 //! Locations of a request (RFC 5222, section 12).
 ghost use Rattle.std.specs.Prelude.{◌≡◌, ◌<◌, None, Some, Ok, length, map, codes};
+ghost use Rattle.serde_json.specs.Find.{as_str};
 ghost use Rattle.serde_json.specs.View.{view, members_view};
 ghost use Rattle.lost_spec.specs.Text.{is_among, has_repeat};
-ghost use Rattle.lost_message.specs.Request.{body_of, location_of, locations_of};
+ghost use Rattle.lost_location.specs.Body.{body_of};
+ghost use Rattle.lost_message.specs.Request.{location_of, locations_of};
 ghost use Rattle.lost_reading.specs.Gives.{Gives};
 ghost use Rattle.lost_reading.specs.Members as kinds;
 ghost use Rattle.lost_reading.specs.Members.{the_member};
-ghost use Rattle.lost_reading.specs.Requests.{point_body, address_body, body_in, is_known_system, srs_known_in, location_of_members, location_in, are_locations, if_locations, locations_in};
+ghost use Rattle.lost_reading.specs.Requests.{point_body, address_body, token_body, body_with, is_known_system, is_system_known, location_of_members, location_in, are_locations, if_locations, locations_in};
 
 use crate::kinds::named_texts;
-use crate::reading::{Kind, member, readable, required};
+use crate::reading::{Kind, member, readable, required, text_member};
 use crate::request::ReadError;
-use lost_message::{Body, Location, Locations};
+use lost_location::{Body, PlaceKind, has_system, kind_of};
+use lost_message::{Location, Locations};
 use serde_json::{Map, Value};
 use std::alloc::Global;
 use std::borrow::CowStr;
 
 /// The known reference system (RFC 5222, section 12.2).
 pub const KNOWN_SYSTEM: &str = "urn:ogc:def:crs:EPSG::4326";
-
-/// The profile of points (RFC 5222, section 12.2).
-pub const GEODETIC: &str = "geodetic-2d";
-
-/// The profile of addresses (RFC 5222, section 12.3).
-pub const CIVIC: &str = "civic";
 
 /// The most locations of a request.
 pub const MAX_LOCATIONS: usize = 8;
@@ -128,8 +125,9 @@ fn read_location<'a>(alloc: Global, members: &Map<String, Value>) -> Result<Loca
 {
     let id = required::<CowStr<'a>>(alloc, members, "id")?;
     let profile = required::<CowStr<'a>>(alloc, members, "profile")?;
-    let srs_known = is_srs_known(profile.as_str(), members);
-    let body = read_body(alloc, profile.as_str(), members)?;
+    let kind = kind_of(profile.as_str());
+    let srs_known = is_srs_known(kind, members);
+    let body = read_body(alloc, kind, members)?;
     Ok(Location {
         id,
         profile,
@@ -138,11 +136,11 @@ fn read_location<'a>(alloc: Global, members: &Map<String, Value>) -> Result<Loca
     })
 }
 
-/// Whether the reference system is known. Only `geodetic-2d` looks at it.
-fn is_srs_known(profile: &str, members: &Map<String, Value>) -> bool
-    ensures { result ≡ srs_known_in profile.now (members_view members.now.entries) }
+/// Whether the reference system is known. A kind that has none does not look at it.
+fn is_srs_known(kind: Option<PlaceKind>, members: &Map<String, Value>) -> bool
+    ensures { result ≡ is_system_known kind (the_member (codes "srsName") (members_view members.now.entries)) }
 {
-    profile != GEODETIC || has_known_system(members)
+    !has_system(kind) || has_known_system(members)
 }
 
 /// Whether the reference system is absent or the known one.
@@ -164,21 +162,27 @@ fn names_known_system(value: &Value) -> bool
     }
 }
 
-/// The content of a location. Another profile's content is not looked at.
-fn read_body(alloc: Global, profile: &str, members: &Map<String, Value>) -> Result<Body, ReadError>
-    ensures { Gives body_of result (Some (body_in profile.now (members_view members.now.entries))) }
+/// The content of a location of a kind. Another profile's content is not looked at.
+fn read_body<'a>(
+    alloc: Global,
+    kind: Option<PlaceKind>,
+    members: &Map<String, Value>,
+) -> Result<Body<'a>, ReadError>
+    ensures { Gives body_of result (Some (body_with kind
+        (the_member (codes "pos") (members_view members.now.entries))
+        (the_member (codes "address") (members_view members.now.entries))
+        (the_member (codes "token") (members_view members.now.entries)))) }
 {
-    if profile == GEODETIC {
-        read_point(alloc, members)
-    } else if profile == CIVIC {
-        read_address(alloc, members)
-    } else {
-        Ok(Body::Unreadable)
+    match kind {
+        Some(PlaceKind::Geodetic2d) => read_point(alloc, members),
+        Some(PlaceKind::Civic) => read_address(alloc, members),
+        Some(PlaceKind::XToken) => read_token(alloc, members),
+        None => Ok(Body::Unreadable),
     }
 }
 
 /// The content of a location of `geodetic-2d`.
-fn read_point(alloc: Global, members: &Map<String, Value>) -> Result<Body, ReadError>
+fn read_point<'a>(alloc: Global, members: &Map<String, Value>) -> Result<Body<'a>, ReadError>
     ensures { Gives body_of result (Some (point_body (the_member (codes "pos") (members_view members.now.entries)))) }
 {
     match readable::<(i64, i64)>(alloc, members, "pos")? {
@@ -188,13 +192,25 @@ fn read_point(alloc: Global, members: &Map<String, Value>) -> Result<Body, ReadE
 }
 
 /// The content of a location of `civic`. A value that is no object of texts is unreadable even if memory is short.
-fn read_address(alloc: Global, members: &Map<String, Value>) -> Result<Body, ReadError>
+fn read_address<'a>(alloc: Global, members: &Map<String, Value>) -> Result<Body<'a>, ReadError>
     ensures given { Gives body_of result (Some (address_body (the_member (codes "address") (members_view members.now.entries)))) }
     ensures unreadable { kinds.required kinds.pairs_in (codes "address") (members_view members.now.entries) ≡ None
         → result ≡ Ok Body.Unreadable }
 {
     match named_texts(alloc, members, "address")? {
         Some(pairs) => Ok(Body::Address(pairs.0)),
+        None => Ok(Body::Unreadable),
+    }
+}
+
+/// The content of a location of `x-token`. A value that is no text is unreadable even if memory is short.
+fn read_token<'a>(alloc: Global, members: &Map<String, Value>) -> Result<Body<'a>, ReadError>
+    ensures given { Gives body_of result (Some (token_body (the_member (codes "token") (members_view members.now.entries)))) }
+    ensures unreadable { kinds.required as_str (codes "token") (members_view members.now.entries) ≡ None
+        → result ≡ Ok Body.Unreadable }
+{
+    match text_member(members, "token") {
+        Some(text) => Ok(Body::Token(CowStr::Owned(String::from_str(alloc, text)?))),
         None => Ok(Body::Unreadable),
     }
 }

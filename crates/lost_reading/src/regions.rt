@@ -1,22 +1,21 @@
 //! Regions of a mapping that a map desk hands in (RFC 5222, section 5.5).
 ghost use Rattle.std.specs.Prelude.{◌≡◌, None, Some, Ok, codes};
 ghost use Rattle.serde_json.specs.View.{view, members_view};
-ghost use Rattle.lost_mapping.specs.Parts.{region_of};
+ghost use Rattle.lost_location.specs.Region.{region_of};
 ghost use Rattle.lost_reading.specs.Gives.{Gives};
 ghost use Rattle.lost_reading.specs.Members as kinds;
 ghost use Rattle.lost_reading.specs.Members.{the_member};
-ghost use Rattle.lost_reading.specs.Desk.{ring_region, pattern_region, region_with, region_of_members, region_in};
+ghost use Rattle.lost_reading.specs.Desk.{ring_region, pattern_region, token_region, region_of_kind, region_of_members, region_in};
 
 use crate::kinds::named_texts;
-use crate::locations::{CIVIC, GEODETIC};
 use crate::reading::{Kind, readable, text_member};
 use crate::request::ReadError;
-use lost_mapping::Region;
+use lost_location::{PlaceKind, Region, kind_of};
 use serde_json::{Map, Value};
 use std::alloc::Global;
 
 impl Kind for Region {
-    ghost use Rattle.lost_spec.specs.Mapping as spec;
+    ghost use Rattle.lost_spec.specs.Place as spec;
 
     ghost Seen = { spec.Region };
 
@@ -38,25 +37,24 @@ fn read_region(alloc: Global, members: &Map<String, Value>) -> Result<Region, Re
     ensures { Gives region_of result (Some (region_of_members (members_view members.now.entries))) }
 {
     match text_member(members, "profile") {
-        Some(profile) => read_region_of(alloc, profile, members),
+        Some(profile) => read_region_of(alloc, kind_of(profile), members),
         None => Ok(Region::Unreadable),
     }
 }
 
-/// The region of an object, by its profile.
+/// The region of an object, by the kind that its profile names.
 fn read_region_of(
     alloc: Global,
-    profile: &str,
+    kind: Option<PlaceKind>,
     members: &Map<String, Value>,
 ) -> Result<Region, ReadError>
-    ensures { Gives region_of result (Some (region_with (members_view members.now.entries) profile.now)) }
+    ensures { Gives region_of result (Some (region_of_kind kind (members_view members.now.entries))) }
 {
-    if profile == GEODETIC {
-        read_ring(alloc, members)
-    } else if profile == CIVIC {
-        read_pattern(alloc, members)
-    } else {
-        Ok(Region::Unreadable)
+    match kind {
+        Some(PlaceKind::Geodetic2d) => read_ring(alloc, members),
+        Some(PlaceKind::Civic) => read_pattern(alloc, members),
+        Some(PlaceKind::XToken) => read_tokens(alloc, members),
+        None => Ok(Region::Unreadable),
     }
 }
 
@@ -77,6 +75,15 @@ fn read_pattern(alloc: Global, members: &Map<String, Value>) -> Result<Region, R
 {
     match named_texts(alloc, members, "pattern")? {
         Some(pairs) => Ok(Region::Pattern(pairs.0)),
+        None => Ok(Region::Unreadable),
+    }
+}
+
+fn read_tokens(alloc: Global, members: &Map<String, Value>) -> Result<Region, ReadError>
+    ensures { Gives region_of result (Some (token_region (the_member (codes "tokens") (members_view members.now.entries)))) }
+{
+    match readable::<Vec<String>>(alloc, members, "tokens")? {
+        Some(texts) => Ok(Region::Tokens(texts)),
         None => Ok(Region::Unreadable),
     }
 }

@@ -2,23 +2,24 @@
 ghost use Rattle.std.specs.Prelude.{◌≡◌, Some, codes};
 ghost use Rattle.std.specs.List.{list_all};
 ghost use Rattle.serde_json.specs.View.{view, members_view};
+ghost use Rattle.lost_spec.specs.Place.{is_region};
 ghost use Rattle.lost_spec.specs.Text.{is_between};
-ghost use Rattle.lost_spec.specs.Mapping.{is_region};
-ghost use Rattle.lost_mapping.specs.Regions.{region_kind as kind_of_region};
+ghost use Rattle.lost_location.specs.Region.{region_kind as kind_of_region};
 ghost use Rattle.lost_reading.specs.Members.{the_member};
-ghost use Rattle.lost_reading.specs.Desk.{ring_region, pattern_region, region_with, region_of_members, region_in};
+ghost use Rattle.lost_reading.specs.Desk.{ring_region, pattern_region, token_region, region_of_kind, region_of_members, region_in};
 ghost use Rattle.lost_reading.specs.TreeParts.{text_or_empty, position_or_zeros, member_text_or_empty, display_name_or_empty, is_pattern_entry, members_region};
 
 use crate::fits::list;
 use crate::kinds::position;
-use crate::locations::{CIVIC, GEODETIC};
 use crate::reading::{member, text_member};
 use lost_civic::CivicPattern;
 use lost_geo::{Positions, is_ring_of};
-use lost_mapping::{PartItems, RegionKind};
+use lost_location::{PlaceKind, kind_of};
+use lost_mapping::PartItems;
+use lost_profile::{TokenTexts, is_token_set_of};
 use serde_json::{Map, Value};
 
-/// A tree. Positions and the parts of a mapping are read from its values.
+/// A tree. Positions, the texts of tokens and the parts of a mapping are read from its values.
 pub(crate) struct Tree;
 
 impl Positions for Tree {
@@ -28,6 +29,16 @@ impl Positions for Tree {
 
     fn position(item: &Value) -> (i64, i64) {
         position(item).unwrap_or((0, 0))
+    }
+}
+
+impl TokenTexts for Tree {
+    type Item = Value;
+
+    ghost text_of = { λ item. text_or_empty (view item) };
+
+    fn text(item: &Value) -> &str {
+        text_or_empty(item)
     }
 }
 
@@ -45,10 +56,10 @@ impl PartItems for Tree {
     ghost display_name_of = { λ name. display_name_or_empty (view name) };
 
     fn uri(uri: &Value) -> &str {
-        uri.as_str().unwrap_or("")
+        text_or_empty(uri)
     }
 
-    fn region_kind(region: &Value) -> Option<RegionKind> {
+    fn region_kind(region: &Value) -> Option<PlaceKind> {
         match region.as_object() {
             Some(members) => kind_of_members(members),
             None => None,
@@ -64,6 +75,13 @@ impl PartItems for Tree {
     }
 }
 
+/// The text that a value is, or an empty one if it is none.
+fn text_or_empty(value: &Value) -> &str
+    ensures { result.now ≡ text_or_empty (view value.now) }
+{
+    value.as_str().unwrap_or("")
+}
+
 /// The text of a member of an object, or an empty one if there is none.
 fn text_of_member<'v>(value: &'v Value, name: &str) -> &'v str
     ensures { result.now ≡ member_text_or_empty name.now (view value.now) }
@@ -75,25 +93,24 @@ fn text_of_member<'v>(value: &'v Value, name: &str) -> &'v str
 }
 
 /// The kind of an object's region. `None` if it cannot be read.
-fn kind_of_members(members: &Map<String, Value>) -> Option<RegionKind>
+fn kind_of_members(members: &Map<String, Value>) -> Option<PlaceKind>
     ensures { result ≡ kind_of_region (region_of_members (members_view members.now.entries)) }
 {
     match text_member(members, "profile") {
-        Some(profile) => kind_with(members, profile),
+        Some(profile) => kind_with(members, kind_of(profile)),
         None => None,
     }
 }
 
-/// The kind of an object's region, by its profile. `None` if it cannot be read.
-fn kind_with(members: &Map<String, Value>, profile: &str) -> Option<RegionKind>
-    ensures { result ≡ kind_of_region (region_with (members_view members.now.entries) profile.now) }
+/// This kind, if it is that of an object's region. `None` if the region cannot be read.
+fn kind_with(members: &Map<String, Value>, kind: Option<PlaceKind>) -> Option<PlaceKind>
+    ensures { result ≡ kind_of_region (region_of_kind kind (members_view members.now.entries)) }
 {
-    if profile == GEODETIC {
-        has_ring(members).then_some(RegionKind::Polygon)
-    } else if profile == CIVIC {
-        has_pattern(members).then_some(RegionKind::Pattern)
-    } else {
-        None
+    match kind {
+        Some(PlaceKind::Geodetic2d) => has_ring(members).then_some(PlaceKind::Geodetic2d),
+        Some(PlaceKind::Civic) => has_pattern(members).then_some(PlaceKind::Civic),
+        Some(PlaceKind::XToken) => has_token_set(members).then_some(PlaceKind::XToken),
+        None => None,
     }
 }
 
@@ -166,6 +183,25 @@ fn is_taken(name: &String, value: &Value) -> bool
 {
     match value.as_str() {
         Some(text) => CivicPattern::takes_pair(name.as_str(), text),
+        None => false,
+    }
+}
+
+/// Whether the member `tokens` is a list of texts that are a token set.
+fn has_token_set(members: &Map<String, Value>) -> bool
+    ensures { result ≡ is_region (token_region (the_member (codes "tokens") (members_view members.now.entries))) }
+{
+    match member(members, "tokens") {
+        Some(value) => is_token_set(value),
+        None => false,
+    }
+}
+
+fn is_token_set(value: &Value) -> bool
+    ensures { result ≡ is_region (token_region (Some (view value.now))) }
+{
+    match list::<String>(value) {
+        Some(texts) => is_token_set_of::<Tree>(texts),
         None => false,
     }
 }

@@ -3,8 +3,9 @@ use Rattle.std.proofs.Common.{◌≡◌, Bool, false, List, [], Option, Some, re
 use Rattle.std.specs.Prelude.{codes}
 use Rattle.serde_json.specs.Data.{Members}
 use Rattle.serde_json.specs.Find.{as_bool, as_str}
+use Rattle.lost_spec.specs.Place.{Region}
 use Rattle.lost_spec.specs.Text.{Text}
-use Rattle.lost_spec.specs.Mapping.{Region, DisplayName}
+use Rattle.lost_spec.specs.Mapping.{DisplayName}
 use Rattle.lost_reading.specs.Members.{required, optional, defaulting, list_in}
 use Rattle.lost_reading.specs.Desk.{regions_kind, display_name_in, parts_of_members}
 

@@ -33,3 +33,4 @@ HoldsLocation found members =
     × IsMember (codes "srsName") found.srs_name members
     × IsMember (codes "pos") found.pos members
     × IsMember (codes "address") found.address members
+    × IsMember (codes "token") found.token members

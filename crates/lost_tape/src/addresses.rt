@@ -2,19 +2,19 @@
 ghost use Rattle.std.specs.Prelude.{◌≡◌, Some, IfSome, OnSome, option_map, string_bytes};
 ghost use Rattle.serde_json.specs.Data.{Members as SpecMembers, no_members, string, put};
 ghost use Rattle.lost_civic.specs.Pairs.{seen_pairs};
-ghost use Rattle.lost_message.specs.Request.{body_of};
+ghost use Rattle.lost_location.specs.Body.{body_of};
 ghost use Rattle.lost_reading.specs.Members.{pairs_of, pairs_in};
 ghost use Rattle.lost_reading.specs.Requests.{address_body};
 ghost use Rattle.lost_tape.specs.Tapes.{data_of, text_members, HoldsMembers};
 
 use crate::part::{add, owned};
 use crate::tree::{Named, Tree};
-use lost_message::Body;
+use lost_location::Body;
 use std::alloc::Global;
 use std::collections::BTreeMap;
 
 /// The content of a location of `civic`.
-pub(crate) fn read_address(alloc: Global, address: &Option<Tree<'_, '_>>) -> Option<Body>
+pub(crate) fn read_address<'a>(alloc: Global, address: &Option<Tree<'_, '_>>) -> Option<Body<'a>>
     ensures { IfSome result (λ body. address_body (option_map data_of address.now) ≡ body_of body) }
 {
     match address {
@@ -23,7 +23,7 @@ pub(crate) fn read_address(alloc: Global, address: &Option<Tree<'_, '_>>) -> Opt
     }
 }
 
-fn read_address_at(alloc: Global, tree: &Tree<'_, '_>) -> Option<Body>
+fn read_address_at<'a>(alloc: Global, tree: &Tree<'_, '_>) -> Option<Body<'a>>
     ensures { IfSome result (λ body. address_body (Some (data_of tree.now)) ≡ body_of body) }
 {
     let pairs = read_pairs(alloc, tree)?;

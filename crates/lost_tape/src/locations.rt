@@ -1,18 +1,17 @@
 //! The locations of a request (RFC 5222, section 12).
-ghost use Rattle.std.specs.Prelude.{◌≡◌, Some, IfSome, option_map, option_and_then, not, ◌||◌, if◌then◌else◌};
-ghost use Rattle.lost_spec.specs.Answer.{is_geodetic, is_civic};
-ghost use Rattle.lost_spec.specs.Request.{UnreadableBody};
-ghost use Rattle.lost_message.specs.Request.{body_of, location_of, locations_of};
-ghost use Rattle.lost_reading.specs.Members.{pairs_in};
-ghost use Rattle.lost_reading.specs.Requests.{point_body, address_body, is_known_system, location_of_members, location_in, locations_in};
+ghost use Rattle.std.specs.Prelude.{◌≡◌, Some, IfSome, option_map, option_and_then};
+ghost use Rattle.lost_location.specs.Body.{body_of};
+ghost use Rattle.lost_message.specs.Request.{location_of, locations_of};
+ghost use Rattle.lost_reading.specs.Requests.{point_body, token_body, body_with, is_known_system, is_system_known, location_of_members, location_in, locations_in};
 ghost use Rattle.lost_tape.specs.Tapes.{data_of, members_of};
 
 use crate::addresses::read_address;
 use crate::members::LocationMembers;
 use crate::part::{Part, read_each, read_position, text_of};
 use crate::tree::Tree;
-use lost_message::{Body, Location, Locations};
-use lost_reading::{CIVIC, GEODETIC, KNOWN_SYSTEM, are_locations};
+use lost_location::{Body, PlaceKind, has_system, kind_of};
+use lost_message::{Location, Locations};
+use lost_reading::{KNOWN_SYSTEM, are_locations};
 use std::alloc::Global;
 use std::borrow::CowStr;
 
@@ -71,8 +70,9 @@ fn read_location<'a>(alloc: Global, object: &Tree<'_, 'a>) -> Option<Location<'a
     members.read(object)?;
     let id = text_of(&members.id)?;
     let profile = text_of(&members.profile)?;
-    let srs_known = is_srs_known(profile, &members.srs_name)?;
-    let body = read_body(alloc, profile, &members.pos, &members.address)?;
+    let kind = kind_of(profile);
+    let srs_known = is_srs_known(kind, &members.srs_name)?;
+    let body = read_body(alloc, kind, &members)?;
     Some(Location {
         id: CowStr::Borrowed(id),
         profile: CowStr::Borrowed(profile),
@@ -81,11 +81,11 @@ fn read_location<'a>(alloc: Global, object: &Tree<'_, 'a>) -> Option<Location<'a
     })
 }
 
-/// Whether the reference system is known. Only `geodetic-2d` looks at it.
-fn is_srs_known(profile: &str, srs_name: &Option<Tree<'_, '_>>) -> Option<bool>
-    ensures { IfSome result (λ known. not (is_geodetic profile.now) || is_known_system (option_map data_of srs_name.now) ≡ known) }
+/// Whether the reference system is known. A kind that has none does not look at it.
+fn is_srs_known(kind: Option<PlaceKind>, srs_name: &Option<Tree<'_, '_>>) -> Option<bool>
+    ensures { IfSome result (λ known. is_system_known kind (option_map data_of srs_name.now) ≡ known) }
 {
-    if profile == GEODETIC {
+    if has_system(kind) {
         has_known_system(srs_name)
     } else {
         Some(true)
@@ -109,27 +109,27 @@ fn names_known_system(tree: &Tree<'_, '_>) -> Option<bool>
     Some(KNOWN_SYSTEM == text)
 }
 
-/// The content of a location. Another profile's content is not looked at.
-fn read_body(
+/// The content of a location of a kind. Another profile's content is not looked at.
+fn read_body<'a>(
     alloc: Global,
-    profile: &str,
-    pos: &Option<Tree<'_, '_>>,
-    address: &Option<Tree<'_, '_>>,
-) -> Option<Body>
-    ensures { IfSome result (λ body. (if is_geodetic profile.now then point_body (option_map data_of pos.now)
-        else (if is_civic profile.now then address_body (option_map data_of address.now) else UnreadableBody)) ≡ body_of body) }
+    kind: Option<PlaceKind>,
+    members: &LocationMembers<'_, 'a>,
+) -> Option<Body<'a>>
+    ensures { IfSome result (λ body. body_with kind
+        (option_map data_of members.now.pos)
+        (option_map data_of members.now.address)
+        (option_map data_of members.now.token) ≡ body_of body) }
 {
-    if profile == GEODETIC {
-        read_point(pos)
-    } else if profile == CIVIC {
-        read_address(alloc, address)
-    } else {
-        Some(Body::Unreadable)
+    match kind {
+        Some(PlaceKind::Geodetic2d) => read_point(&members.pos),
+        Some(PlaceKind::Civic) => read_address(alloc, &members.address),
+        Some(PlaceKind::XToken) => read_token(&members.token),
+        None => Some(Body::Unreadable),
     }
 }
 
 /// The content of a location of `geodetic-2d`.
-fn read_point(pos: &Option<Tree<'_, '_>>) -> Option<Body>
+fn read_point<'a>(pos: &Option<Tree<'_, '_>>) -> Option<Body<'a>>
     ensures { IfSome result (λ body. point_body (option_map data_of pos.now) ≡ body_of body) }
 {
     match pos {
@@ -138,9 +138,26 @@ fn read_point(pos: &Option<Tree<'_, '_>>) -> Option<Body>
     }
 }
 
-fn read_point_at(tree: &Tree<'_, '_>) -> Option<Body>
+fn read_point_at<'a>(tree: &Tree<'_, '_>) -> Option<Body<'a>>
     ensures { IfSome result (λ body. point_body (Some (data_of tree.now)) ≡ body_of body) }
 {
     let (lat, lon) = read_position(tree)?;
     Some(Body::Point(lat, lon))
+}
+
+/// The content of a location of `x-token`.
+fn read_token<'a>(token: &Option<Tree<'_, 'a>>) -> Option<Body<'a>>
+    ensures { IfSome result (λ body. token_body (option_map data_of token.now) ≡ body_of body) }
+{
+    match token {
+        Some(tree) => read_token_at(tree),
+        None => Some(Body::Unreadable),
+    }
+}
+
+fn read_token_at<'a>(tree: &Tree<'_, 'a>) -> Option<Body<'a>>
+    ensures { IfSome result (λ body. token_body (Some (data_of tree.now)) ≡ body_of body) }
+{
+    let text = tree.text()?;
+    Some(Body::Token(CowStr::Borrowed(text)))
 }

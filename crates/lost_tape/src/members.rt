@@ -76,6 +76,7 @@ pub(crate) struct LocationMembers<'t, 'a> {
     pub(crate) srs_name: Option<Tree<'t, 'a>>,
     pub(crate) pos: Option<Tree<'t, 'a>>,
     pub(crate) address: Option<Tree<'t, 'a>>,
+    pub(crate) token: Option<Tree<'t, 'a>>,
 }
 
 impl<'t, 'a> LocationMembers<'t, 'a> {
@@ -89,6 +90,7 @@ impl<'t, 'a> LocationMembers<'t, 'a> {
             srs_name: None,
             pos: None,
             address: None,
+            token: None,
         }
     }
 
@@ -126,6 +128,8 @@ impl<'t, 'a> LocationMembers<'t, 'a> {
             self.pos = member;
         } else if "address" == name {
             self.address = member;
+        } else if "token" == name {
+            self.token = member;
         }
     }
 }

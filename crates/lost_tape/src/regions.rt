@@ -1,15 +1,14 @@
 //! Regions of a mapping that a map desk hands in (RFC 5222, section 5.5).
 ghost use Rattle.std.specs.Prelude.{◌≡◌, Some, IfSome, codes};
-ghost use Rattle.lost_mapping.specs.Parts.{region_of};
+ghost use Rattle.lost_location.specs.Region.{region_of};
 ghost use Rattle.lost_reading.specs.Members.{the_member};
-ghost use Rattle.lost_reading.specs.Desk.{ring_region, pattern_region, region_with, region_of_members, region_in};
+ghost use Rattle.lost_reading.specs.Desk.{ring_region, pattern_region, token_region, region_of_kind, region_of_members, region_in};
 ghost use Rattle.lost_tape.specs.Tapes.{data_of, members_of};
 
 use crate::addresses::read_pairs;
 use crate::part::{Part, read_list, read_position, required_member, required_text};
 use crate::tree::Tree;
-use lost_mapping::Region;
-use lost_reading::{CIVIC, GEODETIC};
+use lost_location::{PlaceKind, Region, kind_of};
 use std::alloc::Global;
 
 impl<'a> Part<'a> for (i64, i64) {
@@ -28,7 +27,7 @@ impl<'a> Part<'a> for (i64, i64) {
 }
 
 impl<'a> Part<'a> for Region {
-    ghost use Rattle.lost_spec.specs.Mapping as spec;
+    ghost use Rattle.lost_spec.specs.Place as spec;
 
     ghost Seen = { spec.Region };
 
@@ -51,19 +50,18 @@ fn read_region(alloc: Global, object: &Tree<'_, '_>) -> Option<Region>
     ensures { IfSome result (λ region. region_of_members (members_of object.now) ≡ region_of region) }
 {
     let profile = required_text(object, "profile")?;
-    read_region_of(alloc, profile, object)
+    read_region_of(alloc, kind_of(profile), object)
 }
 
-/// The region of an object, by its profile.
-fn read_region_of(alloc: Global, profile: &str, object: &Tree<'_, '_>) -> Option<Region>
-    ensures { IfSome result (λ region. region_with (members_of object.now) profile.now ≡ region_of region) }
+/// The region of an object, by the kind that its profile names.
+fn read_region_of(alloc: Global, kind: Option<PlaceKind>, object: &Tree<'_, '_>) -> Option<Region>
+    ensures { IfSome result (λ region. region_of_kind kind (members_of object.now) ≡ region_of region) }
 {
-    if profile == GEODETIC {
-        read_ring(alloc, object)
-    } else if profile == CIVIC {
-        read_pattern(alloc, object)
-    } else {
-        None
+    match kind {
+        Some(PlaceKind::Geodetic2d) => read_ring(alloc, object),
+        Some(PlaceKind::Civic) => read_pattern(alloc, object),
+        Some(PlaceKind::XToken) => read_tokens(alloc, object),
+        None => None,
     }
 }
 
@@ -81,4 +79,12 @@ fn read_pattern(alloc: Global, object: &Tree<'_, '_>) -> Option<Region>
     let tree = required_member(object, "pattern")?;
     let pairs = read_pairs(alloc, &tree)?;
     Some(Region::Pattern(pairs))
+}
+
+fn read_tokens(alloc: Global, object: &Tree<'_, '_>) -> Option<Region>
+    ensures { IfSome result (λ region. token_region (the_member (codes "tokens") (members_of object.now)) ≡ region_of region) }
+{
+    let tree = required_member(object, "tokens")?;
+    let texts = read_list::<String>(alloc, &tree)?;
+    Some(Region::Tokens(texts))
 }

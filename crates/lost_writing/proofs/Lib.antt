@@ -2,3 +2,4 @@ pub mod TokenLemmas
 pub mod ShapeLemmas
 pub mod ListLemmas
 pub mod NamedLemmas
+pub mod RegionLemmas

@@ -51,16 +51,22 @@ pub inner_four : (name a : Text) (x : Data) (b : Text) (y : Data) (c : Text) (z 
 inner_four name a x b y c z d w before = inner_written name (member a x (member b y (member c z (member d w no_members)))) before
 
 -- one list after another
-pub regions_written : (first second : List Data) (before : List Token)
+pub two_lists_written : (first second : List Data) (before : List Token)
     → then_token end_array (then_values second (then_values first (then_token begin_array before))) ≡ then_value (array (items_of (first ++ second))) before
-regions_written first second before = ap (then_token end_array) (sym (values_joined first second (then_token begin_array before))) ∙ list_written (first ++ second) before
+two_lists_written first second before = ap (then_token end_array) (sym (values_joined first second (then_token begin_array before))) ∙ list_written (first ++ second) before
+
+-- three lists, one after another
+pub three_lists_written : (first second third : List Data) (before : List Token)
+    → then_token end_array (then_values third (then_values second (then_values first (then_token begin_array before)))) ≡ then_value (array (items_of (first ++ (second ++ third)))) before
+three_lists_written first second third before =
+    ap (then_token end_array) (sym (values_joined second third (then_values first (then_token begin_array before)))) ∙ two_lists_written first (second ++ third) before
 
 -- a list of what things stand for, and one more
 pub longer_list_written : {Thing Seen : Type 0} (written : Seen → Data) (seen : Thing → Seen) (things : List Thing) (last : Seen) (before : List Token)
     → then_token end_array (then_value (written last) (then_values (map (λ thing. written (seen thing)) things) (then_token begin_array before))) ≡ then_value (list_data written (map seen things ++ last ∷ [])) before
 longer_list_written written seen things last before =
     let trees = sym (map-append written (map seen things) (last ∷ []) ∙ ap (λ front. front ++ written last ∷ []) (map-map written seen things)) in
-    regions_written (map (λ thing. written (seen thing)) things) (written last ∷ []) before ∙ ap (λ list. then_value (array (items_of list)) before) trees
+    two_lists_written (map (λ thing. written (seen thing)) things) (written last ∷ []) before ∙ ap (λ list. then_value (array (items_of list)) before) trees
 
 pub position_written : (point : Point) (before : List Token)
     → then_token end_array (then_value (number (of_integer point.lon)) (then_value (number (of_integer point.lat)) (then_token begin_array before))) ≡ then_value (position_data point) before

@@ -12,9 +12,10 @@ use Rattle.lost_spec.specs.Text.{Text}
 use Rattle.lost_spec.specs.Service.{Service, service_text}
 use Rattle.lost_spec.specs.Ring.{Point}
 use Rattle.lost_spec.specs.Civic.{Pairs}
+use Rattle.lost_spec.specs.Place.{Regions}
 use Rattle.lost_spec.specs.Mapping.{Expires, NoCache, NoExpiration, At, DisplayName, Mapping}
 use Rattle.lost_spec.specs.Validation.{Validation}
-use Rattle.lost_spec.specs.Request.{Boundary, ByReference, ByPolygons, ByPatterns, NoBoundary, ShownMapping, Reply, FindServiceResponse, ListServicesByLocationResponse, ListServicesResponse, GetServiceBoundaryResponse, Errors, BadRequest, InternalError}
+use Rattle.lost_spec.specs.Request.{Boundary, ByReference, ByValue, NoBoundary, ShownMapping, Reply, FindServiceResponse, ListServicesByLocationResponse, ListServicesResponse, GetServiceBoundaryResponse, Errors, BadRequest, InternalError}
 
 -- ---- pieces
 
@@ -35,7 +36,7 @@ member_if name (Some value) rest = member name value rest
 abbrev pub one_member : Text → Data → Data
 one_member name value = object (member name value no_members)
 
--- ---- regions (RFC 5222, section 5.5)
+-- ---- regions (RFC 5222, section 5.5; tokens own)
 
 abbrev pub position_data : Point → Data
 position_data point = list_data (λ coordinate. number (of_integer coordinate)) (point.lat ∷ point.lon ∷ [])
@@ -52,6 +53,16 @@ put_pairs members (pair ∷ pairs) = put_pairs (put pair.0 (string pair.1) membe
 abbrev pub pattern_data : Pairs → Data
 pattern_data pattern =
     object (member (codes "pattern") (object (put_pairs no_members pattern)) (member (codes "profile") (string (codes "civic")) no_members))
+
+-- a token set, its tokens as given (own)
+abbrev pub token_set_data : List Text → Data
+token_set_data tokens =
+    object (member (codes "profile") (string (codes "x-token")) (member (codes "tokens") (texts_data tokens) no_members))
+
+-- regions: polygons, then patterns, then token sets, each kind as given
+abbrev pub regions_data : Regions → Data
+regions_data regions =
+    array (items_of (map polygon_data regions.polygons ++ (map pattern_data regions.patterns ++ map token_set_data regions.token_sets)))
 
 -- ---- mappings (RFC 5222, section 8.4.1)
 
@@ -71,15 +82,13 @@ display_names_data (name ∷ names) = Some (list_data display_name_data (name �
 -- the boundary by value, where it is shown so
 abbrev pub value_data : Boundary → Option Data
 value_data (ByReference key source) = None
-value_data (ByPolygons polygons) = Some (list_data polygon_data polygons)
-value_data (ByPatterns patterns) = Some (list_data pattern_data patterns)
+value_data (ByValue regions) = Some (regions_data regions)
 value_data NoBoundary = None
 
 -- the boundary by reference, where it is shown so
 abbrev pub reference_data : Boundary → Option Data
 reference_data (ByReference key source) = Some (object (member (codes "key") (string key) (member (codes "source") (string source) no_members)))
-reference_data (ByPolygons polygons) = None
-reference_data (ByPatterns patterns) = None
+reference_data (ByValue regions) = None
 reference_data NoBoundary = None
 
 -- a mapping with this boundary
@@ -131,10 +140,6 @@ validation_data judged =
 abbrev pub services_data : List Service → Data
 services_data services = list_data (λ s. string (service_text s)) services
 
--- all regions of a mapping, polygons first (RFC 5222, section 9)
-abbrev pub regions_data : List (List Point) → List Pairs → Data
-regions_data polygons patterns = array (items_of (map polygon_data polygons ++ map pattern_data patterns))
-
 abbrev pub error_data : Text → Data
 error_data name = one_member (codes "errors") (one_member (codes "error") (string name))
 
@@ -158,11 +163,11 @@ reply_data (ListServicesResponse edition path services) =
     (member (codes "edition") (number (unsigned edition))
     (member (codes "path") (texts_data path)
     (member (codes "serviceList") (services_data services) no_members))))
-reply_data (GetServiceBoundaryResponse edition path polygons patterns) =
+reply_data (GetServiceBoundaryResponse edition path regions) =
     one_member (codes "getServiceBoundaryResponse") (object
     (member (codes "edition") (number (unsigned edition))
     (member (codes "path") (texts_data path)
-    (member (codes "serviceBoundary") (regions_data polygons patterns) no_members))))
+    (member (codes "serviceBoundary") (regions_data regions) no_members))))
 reply_data (Errors edition error) =
     one_member (codes "errors") (object
     (member (codes "edition") (number (unsigned edition))

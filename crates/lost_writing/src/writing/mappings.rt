@@ -13,7 +13,8 @@ ghost use Rattle.lost_writing.specs.Written.{key_data};
 
 use crate::token_text::TokenText;
 use crate::writing::lists::Written;
-use crate::writing::members::{list_member, list_member_if_any, text_member, texts_member};
+use crate::writing::members::{list_member_if_any, text_member, texts_member};
+use crate::writing::regions::write_regions_of;
 use lost_mapping::{DisplayName, Expires, Mapping};
 use lost_message::{Boundary, FoundMappings};
 use std::alloc::AllocError;
@@ -107,8 +108,10 @@ fn boundary_member(
 {
     match boundary {
         Boundary::ByReference => Ok(()),
-        Boundary::ByPolygons => list_member(text, "serviceBoundary", mapping.polygons()),
-        Boundary::ByPatterns => list_member(text, "serviceBoundary", mapping.patterns()),
+        Boundary::ByValue(kind) => {
+            text.name("serviceBoundary")?;
+            write_regions_of(text, kind, mapping.regions())
+        }
     }
 }
 
@@ -148,8 +151,7 @@ fn reference_member(
 {
     match boundary {
         Boundary::ByReference => key_member(text, mapping),
-        Boundary::ByPolygons => Ok(()),
-        Boundary::ByPatterns => Ok(()),
+        Boundary::ByValue(_) => Ok(()),
     }
 }
 

@@ -1,16 +1,19 @@
-//! Regions (RFC 5222, section 5.5).
+//! Regions (RFC 5222, section 5.5; tokens own).
 ghost use Rattle.std.specs.Prelude.{◌≡◌, OnOk, IfOk};
 ghost use Rattle.serde_json.specs.Data.{object, no_members};
+ghost use Rattle.lost_spec.specs.Place.{of_kind};
 ghost use Rattle.lost_civic.specs.Pairs.{seen_pairs};
-ghost use Rattle.lost_writing.specs.Replies.{position_data, polygon_data, put_pairs, pattern_data, regions_data};
+ghost use Rattle.lost_writing.specs.Replies.{position_data, polygon_data, put_pairs, pattern_data, token_set_data, regions_data};
 ghost use Rattle.lost_writing.specs.Tokens.{then_members, then_value};
 ghost use Rattle.lost_writing.specs.Named.{named_members};
 
 use crate::token_text::TokenText;
-use crate::writing::lists::{Written, write_each};
+use crate::writing::lists::{Written, write_each, write_list};
 use crate::writing::members::{list_member, text_member};
 use lost_civic::CivicPattern;
 use lost_geo::{GeoPoint, Polygon};
+use lost_location::{CIVIC, GEODETIC_2D, PlaceKind, Regions, X_TOKEN};
+use lost_profile::{Token, TokenSet};
 use std::alloc::{AllocError, Global};
 use std::collections::BTreeMap;
 
@@ -32,7 +35,7 @@ impl Written for Polygon {
     fn write(&self, text: &mut TokenText) -> Result<(), AllocError> {
         text.begin_object()?;
         list_member(text, "polygon", self.positions())?;
-        text_member(text, "profile", "geodetic-2d")?;
+        text_member(text, "profile", GEODETIC_2D)?;
         text.end_object()
     }
 }
@@ -77,22 +80,57 @@ impl Written for CivicPattern {
         text.begin_object()?;
         text.name("pattern")?;
         write_pairs(text, self.pairs())?;
-        text_member(text, "profile", "civic")?;
+        text_member(text, "profile", CIVIC)?;
         text.end_object()
     }
 }
 
-/// Writes all regions of a mapping, polygons first (RFC 5222, section 9).
-#[tactic(auto, using(crate::proofs::ShapeLemmas::regions_written))]
-pub(crate) fn write_regions(
-    text: &mut TokenText,
-    polygons: &[Polygon],
-    patterns: &[CivicPattern],
-) -> Result<(), AllocError>
-    ensures { OnOk result (text.new ≡ then_value (regions_data polygons.now patterns.now) text.old) }
+impl Written for Token {
+    ghost use Rattle.serde_json.specs.Data.{string};
+
+    ghost tree = { λ token. string token };
+
+    fn write(&self, text: &mut TokenText) -> Result<(), AllocError> {
+        text.text(self.text())
+    }
+}
+
+impl Written for TokenSet {
+    ghost tree = { token_set_data };
+
+    #[tactic(auto, using(crate::proofs::ShapeLemmas::two_written))]
+    fn write(&self, text: &mut TokenText) -> Result<(), AllocError> {
+        text.begin_object()?;
+        text_member(text, "profile", X_TOKEN)?;
+        list_member(text, "tokens", self.tokens())?;
+        text.end_object()
+    }
+}
+
+/// Writes all regions of a mapping, in the order of their kinds (RFC 5222, section 9).
+#[tactic(auto, using(crate::proofs::ShapeLemmas::three_lists_written))]
+pub(crate) fn write_regions(text: &mut TokenText, regions: &Regions) -> Result<(), AllocError>
+    ensures { OnOk result (text.new ≡ then_value (regions_data regions.now) text.old) }
 {
     text.begin_list()?;
-    write_each(text, polygons)?;
-    write_each(text, patterns)?;
+    write_each(text, regions.polygons())?;
+    write_each(text, regions.patterns())?;
+    write_each(text, regions.token_sets())?;
     text.end_list()
+}
+
+/// Writes the regions of one kind alone (RFC 5222, section 5.5).
+#[tactic(auto, using(crate::proofs::RegionLemmas::alone))]
+pub(crate) fn write_regions_of(
+    text: &mut TokenText,
+    kind: PlaceKind,
+    regions: &Regions,
+) -> Result<(), AllocError>
+    ensures { OnOk result (text.new ≡ then_value (regions_data (of_kind kind regions.now)) text.old) }
+{
+    match kind {
+        PlaceKind::Geodetic2d => write_list(text, regions.polygons()),
+        PlaceKind::Civic => write_list(text, regions.patterns()),
+        PlaceKind::XToken => write_list(text, regions.token_sets()),
+    }
 }

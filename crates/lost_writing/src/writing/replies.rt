@@ -166,7 +166,7 @@ fn write_services_anywhere(
     end(text)
 }
 
-/// Writes all regions of a mapping, polygons first (RFC 5222, section 9).
+/// Writes all regions of a mapping, in the order of their kinds (RFC 5222, section 9).
 fn write_all_regions(
     text: &mut TokenText,
     edition: u64,
@@ -174,13 +174,13 @@ fn write_all_regions(
     mapping: &Mapping,
 ) -> Result<(), AllocError>
     ensures { OnOk result (text.new ≡ then_value (reply_data (spec.GetServiceBoundaryResponse edition
-        (shown_path path.now) mapping.now.polygons mapping.now.patterns)) text.old) }
+        (shown_path path.now) mapping.now.regions)) text.old) }
 {
     begin(text, "getServiceBoundaryResponse")?;
     count_member(text, "edition", edition)?;
     path_member(text, path)?;
     text.name("serviceBoundary")?;
-    write_regions(text, mapping.polygons(), mapping.patterns())?;
+    write_regions(text, mapping.regions())?;
     end(text)
 }
 

@@ -1,6 +1,7 @@
 use Rattle.std.proofs.Common.{◌≡◌, [], Some, map, subst}
 use Rattle.std.specs.Prelude.{codes}
-use Rattle.lost_mapping.specs.Parts.{region_of, display_name_of}
+use Rattle.lost_location.specs.Region.{region_of}
+use Rattle.lost_mapping.specs.Parts.{display_name_of}
 use Rattle.lost_reading.specs.Desk.{regions_kind, display_name_in}
 use Rattle.lost_reading.specs.Members.{defaulting, list_in}
 use Rattle.lost_tape.specs.Tapes.{members_of}

@@ -1,8 +1,7 @@
-use Rattle.std.proofs.Common.{sym}
+use Rattle.std.proofs.Common.{refl}
+use Rattle.lost_writing.proofs.TokenLemmas.{when_ok}
 use Rattle.lost_writing.proofs.writing.mappings.boundary_member.Goals as goal
 
-pub returns-in-ByPolygons : goal.returns-in-ByPolygons
-returns-in-ByPolygons c = rw (c.in-ByPolygons.is, sym c.polygons.ensures.polygons) c.list_member.ensures
-
-pub returns-in-ByPatterns : goal.returns-in-ByPatterns
-returns-in-ByPatterns c = rw (c.in-ByPatterns.is, sym c.patterns.ensures.patterns) c.list_member-in-ByPatterns.ensures
+pub returns-in_ok-name-in-ByValue : goal.returns-in_ok-name-in-ByValue
+returns-in_ok-name-in-ByValue c =
+    when_ok c.write_regions_of.result c.write_regions_of.ensures (λ ended. rw (c.in-ByValue.is, ended, c.in_ok-name-in-ByValue.ensures, c.regions.ensures.regions) refl)

@@ -8,5 +8,5 @@ use Rattle.lost_writing.proofs.writing.replies.write_all_regions.Goals as goal
 
 pub returns : goal.returns
 returns c =
-    let written = inner_three (codes "getServiceBoundaryResponse") (codes "edition") (number (unsigned c.args.edition)) (codes "path") (texts_data (shown_path c.args.path.now)) (codes "serviceBoundary") (regions_data c.args.mapping.now.polygons c.args.mapping.now.patterns) c.args.text.now in
-    when_ok c.end.result c.end.ensures (λ ended. rw (ended, c.in_ok-write_regions.ensures, c.in_ok-name.ensures, c.in_ok-path_member.ensures, c.in_ok-count_member.ensures, c.in_ok-begin.ensures, c.polygons.ensures.polygons, c.patterns.ensures.patterns) written)
+    let written = inner_three (codes "getServiceBoundaryResponse") (codes "edition") (number (unsigned c.args.edition)) (codes "path") (texts_data (shown_path c.args.path.now)) (codes "serviceBoundary") (regions_data c.args.mapping.now.regions) c.args.text.now in
+    when_ok c.end.result c.end.ensures (λ ended. rw (ended, c.in_ok-write_regions.ensures, c.in_ok-name.ensures, c.in_ok-path_member.ensures, c.in_ok-count_member.ensures, c.in_ok-begin.ensures, c.regions.ensures.regions) written)
