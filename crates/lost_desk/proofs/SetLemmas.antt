@@ -3,12 +3,13 @@ use Rattle.std.proofs.Common.{◌≡◌, ℕ, zero, suc, ◌+◌, ◌<◌, ◌�
 use Rattle.std.specs.Option.{option_map_or}
 use Rattle.std.specs.List.{All}
 use Rattle.std.proofs.lemmas.List.{take_all}
+use Rattle.lost_spec.specs.Place.{Place}
 use Rattle.lost_spec.specs.Laws.{BeginsWith}
 use Rattle.lost_spec.specs.Moment.{Instant}
 use Rattle.lost_spec.specs.Mapping.{Mapping, is_live}
 use Rattle.lost_spec.specs.Positions.{positions_from, positions}
 use Rattle.lost_spec.specs.Book.{Limits, Book, Edit, book_of, is_accepted}
-use Rattle.lost_spec.specs.Find.{Place, holds}
+use Rattle.lost_spec.specs.Find.{holds}
 use Rattle.lost_spec.specs.Services.{is_holding}
 use Rattle.lost_spec.specs.Holders.{Entry, IsRightFor, holders_of}
 use Rattle.lost_spec.proofs.BookLemmas.{accepted_book}

@@ -1,10 +1,10 @@
 -- What is kept of places, and the mappings of a set.
 use Rattle.std.specs.Prelude.{◌≡◌, ℕ, Bool, false, not, ◌&&◌, ◌⊎◌, ◌↔◌, List, slice_get}
 use Rattle.std.specs.Option.{option_map_or}
+use Rattle.lost_spec.specs.Place.{Place}
 use Rattle.lost_spec.specs.Moment.{Instant}
 use Rattle.lost_spec.specs.Mapping.{Mapping, is_live}
 use Rattle.lost_spec.specs.Book.{Limits, Book, Edit}
-use Rattle.lost_spec.specs.Find.{Place}
 use Rattle.lost_spec.specs.Holders.{Entry, IsRightIn, IsRightFor, holders_of}
 
 abbrev pub entry : ℕ → Place → List ℕ → Entry

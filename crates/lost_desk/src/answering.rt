@@ -3,16 +3,18 @@ ghost use Rattle.std.specs.Prelude.{◌≡◌, Some, IfOk};
 ghost use Rattle.lost_json.specs.Line.{line_reply};
 ghost use Rattle.lost_spec.specs.Text.{Text};
 ghost use Rattle.lost_message.specs.Request.{request_of};
-ghost use Rattle.lost_query.specs.Place.{place_of};
+ghost use Rattle.lost_location.specs.Place.{place_of};
 ghost use Rattle.lost_reading.specs.Requests.{line_request};
 ghost use Rattle.lost_spec.specs.Holders.{holders_of};
+ghost use Rattle.lost_writing.specs.Replies.{reply_text};
+ghost use Rattle.lost_query.specs.Asked.{reply_asked};
 ghost use Rattle.lost_desk.specs.Sets.{AreRightIn, KeepsOnly};
 
 use crate::sets::PlaceSets;
 use crate::with_holders::WithHolders;
-use lost_json::{ReadError, reply_request, write_reply};
+use lost_json::{ReadError, reply_asked, reply_request, write_reply};
 use lost_mapping::{Moment, Source};
-use lost_query::{Holdings, Place, Reply, Request, place_used};
+use lost_query::{Asked, Holdings, Place, Reply, Request};
 use lost_routing::Routing;
 use lost_tape::{Scratch, read_request};
 use std::alloc::{AllocError, Global};
@@ -60,8 +62,9 @@ pub(crate) fn reply_over_sets<S: PlaceSets>(
     }
 }
 
-/// The reply to a request over this book. If it is answered at a place, the place's set is taken from `sets`, or made
-/// and kept there if wanted.
+/// The reply to a request over this book. If it is asked at a place, the place's set is taken from `sets`, or made and
+/// kept there if wanted.
+#[tactic(auto, unfolding(lost_json::specs::Line::line_reply))]
 fn answer_request<S: PlaceSets>(
     alloc: Global,
     sets: &mut S,
@@ -75,54 +78,52 @@ fn answer_request<S: PlaceSets>(
         → reply.items ≡ line_reply book.now name.now moment.now line) }
     ensures kept { KeepsOnly (S.keeps sets.old) book.now (S.keeps sets.new) }
 {
-    match place_used(alloc, name, request)? {
-        Some(place) => answer_at_place(alloc, sets, book, name, moment, request, place),
-        None => reply_request(alloc, book, name, moment, request),
-    }
+    let asked = Asked::of_request(alloc, name, request)?;
+    answer_asked(alloc, sets, book, moment, asked)
 }
 
-/// The reply to a request that is answered at this place. The place's set is taken from `sets`, or made and kept there
-/// if it is wanted.
-fn answer_at_place<S: PlaceSets>(
+/// The reply to what is asked over this book. If it is asked at a place, the place's set is taken from `sets`, or made
+/// and kept there if it is wanted.
+fn answer_asked<S: PlaceSets>(
     alloc: Global,
     sets: &mut S,
     book: &Routing,
-    name: &Source,
     moment: &Moment,
-    request: &Request,
-    place: Place,
+    asked: Asked<'_>,
 ) -> Result<Vec<u8>, AllocError>
     requires { AreRightIn (S.keeps sets.old) book.now }
-    ensures reply { IfOk result (λ reply. (line : Text) → line_request line ≡ Some (request_of request.now)
-        → reply.items ≡ line_reply book.now name.now moment.now line) }
+    ensures reply { IfOk result (λ reply. reply.items ≡ reply_text (reply_asked book.now moment.now asked.entry)) }
     ensures kept { KeepsOnly (S.keeps sets.old) book.now (S.keeps sets.new) }
 {
+    let Some(place) = asked.place() else {
+        return reply_asked(alloc, book, moment, &asked);
+    };
     let edition = book.edition();
-    if let Some(holders) = sets.find(edition, &place) {
-        return answer_from_set(alloc, book, name, moment, request, &place, holders);
+    if let Some(holders) = sets.find(edition, place) {
+        return answer_from_set(alloc, book, moment, &asked, place, holders);
     }
     if !sets.is_wanted() {
-        return reply_request(alloc, book, name, moment, request);
+        return reply_asked(alloc, book, moment, &asked);
     }
-    let holders = book.holders(&place)?;
-    let reply = answer_from_set(alloc, book, name, moment, request, &place, &holders)?;
-    sets.keep(edition, place, holders);
+    let holders = book.holders(place)?;
+    let reply = answer_from_set(alloc, book, moment, &asked, place, &holders)?;
+    if let Some(place) = asked.into_place() {
+        sets.keep(edition, place, holders);
+    }
     Ok(reply)
 }
 
-/// The reply to a request over this book, given the set of this place.
+/// The reply to what is asked over this book, given the set of this place.
 fn answer_from_set(
     alloc: Global,
     book: &Routing,
-    name: &Source,
     moment: &Moment,
-    request: &Request,
+    asked: &Asked<'_>,
     place: &Place,
     holders: &[usize],
 ) -> Result<Vec<u8>, AllocError>
     requires { holders.now ≡ holders_of book.now (place_of place.now) }
-    ensures { IfOk result (λ reply. (line : Text) → line_request line ≡ Some (request_of request.now)
-        → reply.items ≡ line_reply book.now name.now moment.now line) }
+    ensures { IfOk result (λ reply. reply.items ≡ reply_text (reply_asked book.now moment.now asked.now)) }
 {
     let known = WithHolders {
         alloc,
@@ -130,5 +131,5 @@ fn answer_from_set(
         place,
         holders,
     };
-    reply_request(alloc, &known, name, moment, request)
+    reply_asked(alloc, &known, moment, asked)
 }

@@ -3,7 +3,7 @@ ghost use Rattle.std.specs.Prelude.{◌≡◌, ◌<◌, IfOk, length, filter};
 ghost use Rattle.std.specs.List.{All};
 ghost use Rattle.std.specs.Option.{option_copied};
 ghost use Rattle.lost_spec.specs.Holders.{holders_of};
-ghost use Rattle.lost_query.specs.Place.{place_of};
+ghost use Rattle.lost_location.specs.Place.{place_of};
 
 use crate::living::living_among;
 use lost_civic::{CivicAddress, Element};

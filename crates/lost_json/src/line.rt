@@ -3,10 +3,12 @@ ghost use Rattle.std.specs.Prelude.{◌≡◌, Some, IfOk};
 ghost use Rattle.lost_spec.specs.Text.{Text};
 ghost use Rattle.lost_message.specs.Request.{request_of};
 ghost use Rattle.lost_reading.specs.Requests.{line_request};
+ghost use Rattle.lost_writing.specs.Replies.{reply_text};
+ghost use Rattle.lost_query.specs.Asked.{reply_asked};
 ghost use Rattle.lost_json.specs.Line.{line_reply};
 
 use lost_mapping::{Moment, Source};
-use lost_query::{Holdings, Reply, Request, answer};
+use lost_query::{Asked, Holdings, Reply, Request, answer, answer_asked};
 use lost_reading::{ReadError, read_request};
 use lost_writing::write_reply;
 use std::alloc::{AllocError, Global};
@@ -46,5 +48,18 @@ pub fn reply_request<H: Holdings>(
         → reply.items ≡ line_reply (H.book holdings.now) name.now moment.now line) }
 {
     let reply = answer(alloc, holdings, name, moment, request)?;
+    write_reply(alloc, &reply)
+}
+
+/// Answers what was asked over these holdings at an instant, and writes the reply's line.
+pub fn reply_asked<H: Holdings>(
+    alloc: Global,
+    holdings: &H,
+    moment: &Moment,
+    asked: &Asked<'_>,
+) -> Result<Vec<u8>, AllocError>
+    ensures { IfOk result (λ reply. reply.items ≡ reply_text (reply_asked (H.book holdings.now) moment.now asked.now)) }
+{
+    let reply = answer_asked(alloc, holdings, moment, asked)?;
     write_reply(alloc, &reply)
 }

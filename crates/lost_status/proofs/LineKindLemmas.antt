@@ -91,7 +91,7 @@ unfolding reply_text serde_json_on_literals
 told_reply (FindServiceResponse edition location_used validation mappings path warnings) = refl
 told_reply (ListServicesByLocationResponse edition location_used path services) = refl
 told_reply (ListServicesResponse edition path services) = refl
-told_reply (GetServiceBoundaryResponse edition path polygons patterns) = refl
+told_reply (GetServiceBoundaryResponse edition path regions) = refl
 told_reply (Errors edition e) = told_error_line edition e
 told_reply BadRequest = refl
 told_reply InternalError = refl

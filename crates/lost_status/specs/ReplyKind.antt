@@ -22,7 +22,7 @@ abbrev pub kind_of_reply : spec.Reply → ReplyKind
 kind_of_reply (spec.FindServiceResponse edition location_used validation mappings path warnings) = FindServiceResponse
 kind_of_reply (spec.ListServicesByLocationResponse edition location_used path services) = ListServicesByLocationResponse
 kind_of_reply (spec.ListServicesResponse edition path services) = ListServicesResponse
-kind_of_reply (spec.GetServiceBoundaryResponse edition path polygons patterns) = GetServiceBoundaryResponse
+kind_of_reply (spec.GetServiceBoundaryResponse edition path regions) = GetServiceBoundaryResponse
 kind_of_reply (spec.Errors edition e) = kind_of_error e
 kind_of_reply spec.BadRequest = BadRequest
 kind_of_reply spec.InternalError = InternalError

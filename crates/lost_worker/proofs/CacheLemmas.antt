@@ -4,12 +4,12 @@ use Rattle.std.specs.Map.{lookup, lookup_entry, remove_entry}
 use Rattle.lru.specs.LruCache.{LruCache, lru_cache, promoted, put_entries}
 use Rattle.lru.proofs.CallerLemmas.{IsPut, Contains-lookup, Contains-promoted, Contains-put_entries}
 use Rattle.lru.proofs.Splits.{Contains-head, Contains-tail, Contains-cons, Contains-nil}
-use Rattle.lost_spec.specs.Find.{Place as Seen}
+use Rattle.lost_spec.specs.Place.{Place as Seen}
 use Rattle.lost_spec.specs.Holders.{Entry}
-use Rattle.lost_query.specs.declared.place.Place.{Place}
-use Rattle.lost_query.specs.contracts.place.PlacePartialEq.TheImpl.{ghosts}
-use Rattle.lost_query.specs.Place.{place_of}
-use Rattle.lost_query.proofs.EqualPlaces.{equal_places}
+use Rattle.lost_location.specs.declared.place.Place.{Place}
+use Rattle.lost_location.specs.contracts.place.PlacePartialEq.TheImpl.{ghosts}
+use Rattle.lost_location.specs.Place.{place_of}
+use Rattle.lost_location.proofs.EqualPlaces.{equal_places}
 use Rattle.lost_desk.specs.Sets.{entry, KeepsTheSame}
 use Rattle.lost_worker.specs.declared.place_cache.Kept.{Kept}
 use Rattle.lost_worker.specs.Cached.{entry_of, IsKeptIn}

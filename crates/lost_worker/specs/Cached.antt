@@ -1,7 +1,7 @@
 -- What a cache of places keeps, and which capacities it may have. (Own.)
 use Rattle.std.specs.Prelude.{◌≡◌, ℕ, ◌≤◌, List, Contains}
 use Rattle.lost_spec.specs.Holders.{Entry}
-use Rattle.lost_query.specs.Place.{place_of}
+use Rattle.lost_location.specs.Place.{place_of}
 use Rattle.lost_desk.specs.Sets.{entry}
 use Rattle.lost_worker.specs.declared.place_cache.Kept.{Kept}
 

@@ -2,7 +2,7 @@
 //! for the first time only leaves a mark, and a place that comes again takes the room of the least recently used one.
 //! So a location asked for once pushes out no place that comes again.
 ghost use Rattle.std.specs.Prelude.{◌≡◌, [], IfOk, IfSome};
-ghost use Rattle.lost_query.specs.Place.{place_of};
+ghost use Rattle.lost_location.specs.Place.{place_of};
 ghost use Rattle.lost_desk.specs.Sets.{entry};
 
 use crate::marks::Marks;

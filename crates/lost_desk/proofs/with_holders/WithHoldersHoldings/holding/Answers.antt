@@ -2,8 +2,8 @@
 use Rattle.std.proofs.Common.{◌≡◌, IfOk, sym, ap, subst, ◌∙◌}
 use Rattle.lost_spec.specs.Positions.{positions}
 use Rattle.lost_spec.specs.Services.{is_holding}
-use Rattle.lost_query.specs.Place.{place_of}
-use Rattle.lost_query.proofs.EqualPlaces.{equal_places}
+use Rattle.lost_location.specs.Place.{place_of}
+use Rattle.lost_location.proofs.EqualPlaces.{equal_places}
 use Rattle.lost_desk.proofs.SetLemmas.{shown_of_set, set_within}
 use Rattle.lost_desk.proofs.with_holders.WithHoldersHoldings.holding.Goals as goal
 

@@ -1,6 +1,6 @@
 -- What is found is of the place and the edition.
 use Rattle.std.proofs.Common.{◌≡◌, true, nat_eq, rules}
-use Rattle.lost_query.specs.contracts.place.PlacePartialEq.TheImpl.{ghosts}
+use Rattle.lost_location.specs.contracts.place.PlacePartialEq.TheImpl.{ghosts}
 use Rattle.lost_worker.proofs.CacheLemmas.{found_is_kept}
 use Rattle.lost_worker.proofs.place_cache.PlaceCache.set_of.Goals as goal
 

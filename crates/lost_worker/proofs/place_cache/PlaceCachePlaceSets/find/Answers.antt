@@ -1,7 +1,7 @@
 -- Where a set goes to the front the same sets are kept, and the set that is found is one of them.
 use Rattle.std.proofs.Common.{refl, nat_eq}
 use Rattle.std.proofs.lemmas.Option.{IfSome_then}
-use Rattle.lost_query.specs.Place.{place_of}
+use Rattle.lost_location.specs.Place.{place_of}
 use Rattle.lost_desk.specs.Sets.{entry, KeepsTheSame}
 use Rattle.lost_worker.specs.Cached.{IsKeptIn}
 use Rattle.lost_worker.proofs.CacheLemmas.{promoted_keeps}
