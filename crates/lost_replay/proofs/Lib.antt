@@ -1,2 +1,3 @@
 pub mod BooksLemmas
+mod ReplyLemmas
 pub mod ReplayLemmas

@@ -1,5 +1,5 @@
 -- What an outcome says of its line and of the reply to it. (Own.)
-use Rattle.std.specs.Prelude.{◌≡◌, ℕ, true, None, is_some}
+use Rattle.std.specs.Prelude.{◌≡◌, ◌≢◌, true, None, is_some}
 use Rattle.lost_spec.specs.Text.{Text}
 use Rattle.lost_reading.specs.Desk.{desk_line}
 use Rattle.lost_reading.specs.Requests.{line_request}
@@ -15,9 +15,9 @@ pub record IsRequest (line : Text) : Type 0 where
   pub no_desk_line : desk_line line ≡ None
   pub request : is_some (line_request line) ≡ true
 
--- the line is one of which the outcome may be said, and its reply is the text of the outcome; a request's reply is that of its answer, whatever that is
+-- the line is one of which the outcome may be said, and its reply is the text of the outcome; an answered request has any reply but `internalError`
 abbrev pub IsOutcomeOf : Outcome → Text → Text → Type 0
-IsOutcomeOf Answered line reply = IsRequest line
+IsOutcomeOf Answered line reply = IsRequest line × (reply ≢ internal_error)
 IsOutcomeOf (Staged pending) line reply = reply ≡ desk_text (StagedReply pending)
 IsOutcomeOf (Committed edition) line reply = reply ≡ desk_text (CommittedReply edition)
 IsOutcomeOf (Refused code) line reply = IsCode code × (reply ≡ refused_text code)
