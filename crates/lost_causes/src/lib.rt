@@ -5,6 +5,7 @@
 
 mod bad_line;
 mod book_refusals;
+mod counts;
 mod hints;
 mod json;
 mod locations;
@@ -19,6 +20,7 @@ mod shape;
 mod stop;
 mod texts;
 mod times;
+mod tokens;
 mod uris;
 
 pub use refusal::{bad_request_cause, refusal_cause};

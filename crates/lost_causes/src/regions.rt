@@ -1,33 +1,65 @@
-//! Code 9: the items of a boundary.
+//! Codes 9 and 11: the items of a boundary.
+use crate::counts::at_most;
 use crate::object::Object;
 use crate::patterns::pattern;
 use crate::polygons::polygon;
 use crate::quoting::quoted;
 use crate::stop::{Stop, found};
-use lost_reading::{CIVIC, GEODETIC};
+use crate::tokens::tokens;
+use lost_location::{MAX_PATTERNS, MAX_POLYGONS, MAX_TOKEN_SETS, PlaceKind, kind_of};
 use serde_json::Value;
 use std::alloc::Global;
 
 /// Why an item of the boundary of a mapping is no region.
 pub(crate) fn regions(mapping: &Object<'_>) -> Result<(), Stop> {
-    let items = mapping.optional_list("serviceBoundary", "a list of regions")?;
-    for (place, item) in items.iter().enumerate() {
+    for (place, item) in items_of(mapping)?.iter().enumerate() {
         let name = format!(in mapping.alloc; "serviceBoundary[{place}]")?;
         region(mapping.alloc, name.as_str(), item)?;
     }
     Ok(())
 }
 
+/// The items of the boundary of a mapping.
+fn items_of<'v>(mapping: &Object<'v>) -> Result<&'v [Value], Stop> {
+    mapping.optional_list("serviceBoundary", "a list of regions")
+}
+
 /// Why a value is no region.
 fn region(alloc: Global, name: &str, value: &Value) -> Result<(), Stop> {
     let object = Object::of(alloc, name, value)?;
     let profile = object.required_text("profile")?;
-    if profile == GEODETIC {
-        polygon(&object)
-    } else if profile == CIVIC {
-        pattern(&object)
-    } else {
-        let shown = quoted(alloc, profile)?;
-        Err(found(format!(in alloc; "{name}.profile: {shown} is neither geodetic-2d nor civic")))
+    match kind_of(profile) {
+        Some(PlaceKind::Geodetic2d) => polygon(&object),
+        Some(PlaceKind::Civic) => pattern(&object),
+        Some(PlaceKind::XToken) => tokens(&object),
+        None => {
+            let shown = quoted(alloc, profile)?;
+            Err(found(format!(in alloc;
+                "{name}.profile: {shown} is none of geodetic-2d, civic and x-token"
+            )))
+        }
     }
+}
+
+/// Of which kind a mapping has too many regions.
+pub(crate) fn too_many_regions(mapping: &Object<'_>) -> Result<(), Stop> {
+    let items = items_of(mapping)?;
+    let limits = [
+        (PlaceKind::Geodetic2d, "polygons", MAX_POLYGONS),
+        (PlaceKind::Civic, "patterns", MAX_PATTERNS),
+        (PlaceKind::XToken, "token sets", MAX_TOKEN_SETS),
+    ];
+    for (kind, what, most) in limits {
+        let count = items
+            .iter()
+            .filter(|item| kind_of_region(item) == Some(kind))
+            .count();
+        at_most(mapping.alloc, "serviceBoundary", what, count, most)?;
+    }
+    Ok(())
+}
+
+/// The kind of place that the profile of a region names.
+fn kind_of_region(region: &Value) -> Option<PlaceKind> {
+    kind_of(region.as_object()?.get("profile")?.as_str()?)
 }

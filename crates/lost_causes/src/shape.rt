@@ -1,9 +1,10 @@
 //! Codes 10, 11 and 12: parts that do not go together, and parts that are too large.
+use crate::counts::at_most;
 use crate::object::Object;
+use crate::regions::too_many_regions;
 use crate::stop::{Stop, found};
 use crate::texts::id;
-use lost_mapping::{MAX_DISPLAY_NAME_BYTES, MAX_DISPLAY_NAMES, MAX_PATTERNS, MAX_POLYGONS};
-use lost_reading::GEODETIC;
+use lost_mapping::{MAX_DISPLAY_NAME_BYTES, MAX_DISPLAY_NAMES};
 use serde_json::Value;
 use std::alloc::Global;
 
@@ -28,11 +29,7 @@ pub(crate) fn missing(mapping: &Object<'_>) -> Result<(), Stop> {
 /// Which part of a mapping is too large.
 pub(crate) fn too_large(mapping: &Object<'_>) -> Result<(), Stop> {
     let alloc = mapping.alloc;
-    let regions = mapping.optional_list("serviceBoundary", "a list of regions")?;
-    let polygons = regions.iter().filter(|region| is_polygon(region)).count();
-    at_most(alloc, "serviceBoundary", "polygons", polygons, MAX_POLYGONS)?;
-    let patterns = regions.len().saturating_sub(polygons);
-    at_most(alloc, "serviceBoundary", "patterns", patterns, MAX_PATTERNS)?;
+    too_many_regions(mapping)?;
     let names = mapping.optional_list("displayName", "a list of objects")?;
     at_most(
         alloc,
@@ -43,25 +40,6 @@ pub(crate) fn too_large(mapping: &Object<'_>) -> Result<(), Stop> {
     )?;
     for (place, item) in names.iter().enumerate() {
         display_name(alloc, place, item)?;
-    }
-    Ok(())
-}
-
-fn is_polygon(region: &Value) -> bool {
-    match region.as_object() {
-        Some(members) => match members.get("profile") {
-            Some(profile) => profile.as_str() == Some(GEODETIC),
-            None => false,
-        },
-        None => false,
-    }
-}
-
-fn at_most(alloc: Global, name: &str, what: &str, count: usize, most: usize) -> Result<(), Stop> {
-    if count > most {
-        return Err(found(format!(in alloc;
-            "{name}: it has {count} {what}, and at most {most} are allowed"
-        )));
     }
     Ok(())
 }

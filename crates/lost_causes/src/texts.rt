@@ -1,4 +1,4 @@
-//! Codes 2, 3, 6, 8 and 12: sources, sourceIds and keys, services and numbers.
+//! Codes 2, 3, 6, 8 and 12: sources, sourceIds and keys, services and numbers. A token is a text as a sourceId is.
 use crate::quoting::quoted;
 use crate::stop::{Stop, found};
 use lost_mapping::{MAX_ID_BYTES, MAX_NUMBER_BYTES, MAX_SOURCE_BYTES};
@@ -17,7 +17,7 @@ pub(crate) fn source(alloc: Global, text: &str) -> Result<(), Stop> {
     Ok(())
 }
 
-/// Why a text is no sourceId or no key. `name` is the name of the member.
+/// Why a text is no sourceId, key or token. `name` is the name of the member, or of the item of a list.
 pub(crate) fn id(alloc: Global, name: &str, text: &str) -> Result<(), Stop> {
     length(alloc, name, text, MAX_ID_BYTES)?;
     for byte in text.as_bytes() {
