@@ -1,5 +1,2 @@
-pub mod Admission
-pub mod Deadlines
 pub mod Map
 pub mod RunFault
-pub mod Strangers

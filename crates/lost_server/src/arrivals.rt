@@ -1,11 +1,11 @@
 //! Connections on their way to the workers that watch them.
 ghost use Rattle.std.specs.Prelude.{◌≡◌, ◌≢◌, Err};
 
-use crate::hall::Hall;
 use crate::run_fault::RunFault;
 use crate::shared::Shared;
 use crossbeam_channel::{Receiver, Sender, unbounded};
 use lost_lines::Counts;
+use lost_listening::Hall;
 use lost_sockets::{Listener, Peer, Stream, accept};
 use mio::{Poll, Token, Waker};
 use std::alloc::{AllocError, Global};

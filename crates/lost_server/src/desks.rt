@@ -1,10 +1,9 @@
 //! The thread of the desk.
 use crate::counting::{DeskCounting, tell_book};
-use crate::desk_ends::{DeskTurn, TurnInput, TurnOutput, is_of_waiting};
-use crate::desk_turns::DeskDoor;
 use crate::shared::Shared;
 use lost_desk::Desk;
 use lost_lines::{Counts, ServeError, Turns, Watched};
+use lost_listening::{DeskDoor, DeskTurn, TurnInput, TurnOutput, is_of_waiting};
 use lost_sockets::{Listener, Peer, Stream, accept};
 use lost_worker::serve_desk_with;
 use std::io;

@@ -1,4 +1,5 @@
 //! A server's settings.
+use lost_listening::ClientLimits;
 use lost_mapping::Source;
 use std::time::Duration;
 
@@ -12,19 +13,6 @@ pub struct ConnectionSettings {
     pub desk_idle: Option<Duration>,
     /// Whether nothing is reported on standard error about connections that end in a fault.
     pub is_quiet: bool,
-}
-
-/// The limits on query connections of a server without a fixed number of them.
-#[derive(Clone, Copy, PartialEq, Eq, Debug)]
-pub struct ClientLimits {
-    /// How long a line may take from its first byte to its end; `None` for any time.
-    pub line_time: Option<Duration>,
-    /// How long a client may take no byte of its waiting replies; `None` for ever.
-    pub reply_time: Option<Duration>,
-    /// How many connections may be open.
-    pub most_connections: u32,
-    /// How many of one address may be open; `None` for any number.
-    pub per_address: Option<u32>,
 }
 
 /// A server's settings.

@@ -1,11 +1,11 @@
 //! Query connections on their way to the workers.
 ghost use Rattle.std.specs.Prelude.{◌≡◌, ◌≢◌, Err};
 
-use crate::peer::{Incoming, Outgoing, ends};
 use crate::run_fault::RunFault;
 use crate::shared::Shared;
 use crossbeam_channel::{Receiver, Sender};
 use lost_lines::Counts;
+use lost_listening::{Incoming, Outgoing, ends};
 use lost_sockets::{Listener, Peer, Stream, accept};
 use lost_worker::Connection;
 use std::io::Eprint;

@@ -1,16 +1,14 @@
 //! A server that begins with no mappings, over listeners that stand.
 ghost use Rattle.std.specs.Prelude.{◌≡◌, ◌≢◌, ◌<◌, ◌⊎◌, ◌↔◌, Err};
 
-use crate::doors::Doors;
-use crate::notices::notices_of;
 use crate::order::ConnectionSettings;
 use crate::run_fault::{RunFault, fault_of_opening};
 use crate::serving::serve_all;
 use crate::shared::Shared;
-use crate::status_port::shared_status;
 use lost_book::Limits;
 use lost_desk::{Desk, Readers, open_desk};
 use lost_lines::{Counts, Gate};
+use lost_listening::{Doors, notices_of, shared_status};
 use lost_mapping::Source;
 use lost_sockets::Listener;
 use std::alloc::Global;

@@ -2,7 +2,6 @@
 ghost use Rattle.std.specs.Prelude.{◌≡◌, ◌≢◌, Err};
 
 use crate::desks::serve_one_desk;
-use crate::doors::Doors;
 use crate::queries::{Query, hand_over_all};
 use crate::run_fault::RunFault;
 use crate::shared::Shared;
@@ -10,6 +9,7 @@ use crate::workers::{WorkerParts, work, workers_of};
 use crossbeam_channel::{Sender, bounded};
 use lost_desk::{Desk, Readers};
 use lost_lines::{Counts, Gate};
+use lost_listening::Doors;
 use std::io::Eprint;
 use std::random::RandomSource;
 use std::sync::Wait;

@@ -1,6 +1,6 @@
 //! What all threads of a server share.
-use crate::notices::Notices;
 use crate::order::ConnectionSettings;
+use lost_listening::Notices;
 use lost_mapping::Source;
 use lost_status::Status;
 use std::alloc::Global;

@@ -3,13 +3,11 @@ ghost use Rattle.std.specs.Prelude.{◌<◌, length};
 
 use crate::arrivals::{ARRIVALS, Arrival};
 use crate::clock::MachineClock;
-use crate::deadlines::{Passed, Shown, Times};
-use crate::hall::Hall;
-use crate::halves::{InHalf, OutHalf, halves_of};
 use crate::shared::Shared;
 use crossbeam_channel::{Receiver, TryRecvError};
 use lost_connections::{Client, ClientFault, Clients, Progress, Seat};
 use lost_lines::Counts;
+use lost_listening::{Hall, InHalf, OutHalf, Passed, Shown, Times, halves_of};
 use lost_sockets::{Peer, Stream};
 use lost_status::WorkerCounts;
 use lost_worker::{Moments, Replier};

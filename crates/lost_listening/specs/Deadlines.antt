@@ -3,11 +3,11 @@ use Rattle.std.specs.Prelude.{ℕ, ◌-◌, Bool, true, false, Option, None, Som
 use Rattle.std.specs.Bool.{nat_le}
 use Rattle.std.specs.Duration.{as_nanos}
 use Rattle.std.specs.declared.time.Duration.{Duration}
-use Rattle.lost_server.specs.declared.deadlines.TimeLimits.{TimeLimits}
-use Rattle.lost_server.specs.declared.deadlines.Times.{Times}
-use Rattle.lost_server.specs.declared.deadlines.Shown.{Shown}
-use Rattle.lost_server.specs.declared.deadlines.Passed.{Passed}
-use Rattle.lost_server.specs.declared.deadlines.Passed.TheVariants.{Reply, Line, Idle}
+use Rattle.lost_listening.specs.declared.deadlines.TimeLimits.{TimeLimits}
+use Rattle.lost_listening.specs.declared.deadlines.Times.{Times}
+use Rattle.lost_listening.specs.declared.deadlines.Shown.{Shown}
+use Rattle.lost_listening.specs.declared.deadlines.Passed.{Passed}
+use Rattle.lost_listening.specs.declared.deadlines.Passed.TheVariants.{Reply, Line, Idle}
 
 -- so much time or more has passed since a moment; never where either is not there
 abbrev pub is_past : Option Duration → Option Duration → Duration → Bool

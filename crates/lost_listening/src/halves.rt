@@ -8,7 +8,7 @@ use std::sync::Arc;
 
 /// The input half of a connection. It counts how often bytes came, and how often a line's end was among them.
 #[derive(Drop)]
-pub(crate) struct InHalf {
+pub struct InHalf {
     stream: Arc<Stream>,
     reads: u64,
     ends: u64,
@@ -16,14 +16,14 @@ pub(crate) struct InHalf {
 
 /// The output half of a connection. It counts the bytes taken, and the replies taken whole.
 #[derive(Drop)]
-pub(crate) struct OutHalf {
+pub struct OutHalf {
     stream: Arc<Stream>,
     taken: u64,
     lines: u64,
 }
 
 /// The halves of a connection. It is closed once both are dropped.
-pub(crate) fn halves_of(alloc: Global, stream: Stream) -> Result<(InHalf, OutHalf), AllocError> {
+pub fn halves_of(alloc: Global, stream: Stream) -> Result<(InHalf, OutHalf), AllocError> {
     let Ok(stream) = Arc::new(alloc, stream) else {
         return Err(AllocError);
     };
@@ -43,24 +43,24 @@ pub(crate) fn halves_of(alloc: Global, stream: Stream) -> Result<(InHalf, OutHal
 
 impl InHalf {
     /// How often bytes came.
-    pub(crate) fn reads(&self) -> u64 {
+    pub fn reads(&self) -> u64 {
         self.reads
     }
 
     /// How often a line's end was among them.
-    pub(crate) fn ends(&self) -> u64 {
+    pub fn ends(&self) -> u64 {
         self.ends
     }
 }
 
 impl OutHalf {
     /// How many bytes were taken.
-    pub(crate) fn taken(&self) -> u64 {
+    pub fn taken(&self) -> u64 {
         self.taken
     }
 
     /// How many replies were taken whole.
-    pub(crate) fn lines(&self) -> u64 {
+    pub fn lines(&self) -> u64 {
         self.lines
     }
 }

@@ -1,30 +1,30 @@
 //! The time limits of a connection.
 ghost use Rattle.std.specs.Prelude.{◌≡◌};
-ghost use Rattle.lost_server.specs.Deadlines.{is_past as is_past_limit, passed_of, since_when, times_after, times_at};
+ghost use Rattle.lost_listening.specs.Deadlines.{is_past as is_past_limit, passed_of, since_when, times_after, times_at};
 
 use std::time::Duration;
 
 /// How long a watched connection may keep its worker waiting; `None` for ever.
 #[derive(Clone, Copy, PartialEq, Eq, Debug)]
-pub(crate) struct TimeLimits {
+pub struct TimeLimits {
     /// Without a byte read, while no reply waits to be taken.
-    pub(crate) idle: Option<Duration>,
+    pub idle: Option<Duration>,
     /// From the first byte of a line to its end, while the connection is read.
-    pub(crate) line: Option<Duration>,
+    pub line: Option<Duration>,
     /// Without a byte taken of the replies that wait.
-    pub(crate) reply: Option<Duration>,
+    pub reply: Option<Duration>,
 }
 
 impl TimeLimits {
     /// Whether there is no limit.
-    pub(crate) fn are_none(&self) -> bool {
+    pub fn are_none(&self) -> bool {
         self.idle.is_none() && self.line.is_none() && self.reply.is_none()
     }
 }
 
 /// A time limit that was passed.
 #[derive(Clone, Copy, PartialEq, Eq, Debug)]
-pub(crate) enum Passed {
+pub enum Passed {
     /// That of waiting replies.
     Reply,
     /// That of a line.
@@ -35,7 +35,7 @@ pub(crate) enum Passed {
 
 impl Passed {
     /// The cause that is reported when a connection is closed for this limit.
-    pub(crate) fn text(self) -> &'static str {
+    pub fn text(self) -> &'static str {
         match self {
             Passed::Reply => "it took no reply for too long",
             Passed::Line => "it did not finish a line in time",
@@ -46,24 +46,24 @@ impl Passed {
 
 /// What a burst showed about a connection.
 #[derive(Clone, Copy, PartialEq, Eq, Debug)]
-pub(crate) struct Shown {
+pub struct Shown {
     /// Whether bytes were read, or taken by the client.
-    pub(crate) has_moved: bool,
+    pub has_moved: bool,
     /// Whether the client took bytes.
-    pub(crate) has_taken: bool,
+    pub has_taken: bool,
     /// Whether a line was read to its end.
-    pub(crate) has_ended_line: bool,
+    pub has_ended_line: bool,
     /// Whether a line is begun, and not read to its end.
-    pub(crate) has_begun: bool,
+    pub has_begun: bool,
     /// Whether replies wait to be taken.
-    pub(crate) has_unsent: bool,
+    pub has_unsent: bool,
     /// Whether so many replies wait that nothing is read.
-    pub(crate) is_held: bool,
+    pub is_held: bool,
 }
 
 /// Since when a connection has kept its worker waiting, by the monotonic clock.
 #[derive(Clone, Copy, PartialEq, Eq, Debug)]
-pub(crate) struct Times {
+pub struct Times {
     /// Since when no byte was read, and the client took none.
     quiet: Duration,
     /// Since when a line is begun, if one is.
@@ -76,7 +76,7 @@ pub(crate) struct Times {
 
 impl Times {
     /// The times of a connection that begins now.
-    pub(crate) fn at(now: Duration) -> Times
+    pub fn at(now: Duration) -> Times
         ensures { result ≡ times_at now }
     {
         Times {
@@ -88,7 +88,7 @@ impl Times {
     }
 
     /// The times after a burst at `now`. While the connection is not read, no time of its line passes.
-    pub(crate) fn after(&self, shown: &Shown, now: Duration) -> Times
+    pub fn after(&self, shown: &Shown, now: Duration) -> Times
         ensures { result ≡ times_after self.now shown.now now }
     {
         Times {
@@ -105,7 +105,7 @@ impl Times {
     }
 
     /// The limit that is passed at `now`, if any.
-    pub(crate) fn passed(&self, limits: &TimeLimits, now: Duration) -> Option<Passed>
+    pub fn passed(&self, limits: &TimeLimits, now: Duration) -> Option<Passed>
         ensures { result ≡ passed_of self.now limits.now now }
     {
         if is_past(self.unsent, limits.reply, now) {

@@ -18,14 +18,14 @@ const PAUSE: u64 = 20;
 
 /// Takes the lines to be written.
 #[derive(Drop)]
-pub(crate) struct Mouth {
+pub struct Mouth {
     lines: Sender<String>,
     left_out: Arc<AtomicU64>,
 }
 
 /// The thread that writes lines.
 #[derive(Drop)]
-pub(crate) struct Voice {
+pub struct Voice {
     thread: JoinHandle<()>,
     has_ended: Arc<AtomicBool>,
 }
@@ -44,7 +44,7 @@ struct Saying {
 /// # Errors
 ///
 /// If memory or a thread is refused.
-pub(crate) fn start_voice<R: Threads + Wait + Eprint + Clone + Send + Drop + 'static>(
+pub fn start_voice<R: Threads + Wait + Eprint + Clone + Send + Drop + 'static>(
     rt: &R,
     alloc: Global,
 ) -> Result<(Mouth, Voice), AllocError> {
@@ -74,7 +74,7 @@ pub(crate) fn start_voice<R: Threads + Wait + Eprint + Clone + Send + Drop + 'st
 
 impl Mouth {
     /// Queues a line to be written. If too many wait, it is left out and counted.
-    pub(crate) fn say<R: Wait>(&self, rt: &R, line: String) {
+    pub fn say<R: Wait>(&self, rt: &R, line: String) {
         if self.lines.try_send(rt, line).is_err() {
             self.left_out.fetch_add(1, Ordering::SeqCst);
         }
@@ -109,7 +109,7 @@ impl Saying {
 impl Voice {
     /// Waits until all lines are written. Nobody can give any more by then. It waits for 5 seconds at most, since
     /// standard error may take none.
-    pub(crate) fn finish<R: Threads + Wait + Clock>(self, rt: &R) {
+    pub fn finish<R: Threads + Wait + Clock>(self, rt: &R) {
         let Voice { thread, has_ended } = self;
         for _ in 0..LAST_LOOKS {
             if has_ended.load(Ordering::SeqCst) {

@@ -2,8 +2,8 @@
 ghost use Rattle.std.specs.Prelude.{◌≤◌};
 
 use crate::admission::{Admission, Refusal};
+use crate::client_limits::ClientLimits;
 use crate::deadlines::TimeLimits;
-use crate::order::ClientLimits;
 use lost_sockets::most_files;
 use std::alloc::{AllocError, Global};
 use std::hash::RandomState;
@@ -20,16 +20,16 @@ const FILES_OF_A_WORKER: u64 = 2;
 
 /// The limits on watched connections, and their number.
 #[derive(Drop)]
-pub(crate) struct Hall {
+pub struct Hall {
     /// How long a connection may keep its worker waiting.
-    pub(crate) limits: TimeLimits,
+    pub limits: TimeLimits,
     admission: Mutex<Admission>,
 }
 
 impl Hall {
     /// No connections, with these limits, watched by this many workers. If the program may not have that many files
     /// open, the limit on connections is lowered: one too many is closed, and waits for no file.
-    pub(crate) fn new<R: RandomSource>(
+    pub fn new<R: RandomSource>(
         rt: &R,
         alloc: Global,
         idle: Option<Duration>,
@@ -52,12 +52,12 @@ impl Hall {
     }
 
     /// Admits a connection, unless it is refused: then it must be closed.
-    pub(crate) fn enter<R: Wait>(&self, rt: &R, address: Option<IpAddr>) -> Result<(), Refusal> {
+    pub fn enter<R: Wait>(&self, rt: &R, address: Option<IpAddr>) -> Result<(), Refusal> {
         self.admission.lock(rt).enter(address)
     }
 
     /// Counts that an admitted connection has ended.
-    pub(crate) fn leave<R: Wait>(&self, rt: &R, address: Option<IpAddr>) {
+    pub fn leave<R: Wait>(&self, rt: &R, address: Option<IpAddr>) {
         self.admission.lock(rt).leave(address);
     }
 }

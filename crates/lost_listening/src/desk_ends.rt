@@ -18,17 +18,17 @@ const LOOK: u64 = 250;
 
 /// The turn of a desk.
 #[derive(Drop)]
-pub(crate) struct DeskTurn<'t, 'l, R> {
-    pub(crate) rt: &'t R,
-    pub(crate) door: &'t DeskDoor<'l>,
-    pub(crate) stream: &'t Stream,
+pub struct DeskTurn<'t, 'l, R> {
+    pub rt: &'t R,
+    pub door: &'t DeskDoor<'l>,
+    pub stream: &'t Stream,
     /// How long a read or a write may wait; `None` for ever.
-    pub(crate) idle: Option<Duration>,
+    pub idle: Option<Duration>,
 }
 
 impl<R: Wait + Clock> DeskTurn<'_, '_, R> {
     /// Limits each wait of a read or a write, so that the turn is checked in between. Says whether that could be set.
-    pub(crate) fn begin(&self) -> bool {
+    pub fn begin(&self) -> bool {
         self.stream.limit_waiting(Some(Duration::from_millis(LOOK)))
     }
 
@@ -58,7 +58,7 @@ impl<R: Wait + Clock> DeskTurn<'_, '_, R> {
 
 /// The input of a desk's lines. A read fails once the turn is over, or if the bytes show that this is no desk.
 #[derive(Drop)]
-pub(crate) struct TurnInput<'t, 'l, R> {
+pub struct TurnInput<'t, 'l, R> {
     turn: &'t DeskTurn<'t, 'l, R>,
     /// The first bytes that came.
     front: Vec<u8>,
@@ -73,7 +73,7 @@ pub(crate) struct TurnInput<'t, 'l, R> {
 
 impl<'t, 'l, R: Wait + Clock> TurnInput<'t, 'l, R> {
     /// The input of a turn that begins.
-    pub(crate) fn new(alloc: Global, turn: &'t DeskTurn<'t, 'l, R>) -> TurnInput<'t, 'l, R> {
+    pub fn new(alloc: Global, turn: &'t DeskTurn<'t, 'l, R>) -> TurnInput<'t, 'l, R> {
         TurnInput {
             turn,
             front: Vec::new(alloc),
@@ -85,7 +85,7 @@ impl<'t, 'l, R: Wait + Clock> TurnInput<'t, 'l, R> {
     }
 
     /// Why the turn is over, if this end found it.
-    pub(crate) fn cause(&self) -> Option<&'static str> {
+    pub fn cause(&self) -> Option<&'static str> {
         self.cause
     }
 
@@ -160,19 +160,19 @@ impl<R: Wait + Clock> Read for TurnInput<'_, '_, R> {
 
 /// The output of replies to a desk. A write fails once the turn is over.
 #[derive(Drop)]
-pub(crate) struct TurnOutput<'t, 'l, R> {
+pub struct TurnOutput<'t, 'l, R> {
     turn: &'t DeskTurn<'t, 'l, R>,
     cause: Option<&'static str>,
 }
 
 impl<'t, 'l, R: Wait + Clock> TurnOutput<'t, 'l, R> {
     /// The output of a turn that begins.
-    pub(crate) fn new(turn: &'t DeskTurn<'t, 'l, R>) -> TurnOutput<'t, 'l, R> {
+    pub fn new(turn: &'t DeskTurn<'t, 'l, R>) -> TurnOutput<'t, 'l, R> {
         TurnOutput { turn, cause: None }
     }
 
     /// Why the turn is over, if this end found it.
-    pub(crate) fn cause(&self) -> Option<&'static str> {
+    pub fn cause(&self) -> Option<&'static str> {
         self.cause
     }
 
@@ -212,6 +212,6 @@ impl<R: Wait + Clock> Write for TurnOutput<'_, '_, R> {
 }
 
 /// Whether an error says that a read or a write waited too long.
-pub(crate) fn is_of_waiting(kind: ErrorKind) -> bool {
+pub fn is_of_waiting(kind: ErrorKind) -> bool {
     matches!(kind, ErrorKind::WouldBlock | ErrorKind::TimedOut)
 }

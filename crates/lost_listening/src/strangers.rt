@@ -1,6 +1,6 @@
 //! Connections that are no desk's, by their first bytes.
 ghost use Rattle.std.specs.Prelude.{◌≡◌};
-ghost use Rattle.lost_server.specs.Strangers.{is_http as is_front_of_http, is_tls as is_front_of_tls};
+ghost use Rattle.lost_listening.specs.Strangers.{is_http as is_front_of_http, is_tls as is_front_of_tls};
 
 /// The most bytes that are looked at.
 pub(crate) const MOST_LOOKED_AT: usize = 8;

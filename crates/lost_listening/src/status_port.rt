@@ -16,7 +16,7 @@ const PATIENCE: u64 = 2;
 const LIFE: u64 = 5;
 
 /// The counters of a server with this many workers that started `started` after 1970-01-01T00:00:00Z.
-pub(crate) fn shared_status(
+pub fn shared_status(
     alloc: Global,
     workers: u32,
     started: Duration,
@@ -30,7 +30,7 @@ pub(crate) fn shared_status(
 
 /// Answers status connections one after another, until the server is over. So only one is open at a time, and it takes
 /// no worker.
-pub(crate) fn answer_status<R: Wait + Clock + RandomSource>(
+pub fn answer_status<R: Wait + Clock + RandomSource>(
     rt: &R,
     alloc: Global,
     listener: &Listener,

@@ -1,6 +1,6 @@
 -- How many connections there may be. (Own.)
 use Rattle.std.specs.Prelude.{ℕ}
-use Rattle.lost_server.specs.declared.admission.Tally.{Tally}
+use Rattle.lost_listening.specs.declared.admission.Tally.{Tally}
 
 -- how many there are, which is never more than the most
 abbrev pub count_of : Tally → ℕ

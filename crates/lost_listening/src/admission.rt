@@ -15,7 +15,7 @@ pub(crate) struct Tally {
 }
 
 impl Tally {
-    ghost use Rattle.lost_server.specs.Admission.{count_of, most_of};
+    ghost use Rattle.lost_listening.specs.Admission.{count_of, most_of};
 
     /// No connections, with a limit of `most`.
     pub(crate) fn new(most: u32) -> Tally
@@ -54,7 +54,7 @@ impl Tally {
 
 /// Why a connection is not let in.
 #[derive(Clone, Copy, PartialEq, Eq, Debug)]
-pub(crate) enum Refusal {
+pub enum Refusal {
     /// The limit on all connections is reached.
     Most,
     /// The limit on connections from its address is reached.
@@ -65,7 +65,7 @@ pub(crate) enum Refusal {
 
 impl Refusal {
     /// The cause that is reported when a connection is closed for this refusal.
-    pub(crate) fn text(self) -> &'static str {
+    pub fn text(self) -> &'static str {
         match self {
             Refusal::Most => "refused: too many connections are open",
             Refusal::MostOfAddress => "refused: too many connections from its address are open",

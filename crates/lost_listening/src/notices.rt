@@ -14,7 +14,7 @@ const MAX_A_SECOND: u64 = 10;
 /// Reports on standard error, in one line each, how connections end in a fault: at most ten lines a second. The next
 /// line says how many were left out.
 #[derive(Drop)]
-pub(crate) struct Notices<R: Wait + Clock + Eprint + Drop> {
+pub struct Notices<R: Wait + Clock + Eprint + Drop> {
     rt: R,
     alloc: Global,
     is_quiet: bool,
@@ -28,7 +28,7 @@ pub(crate) struct Notices<R: Wait + Clock + Eprint + Drop> {
 
 /// Notices for all threads. They go to `mouth` or, without it, to the standard error of `rt`; if quiet, none about
 /// connections. They carry the counters.
-pub(crate) fn notices_of<R: Wait + Clock + Eprint + Clone>(
+pub fn notices_of<R: Wait + Clock + Eprint + Clone>(
     rt: &R,
     alloc: Global,
     is_quiet: bool,
@@ -66,12 +66,12 @@ impl<R: Wait + Clock + Eprint + Drop> Notices<R> {
     }
 
     /// The counters.
-    pub(crate) fn status(&self) -> &Status {
+    pub fn status(&self) -> &Status {
         &self.status
     }
 
     /// Reports how a query connection, counted from 1, ended in a fault.
-    pub(crate) fn say_of_query(&self, number: u64, peer: &Peer, cause: &str) {
+    pub fn say_of_query(&self, number: u64, peer: &Peer, cause: &str) {
         if self.is_due() {
             let left_out = self.left_out.swap(0, Ordering::SeqCst);
             self.say(query_line(self.alloc, number, peer, cause, left_out));
@@ -79,21 +79,21 @@ impl<R: Wait + Clock + Eprint + Drop> Notices<R> {
     }
 
     /// Reports how a desk's connection ended in a fault.
-    pub(crate) fn say_of_desk(&self, peer: &Peer, cause: &str) {
+    pub fn say_of_desk(&self, peer: &Peer, cause: &str) {
         if !self.is_quiet {
             self.say(desk_line(self.alloc, peer, cause));
         }
     }
 
     /// Reports that the edits a desk left pending stay pending for the next one.
-    pub(crate) fn say_of_pending(&self) {
+    pub fn say_of_pending(&self) {
         self.say(format!(in self.alloc;
             "lostd: memory ran out: the last desk's pending edits could not be dropped, and the next desk's commit publishes them\n"
         ));
     }
 
     /// Reports that a listener was given up.
-    pub(crate) fn say_of_listener(&self) {
+    pub fn say_of_listener(&self) {
         self.say(format!(in self.alloc;
             "lostd: no more connections could be accepted: the server ends when all open connections have ended\n"
         ));

@@ -7,14 +7,14 @@ use std::time::Clock;
 
 /// Gives desks one after another, and holds the next one if it has come. The listener does not wait.
 #[derive(Drop)]
-pub(crate) struct DeskDoor<'l> {
+pub struct DeskDoor<'l> {
     listener: &'l Listener,
     next: Mutex<Option<(Stream, Peer)>>,
 }
 
 impl<'l> DeskDoor<'l> {
     /// The door of a listener at which nobody waits yet.
-    pub(crate) fn new(listener: &'l Listener) -> DeskDoor<'l> {
+    pub fn new(listener: &'l Listener) -> DeskDoor<'l> {
         DeskDoor {
             listener,
             next: Mutex::new(None),
@@ -22,7 +22,7 @@ impl<'l> DeskDoor<'l> {
     }
 
     /// Whether another desk waits.
-    pub(crate) fn is_waited_at<R: Wait>(&self, rt: &R) -> bool {
+    pub fn is_waited_at<R: Wait>(&self, rt: &R) -> bool {
         let mut next = self.next.lock(rt);
         if next.is_none()
             && let Ok(accepted) = self.listener.accept_once()
@@ -33,11 +33,7 @@ impl<'l> DeskDoor<'l> {
     }
 
     /// Waits for the next desk, or until `is_over` is set.
-    pub(crate) fn next<R: Wait + Clock>(
-        &self,
-        rt: &R,
-        is_over: &AtomicBool,
-    ) -> Option<(Stream, Peer)> {
+    pub fn next<R: Wait + Clock>(&self, rt: &R, is_over: &AtomicBool) -> Option<(Stream, Peer)> {
         if let Some(waiting) = self.waiting(rt) {
             return Some(waiting);
         }

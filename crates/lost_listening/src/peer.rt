@@ -32,19 +32,19 @@ impl<R: Wait + Clock + Eprint + Drop> Client<R> {
 
 /// The input of a query connection's lines. It reports a failed read, and an end of the connection before the end of
 /// its lines.
-pub(crate) struct Incoming<R: Wait + Clock + Eprint + Drop> {
+pub struct Incoming<R: Wait + Clock + Eprint + Drop> {
     client: Arc<Client<R>>,
     has_read: bool,
 }
 
 /// The output of a query connection's replies. It reports a failed write.
 #[derive(Drop)]
-pub(crate) struct Outgoing<R: Wait + Clock + Eprint + Drop> {
+pub struct Outgoing<R: Wait + Clock + Eprint + Drop> {
     client: Arc<Client<R>>,
 }
 
 /// The two ends of a query connection, counted from 1.
-pub(crate) fn ends<R: Wait + Clock + Eprint + Drop>(
+pub fn ends<R: Wait + Clock + Eprint + Drop>(
     alloc: Global,
     stream: Stream,
     number: u64,
