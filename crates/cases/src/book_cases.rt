@@ -1,15 +1,14 @@
 //! Calls of lost_book, and the questions of lost_query, on one book after another.
-use crate::civic_cases::address;
 use crate::descriptions::mapping;
 use crate::fields::Fields;
-use crate::geo_cases::point;
+use crate::place_cases::place;
 use crate::stamp_cases::{identity, stamp};
 use crate::trouble::Trouble;
 use crate::urn_cases::service;
 use crate::words::{owned, refused, yes_or_no};
 use lost_book::{Book, Edit, EditError, Limits, Register};
 use lost_mapping::{Identity, Mapping, Moment};
-use lost_query::{Holdings, Place};
+use lost_query::Holdings;
 use lost_spec::Coded;
 use std::alloc::Global;
 
@@ -255,7 +254,7 @@ fn implemented(alloc: Global, book: &Book, moment: &Moment, text: &str) -> Resul
 }
 
 fn holding(alloc: Global, book: &Book, moment: &Moment, text: &str) -> Result<String, Trouble> {
-    let positions = Holdings::holding(book, moment, &place_of(alloc, text)?)?;
+    let positions = Holdings::holding(book, moment, &place(alloc, text)?)?;
     ids(alloc, book, positions.as_slice())
 }
 
@@ -266,7 +265,7 @@ fn at(
     text: &str,
     urn: &[u8],
 ) -> Result<String, Trouble> {
-    let place = place_of(alloc, text)?;
+    let place = place(alloc, text)?;
     let positions = Holdings::at(book, moment, &place, &service(alloc, urn)?)?;
     ids(alloc, book, positions.as_slice())
 }
@@ -279,15 +278,6 @@ fn defaults(alloc: Global, book: &Book, moment: &Moment, text: &str) -> Result<S
 fn of_service(alloc: Global, book: &Book, moment: &Moment, text: &str) -> Result<String, Trouble> {
     let positions = Holdings::of_service(book, moment, &service(alloc, text.as_bytes())?)?;
     ids(alloc, book, positions.as_slice())
-}
-
-/// A point, or an address where there is a `=`.
-fn place_of(alloc: Global, text: &str) -> Result<Place, Trouble> {
-    if text.contains('=') {
-        Ok(Place::Address(address(alloc, text)?))
-    } else {
-        Ok(Place::Point(point(text)?))
-    }
 }
 
 fn shown_position(alloc: Global, position: Option<usize>) -> Result<String, Trouble> {

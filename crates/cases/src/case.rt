@@ -3,8 +3,8 @@ use crate::book_cases::Shelf;
 use crate::fields::Fields;
 use crate::trouble::Trouble;
 use crate::{
-    civic_cases, geo_cases, line_cases, mapping_cases, stamp_cases, token_cases, tokens_cases,
-    urn_cases,
+    civic_cases, geo_cases, line_cases, mapping_cases, place_cases, stamp_cases, token_cases,
+    tokens_cases, urn_cases,
 };
 use std::alloc::Global;
 
@@ -27,6 +27,7 @@ fn said(alloc: Global, shelf: &mut Shelf, fields: &Fields) -> Result<String, Tro
         "urn" => urn_cases::said(alloc, call, fields),
         "geo" => geo_cases::said(alloc, call, fields),
         "civic" => civic_cases::said(alloc, call, fields),
+        "place" => place_cases::said(alloc, call, fields),
         "mapping" => mapping_cases::said(alloc, call, fields),
         "book" => shelf.said(alloc, call, fields),
         "reply" => line_cases::reply(alloc, shelf.book()?, fields.bytes(1)?),

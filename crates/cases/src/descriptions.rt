@@ -1,7 +1,7 @@
 //! Mappings as cases describe them: a sourceId, and then changes, each after a `;`. Without changes, a mapping is the
 //! police of `map.example`, of 2025-12-01, without end and without a region. Its URI and key come from the sourceId.
 use crate::trouble::Trouble;
-use crate::words::{number_pair, number_pairs, owned, text_pairs};
+use crate::words::{number_pair, number_pairs, owned, text_pairs, texts};
 use lost_mapping::{DisplayName, Mapping, MappingError, Parts, Region};
 use std::alloc::Global;
 
@@ -77,6 +77,7 @@ fn add_to_list(alloc: Global, parts: &mut Parts, name: &str, value: &str) -> Res
         "pattern" => parts
             .regions
             .push(Region::Pattern(text_pairs(alloc, value, ',')?))?,
+        "tokens" => parts.regions.push(Region::Tokens(texts(alloc, value)?))?,
         "unreadable" => parts.regions.push(Region::Unreadable)?,
         _ => return Err(Trouble::NoCase),
     }

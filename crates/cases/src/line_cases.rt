@@ -177,6 +177,7 @@ fn shown_location(alloc: Global, location: &Location<'_>) -> Result<String, Trou
     match &location.body {
         Body::Point(lat, lon) => text.push_str(format!(in alloc; "{lat},{lon}")?.as_str())?,
         Body::Address(pairs) => push_pairs(&mut text, pairs.as_slice())?,
+        Body::Token(token) => text.push_str(token.as_str())?,
         Body::Unreadable => text.push_str("unreadable")?,
     }
     text.push_str("]")?;

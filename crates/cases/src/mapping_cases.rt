@@ -3,6 +3,7 @@ use crate::descriptions::{mapping, parts};
 use crate::fields::Fields;
 use crate::geo_cases::shown_positions;
 use crate::stamp_cases::stamp;
+use crate::token_cases::shown_tokens;
 use crate::trouble::Trouble;
 use crate::words::{checked, owned, push_pairs, refused, yes_or_no};
 use lost_mapping::{Expires, Mapping, MappingError, Moment, Parts};
@@ -98,7 +99,7 @@ fn shown_head(alloc: Global, mapping: &Mapping) -> Result<String, Trouble> {
     Ok(format!(in alloc; "{source} {id} {stamp} {end} {service}")?)
 }
 
-/// Appends the polygons, and then the patterns.
+/// Appends the polygons, then the patterns, and then the token sets.
 fn push_regions(alloc: Global, text: &mut String, mapping: &Mapping) -> Result<(), Trouble> {
     for polygon in mapping.polygons() {
         text.push_str(" in ")?;
@@ -107,6 +108,10 @@ fn push_regions(alloc: Global, text: &mut String, mapping: &Mapping) -> Result<(
     for pattern in mapping.patterns() {
         text.push_str(" where ")?;
         push_pairs(text, pattern.pairs())?;
+    }
+    for set in mapping.token_sets() {
+        text.push_str(" of ")?;
+        text.push_str(shown_tokens(alloc, set.tokens())?.as_str())?;
     }
     Ok(())
 }

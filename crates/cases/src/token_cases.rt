@@ -1,25 +1,24 @@
 //! Calls of lost_profile: tokens, sets of them, and the profile of tokens.
 use crate::fields::Fields;
 use crate::trouble::Trouble;
-use crate::words::{compared, copy_of, owned, refused, yes_or_no};
-use lost_profile::{Profile, Token, TokenError, TokenSet, Tokens};
+use crate::words::{MARK, compared, copy_of, owned, refused, texts, yes_or_no};
+use lost_profile::{Profile, Token, TokenError, TokenSet, Tokens, is_id, is_token_set};
 use lost_spec::Coded;
 use std::alloc::Global;
 use std::cmp::Ordering;
-
-/// What stands between two tokens of a field.
-const MARK: char = ',';
 
 /// What a call gives.
 pub(crate) fn said(alloc: Global, call: &str, fields: &Fields) -> Result<String, Trouble> {
     match call {
         "token parse" => parse(alloc, fields.bytes(1)?),
+        "token id" => owned(alloc, yes_or_no(is_id(fields.text(1)?))),
         "token order" => two_tokens(alloc, fields.bytes(1)?, fields.bytes(2)?),
         "token set" => new_set(alloc, fields.text(1)?),
+        "token texts" => read_set(alloc, fields.text(1)?),
         "token same sets" => same_sets(alloc, fields.text(1)?, fields.text(2)?),
         "token contains" => contains(alloc, fields.text(1)?, fields.bytes(2)?),
-        "token cover" => shown(alloc, &Tokens::cover(alloc, &set(alloc, fields.text(1)?)?)?),
-        "token probes" => shown(
+        "token cover" => shown_tokens(alloc, &Tokens::cover(alloc, &set(alloc, fields.text(1)?)?)?),
+        "token probes" => shown_tokens(
             alloc,
             &Tokens::probes(alloc, &token(alloc, fields.bytes(1)?)?)?,
         ),
@@ -42,7 +41,7 @@ fn parse(alloc: Global, text: &[u8]) -> Result<String, Trouble> {
 }
 
 /// The token of a text that is one.
-fn token(alloc: Global, text: &[u8]) -> Result<Token, Trouble> {
+pub(crate) fn token(alloc: Global, text: &[u8]) -> Result<Token, Trouble> {
     match Token::parse(alloc, text) {
         Ok(token) => Ok(token),
         Err(TokenError::Memory) => Err(Trouble::Memory),
@@ -73,10 +72,8 @@ fn order(one: &Token, other: &Token) -> &'static str {
 /// The tokens of a field with a comma between each two; none of an empty one.
 fn tokens(alloc: Global, text: &str) -> Result<Vec<Token>, Trouble> {
     let mut tokens = Vec::new(alloc);
-    if !text.is_empty() {
-        for part in text.split(MARK) {
-            tokens.push(token(alloc, part.as_bytes())?)?;
-        }
+    for text in &texts(alloc, text)? {
+        tokens.push(token(alloc, text.as_bytes())?)?;
     }
     Ok(tokens)
 }
@@ -84,9 +81,21 @@ fn tokens(alloc: Global, text: &str) -> Result<Vec<Token>, Trouble> {
 /// The tokens of a copy of a set.
 fn new_set(alloc: Global, text: &str) -> Result<String, Trouble> {
     match TokenSet::new(alloc, tokens(alloc, text)?) {
-        Ok(set) => shown(alloc, set.clone()?.tokens()),
+        Ok(set) => shown_tokens(alloc, set.clone()?.tokens()),
         Err(TokenError::Memory) => Err(Trouble::Memory),
         Err(refusal) => refused(alloc, refusal.code()),
+    }
+}
+
+/// The tokens of the set that texts are, if the check of the texts says the same.
+fn read_set(alloc: Global, text: &str) -> Result<String, Trouble> {
+    let texts = texts(alloc, text)?;
+    let is_set = is_token_set(texts.as_slice());
+    match TokenSet::parse(alloc, texts.as_slice()) {
+        Ok(set) if is_set => shown_tokens(alloc, set.tokens()),
+        Err(TokenError::Memory) => Err(Trouble::Memory),
+        Err(refusal) if !is_set => refused(alloc, refusal.code()),
+        _ => owned(alloc, "at odds with the check"),
     }
 }
 
@@ -110,7 +119,7 @@ fn contains(alloc: Global, text: &str, location: &[u8]) -> Result<String, Troubl
 }
 
 /// The tokens with a comma between each two.
-fn shown(alloc: Global, tokens: &[Token]) -> Result<String, Trouble> {
+pub(crate) fn shown_tokens(alloc: Global, tokens: &[Token]) -> Result<String, Trouble> {
     let mut text = String::new(alloc);
     for token in tokens {
         if !text.is_empty() {

@@ -78,6 +78,20 @@ pub(crate) fn text_pairs(
     Ok(pairs)
 }
 
+/// What stands between two texts of a list.
+pub(crate) const MARK: char = ',';
+
+/// The texts of a list; none of an empty one.
+pub(crate) fn texts(alloc: Global, text: &str) -> Result<Vec<String>, Trouble> {
+    let mut texts = Vec::new(alloc);
+    if !text.is_empty() {
+        for part in text.split(MARK) {
+            texts.push(owned(alloc, part)?)?;
+        }
+    }
+    Ok(texts)
+}
+
 /// Appends pairs, each as `NAME=VALUE;`.
 pub(crate) fn push_pairs(text: &mut String, pairs: &[(String, String)]) -> Result<(), Trouble> {
     for pair in pairs {

@@ -1,7 +1,7 @@
 -- What a counting keeper keeps. (Own.)
 use Rattle.std.specs.Prelude.{◌≡◌, Option, None, Some}
 use Rattle.lost_spec.specs.Holders.{Entry}
-use Rattle.lost_query.specs.Place.{place_of}
+use Rattle.lost_location.specs.Place.{place_of}
 use Rattle.lost_desk.specs.Sets.{entry}
 use Rattle.rows_desk.specs.declared.counting.Kept.{Kept}
 

@@ -1,6 +1,6 @@
 //! A keeper of the last set of positions. It counts how often sets are looked for, found and kept.
 ghost use Rattle.std.specs.Prelude.{◌≡◌, None, IfSome};
-ghost use Rattle.lost_query.specs.Place.{place_of};
+ghost use Rattle.lost_location.specs.Place.{place_of};
 ghost use Rattle.lost_desk.specs.Sets.{entry};
 
 use lost_desk::PlaceSets;

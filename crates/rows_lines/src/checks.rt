@@ -12,7 +12,7 @@ use test_rows::Setting;
 /// The folder of the rows.
 const FOLDER: &str = "checks";
 
-/// Checks the lines of each row of the folder and of three that are made. Prints and returns whether the reports are as
+/// Checks the lines of each row of the folder and of four that are made. Prints and returns whether the reports are as
 /// expected.
 pub(crate) fn print_checks<R: Files + Print + AllocGlobal + Clone + Drop>(
     rt: &R,
@@ -28,15 +28,17 @@ pub(crate) fn print_checks<R: Files + Print + AllocGlobal + Clone + Drop>(
     Ok(are_large_said(rt, &setting)? && all)
 }
 
-/// Checks the lines of the three rows that are made.
+/// Checks the lines of the four rows that are made.
 fn are_large_said<R: Print + AllocGlobal>(rt: &R, setting: &Setting) -> io::Result<bool> {
     let full = large::full(rt.alloc())?;
     let gone = large::gone(rt.alloc())?;
     let long = large::long(rt.alloc())?;
+    let hungry = large::hungry(rt.alloc())?;
     Ok(
         is_said(rt, "full", &full, large::SAID_OF_FULL, setting)?
             && is_said(rt, "gone", &gone, large::SAID_OF_GONE, setting)?
-            && is_said(rt, "long", &long, large::SAID_OF_LONG, setting)?,
+            && is_said(rt, "long", &long, large::SAID_OF_LONG, setting)?
+            && is_said(rt, "hungry", &hungry, large::SAID_OF_HUNGRY, setting)?,
     )
 }
 

@@ -4,7 +4,7 @@
 //! - `sessions`: each session of the folder `sessions` is replayed, and then answered by a desk and a reader that keeps
 //!   1, 2 and 1,024 places. `NAME.jsonl` has the lines, `NAME.expected` the replies. A desk has the limits that the
 //!   file `NAME.limits` gives; a session with such a file is not replayed, since a replay has the widest.
-//! - `checks`: the lines of each row of the folder `checks` are checked, and then those of three rows that are made.
+//! - `checks`: the lines of each row of the folder `checks` are checked, and then those of four rows that are made.
 //!   `NAME.jsonl` has the lines, `NAME.expected` the report.
 //! - `worlds`: runs the worlds of standard input, and prints the events of their steps, one a line. A line
 //!   `world W LIMITS` begins a world of so many workers, and each line after it is a step, until the next world:

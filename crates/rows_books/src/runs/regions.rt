@@ -1,10 +1,11 @@
-//! Rings and patterns, and points and addresses to ask for. They lie on coarse grids, so that points meet edges and
-//! corners: one grid begins in the middle of the plane, and two in opposite corners.
+//! Regions, and places to ask for. Rings and points lie on coarse grids, so that points meet edges and corners: one grid
+//! begins in the middle of the plane, and two in opposite corners.
 use crate::runs::draws::Draws;
-use crate::runs::words::{pairs, unfit};
+use crate::runs::words::{pairs, token, tokens, unfit};
 use lost_civic::CivicAddress;
 use lost_geo::GeoPoint;
 use lost_mapping::{Mapping, Region};
+use lost_profile::{Token, TokenSet};
 use lost_query::Place;
 use std::alloc::{AllocError, Global};
 use std::io;
@@ -26,10 +27,10 @@ const LON_LIMIT: i64 = 1_800_000_000;
 pub(crate) fn regions(alloc: Global, draws: &mut Draws) -> Result<Vec<Region>, AllocError> {
     let mut regions = Vec::new(alloc);
     for _ in 0..draws.below(2).saturating_add(1) {
-        let region = if draws.is_one_of(2) {
-            Region::Pattern(pairs(alloc, draws)?)
-        } else {
-            Region::Ring(ring(alloc, draws)?)
+        let region = match draws.below(5) {
+            0 | 1 => Region::Pattern(pairs(alloc, draws)?),
+            2 => Region::Tokens(tokens(alloc, draws)?),
+            _ => Region::Ring(ring(alloc, draws)?),
         };
         regions.push(region)?;
     }
@@ -53,15 +54,38 @@ pub(crate) fn regions_of(alloc: Global, mapping: &Mapping) -> Result<Vec<Region>
         }
         regions.push(Region::Pattern(pairs))?;
     }
+    for set in mapping.token_sets() {
+        regions.push(Region::Tokens(texts_of(alloc, set)?))?;
+    }
     Ok(regions)
 }
 
-/// A place to ask for: a point, or an address.
-pub(crate) fn place(alloc: Global, draws: &mut Draws) -> io::Result<Place> {
-    if draws.is_one_of(3) {
-        let pairs = pairs(alloc, draws)?;
-        return Ok(Place::Address(address(alloc, pairs)?));
+/// The texts of a token set.
+fn texts_of(alloc: Global, set: &TokenSet) -> Result<Vec<String>, AllocError> {
+    let mut texts = Vec::new(alloc);
+    for token in set.tokens() {
+        texts.push(String::from_str(alloc, token.text())?)?;
     }
+    Ok(texts)
+}
+
+/// A place to ask for: an address, a token, or a point.
+pub(crate) fn place(alloc: Global, draws: &mut Draws) -> io::Result<Place> {
+    match draws.below(6) {
+        0 | 1 => {
+            let pairs = pairs(alloc, draws)?;
+            Ok(Place::Address(address(alloc, pairs)?))
+        }
+        2 => match Token::parse(alloc, token(draws).as_bytes()) {
+            Ok(token) => Ok(Place::Token(token)),
+            Err(_) => Err(unfit()),
+        },
+        _ => point(draws),
+    }
+}
+
+/// A point on a grid, or a little way off.
+fn point(draws: &mut Draws) -> io::Result<Place> {
     let (lat, lon) = corner(draws);
     let lat = within(lat.saturating_add(stray(draws)), LAT_LIMIT);
     let lon = within(lon.saturating_add(stray(draws)), LON_LIMIT);

@@ -2,6 +2,7 @@
 use lost_civic::CivicPattern;
 use lost_geo::Polygon;
 use lost_mapping::{Expires, Mapping};
+use lost_profile::TokenSet;
 use std::alloc::{AllocError, Global};
 
 /// The text of a mapping.
@@ -13,6 +14,9 @@ pub(crate) fn shown(alloc: Global, mapping: &Mapping) -> Result<String, AllocErr
     }
     for pattern in mapping.patterns() {
         push_pattern(&mut text, pattern)?;
+    }
+    for set in mapping.token_sets() {
+        push_tokens(&mut text, set)?;
     }
     Ok(text)
 }
@@ -62,4 +66,13 @@ fn push_pattern(text: &mut String, pattern: &CivicPattern) -> Result<(), AllocEr
         text.push_str(";")?;
     }
     text.push_str(" pattern")
+}
+
+/// Adds the tokens of a set.
+fn push_tokens(text: &mut String, set: &TokenSet) -> Result<(), AllocError> {
+    for token in set.tokens() {
+        text.push_str(token.text())?;
+        text.push_str(";")?;
+    }
+    text.push_str(" tokens")
 }

@@ -40,6 +40,9 @@ const ELEMENTS: [Element; 5] = [
 /// Their values: two that differ, each in two spellings that compare equal.
 const VALUES: [&'static str; 4] = ["Fort Lee", " fort  lee", "Leonia", "LEONIA "];
 
+/// The tokens of sets and of questions: alike, and no two equal.
+const TOKENS: [&'static str; 5] = ["t1", "T1", "t", "t1 ", "floor 3"];
+
 /// 2025-12-01, in days from 1970-01-01. All stamps and moments are of this day.
 const DAY: i32 = 20_423;
 
@@ -93,6 +96,23 @@ pub(crate) fn pairs(alloc: Global, draws: &mut Draws) -> Result<Vec<(String, Str
         }
     }
     Ok(pairs)
+}
+
+/// The texts of a token set, each once, and at least one.
+pub(crate) fn tokens(alloc: Global, draws: &mut Draws) -> Result<Vec<String>, AllocError> {
+    let mut tokens = Vec::new(alloc);
+    let first = draws.below(TOKENS.len() as u64);
+    for (place, token) in TOKENS.iter().enumerate() {
+        if place as u64 == first || draws.is_one_of(3) {
+            tokens.push(String::from_str(alloc, token)?)?;
+        }
+    }
+    Ok(tokens)
+}
+
+/// A token.
+pub(crate) fn token(draws: &mut Draws) -> &'static str {
+    draws.word(&TOKENS)
 }
 
 /// None to two elements, one perhaps twice.

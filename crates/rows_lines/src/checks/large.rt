@@ -10,6 +10,12 @@ const MAX_TRACES: u32 = 65_536;
 /// The most bytes of a line.
 const MAX_LINE: usize = 1_048_576;
 
+/// A location of a profile that no server knows.
+const LOCATION: &[u8] = b"{\"id\":\"p\",\"profile\":\"none\"}";
+
+/// More locations than a line of a request gets memory for.
+const LOCATIONS: usize = 37_000;
+
 /// The report on the line after as many mappings as may be held.
 pub(crate) const SAID_OF_FULL: &[u8] =
     b"line 65537: 18 Full: 65536 mappings are held, and no more may be\n";
@@ -21,6 +27,9 @@ pub(crate) const SAID_OF_GONE: &[u8] =
 /// The report on a line over the limit.
 pub(crate) const SAID_OF_LONG: &[u8] =
     b"line 1: badRequest: the line has more than 1048576 bytes\n";
+
+/// The report on a request that wants more memory than its line may take.
+pub(crate) const SAID_OF_HUNGRY: &[u8] = b"line 1: internalError: memory ran out\n";
 
 /// One mapping more than may be held, each a default.
 pub(crate) fn full(alloc: Global) -> Result<Vec<u8>, AllocError> {
@@ -72,5 +81,18 @@ pub(crate) fn long(alloc: Global) -> Result<Vec<u8>, AllocError> {
         lines.push(b' ')?;
     }
     lines.extend_from_slice(b"\n{\"commit\":{}}\n")?;
+    Ok(lines)
+}
+
+/// A request that wants more memory than its line may take, and a good line.
+pub(crate) fn hungry(alloc: Global) -> Result<Vec<u8>, AllocError> {
+    let mut lines = Vec::new(alloc);
+    lines.extend_from_slice(b"{\"findService\":{\"service\":\"urn:service:sos\",\"location\":[")?;
+    lines.extend_from_slice(LOCATION)?;
+    for _ in 1..LOCATIONS {
+        lines.push(b',')?;
+        lines.extend_from_slice(LOCATION)?;
+    }
+    lines.extend_from_slice(b"]}}\n{\"commit\":{}}\n")?;
     Ok(lines)
 }

@@ -1,8 +1,8 @@
 -- What is kept is of the edition and the place.
 use Rattle.std.proofs.Common.{◌≡◌, ℕ, List, rules, sym, ◌∙◌}
-use Rattle.lost_spec.specs.Find.{Place as Seen}
-use Rattle.lost_query.specs.Place.{place_of}
-use Rattle.lost_query.proofs.EqualPlaces.{equal_places}
+use Rattle.lost_spec.specs.Place.{Place as Seen}
+use Rattle.lost_location.specs.Place.{place_of}
+use Rattle.lost_location.proofs.EqualPlaces.{equal_places}
 use Rattle.lost_desk.specs.Sets.{entry}
 use Rattle.rows_desk.proofs.counting.Counting.set_of.Goals as goal
 
