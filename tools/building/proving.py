@@ -5,6 +5,7 @@ import os
 import queue
 import shutil
 import subprocess
+import sys
 import threading
 import time
 from typing import Dict, List, NamedTuple, Optional, Tuple
@@ -22,6 +23,7 @@ PACE = 0.25
 # A crate that took less than this was there already, and says nothing about the pace.
 QUICK = 10.0
 KILLED = (-9, 137)
+RT_ONCE = os.path.join(os.path.dirname(os.path.realpath(__file__)), "rt_once.py")
 
 
 class Job:
@@ -56,11 +58,13 @@ def yields() -> List[str]:
 
 def words_of(kit: Kit, name: str, jobs: int, processor: str) -> List[str]:
     """The command that proves a crate, and builds the program."""
+    # (nobody edits the copies, so a crate's sum is made once)
+    rt = [sys.executable, RT_ONCE, kit.rt]
     if name != PROGRAM:
-        return [kit.rt, "lib", "--jobs", str(jobs)]
+        return [*rt, "lib", "--jobs", str(jobs)]
     # (the kit compiles for x86-64-v2 where nothing is said)
     flags = [] if processor == PORTABLE else [f"--cpu={processor}"]
-    return [kit.rt, "run", "--jobs", str(jobs), *flags, "--", "--version"]
+    return [*rt, "run", "--jobs", str(jobs), *flags, "--", "--version"]
 
 
 def environment() -> Dict[str, str]:
