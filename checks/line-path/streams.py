@@ -63,6 +63,21 @@ def towns():
     return [*(publish(number, region) for number, region in enumerate(regions)), line("commit", {})]
 
 
+def room(number, floor):
+    """A token: a place by the name that the map gives it."""
+    return f"building {number}, floor {floor}"
+
+
+def floors(number, count):
+    """A set of so many tokens."""
+    return {"profile": "x-token", "tokens": [room(number, floor) for floor in range(count)]}
+
+
+def buildings(count):
+    """A map of buildings, by sets of six tokens."""
+    return [*(publish(number, floors(number, 6)) for number in range(count)), line("commit", {})]
+
+
 def large(vertices):
     """A map of ten squares and one ring of many vertices."""
     return [
@@ -77,16 +92,27 @@ def point(number):
     return {"id": "p", "pos": [SIDE // 2, number * SIDE + SIDE // 2], "profile": "geodetic-2d"}
 
 
+def in_degrees(number):
+    """The same location as decimal text."""
+    lat, lon = (f"0.{units:07}" for units in point(number)["pos"])
+    return point(number) | {"pos": f"{lat} {lon}"}
+
+
+def token(number):
+    """A location on a floor of a building."""
+    return {"id": "t", "profile": "x-token", "token": room(number, 3)}
+
+
 def asks(name, members):
     """One request, again and again."""
     asked = line(name, members)
     return lambda number: asked
 
 
-def finds(mappings, more=None):
-    """Requests for a point of each mapping in turn."""
+def finds(mappings, more=None, location=point):
+    """Requests for a place of each mapping in turn."""
     asked = [
-        line("findService", {"location": [point(number)], "service": SERVICE} | (more or {})) for number in range(mappings)
+        line("findService", {"location": [location(number)], "service": SERVICE} | (more or {})) for number in range(mappings)
     ]
     return lambda number: asked[number % mappings]
 
@@ -100,6 +126,9 @@ def kinds():
     return [
         ("findService by point, 10 mappings", squares(10), finds(10), 100_000),
         ("findService by point, 100 mappings", squares(100), finds(100), 100_000),
+        ("findService by point as text, 10 mappings", squares(10), finds(10, location=in_degrees), 100_000),
+        ("findService by token, 10 mappings", buildings(10), finds(10, location=token), 100_000),
+        ("findService by token, 100 mappings", buildings(100), finds(100, location=token), 100_000),
         ("findService by point, two locations and a path", squares(10), asks("findService", {
             "service": SERVICE, "location": [point(3), address], "path": ["a.example", "b.example"],
         }), 100_000),
@@ -114,6 +143,7 @@ def kinds():
         ("falls back: a number that is not whole", squares(10), finds(10, {"x": 0.5}), 50_000),
         ("falls back: no request", squares(10), asks("findServices", {"location": [point(3)]}), 50_000),
         ("publish, 20 to 400 vertices", [], district, 6_000),
+        ("publish, 64 tokens", [], lambda number: publish(number, floors(number, 64)), 6_000),
         ("publish, 20 to 400 vertices, falls back", [], lambda number: left_to_the_tree(district(number)), 6_000),
         ("lines of 1 MiB", squares(10), lambda number: long_line, 40),
     ]

@@ -1,5 +1,5 @@
 """The replies to requests, found from scratch over the mappings of a book."""
-from places import CIVIC, GEODETIC, Place, is_address, is_point
+from places import CIVIC, GEODETIC, TOKEN, Place, is_address, is_point, is_token
 from request_lines import BOUNDARY, FIND, SERVICES
 from search import all_services, by_key, found, is_implemented, services, warnings_of
 from texts import same_ignoring_case, service_text
@@ -47,7 +47,7 @@ def answer_by_kind(book, moment, request):
 def location_used(locations):
     """The location used is the first whose profile is recognised."""
     for location in locations:
-        if location.profile in (GEODETIC, CIVIC):
+        if location.profile in (GEODETIC, CIVIC, TOKEN):
             return location
     raise Failed("locationProfileUnrecognized")
 
@@ -56,8 +56,8 @@ def place_of(location):
     """The place of the location used; for a point the reference system is looked at first."""
     if location.profile == GEODETIC and not location.is_system_known:
         raise Failed("SRSInvalid")
-    is_right = is_point if location.profile == GEODETIC else is_address
-    if location.body is None or not is_right(location.body):
+    is_right = {GEODETIC: is_point, CIVIC: is_address, TOKEN: is_token}
+    if location.body is None or not is_right[location.profile](location.body):
         raise Failed("locationInvalid")
     return Place(location.profile, location.body)
 
@@ -76,21 +76,20 @@ def find(book, moment, request, place):
 
 
 def boundary(book, moment, request):
-    """The regions of the live mapping that has the key: its polygons and then its patterns."""
+    """The regions of the live mapping that has the key: its polygons, then its patterns, then its token sets."""
     mapping = by_key(book, moment, request.key)
     if mapping is None:
         raise Failed("notFound")
-    return {"serviceBoundary": polygons_shown(mapping) + patterns_shown(mapping)}
+    return {"serviceBoundary": [region for profile in (GEODETIC, CIVIC, TOKEN) for region in regions_shown(mapping, profile)]}
 
 
-def polygons_shown(mapping):
-    """The polygons of a mapping, in the order given."""
-    return [{"polygon": ring, "profile": GEODETIC} for ring in mapping.polygons]
-
-
-def patterns_shown(mapping):
-    """The patterns of a mapping, in the order given."""
-    return [{"pattern": pattern, "profile": CIVIC} for pattern in mapping.patterns]
+def regions_shown(mapping, profile):
+    """The regions of a profile that a mapping has, in the order given."""
+    if profile == GEODETIC:
+        return [{"polygon": ring, "profile": GEODETIC} for ring in mapping.polygons]
+    if profile == CIVIC:
+        return [{"pattern": pattern, "profile": CIVIC} for pattern in mapping.patterns]
+    return [{"profile": TOKEN, "tokens": tokens} for tokens in mapping.token_sets]
 
 
 def boundary_shown(mapping, request, place):
@@ -98,8 +97,7 @@ def boundary_shown(mapping, request, place):
     if mapping.is_default:
         return {}
     if request.by_value:
-        shown = polygons_shown if place.profile == GEODETIC else patterns_shown
-        return {"serviceBoundary": shown(mapping)}
+        return {"serviceBoundary": regions_shown(mapping, place.profile)}
     return {"serviceBoundaryReference": {"key": mapping.key, "source": mapping.identity[0]}}
 
 

@@ -55,8 +55,12 @@ def is_key_held(book, mapping):
 
 
 def same_regions(mapping, old):
-    """Regions are the same where both lists are: polygons by positions, patterns by names and values as given."""
-    return mapping.polygons == old.polygons and mapping.patterns == old.patterns
+    """Regions are the same where all three lists are: polygons by positions, patterns by names and values, sets by tokens as given."""
+    return (
+        mapping.polygons == old.polygons
+        and mapping.patterns == old.patterns
+        and mapping.token_sets == old.token_sets
+    )
 
 
 def is_key_unchanged(mapping, old):

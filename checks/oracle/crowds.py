@@ -121,9 +121,10 @@ class Crowd(Session):
     """A session of a seed over hundreds of mappings."""
 
     themes = {
-        "points": Theme(6, 0.01, 0.002, rings=8, patterns=0),
-        "points of a grid": Theme(3, 0.01, 0.002, rings=8, patterns=0, is_grid=True),
-        "points and addresses": Theme(3, 0.01, 0.002, rings=3, patterns=1),
+        "points": Theme(6, 0.01, 0.002, rings=8, patterns=0, tokens=0),
+        "points of a grid": Theme(3, 0.01, 0.002, rings=8, patterns=0, tokens=0, is_grid=True),
+        "points and addresses": Theme(3, 0.01, 0.002, rings=3, tokens=0),
+        "all kinds": Theme(3, 0.01, 0.002, rings=2, tokens=2),
     }
     kind_of_ground, kind_of_edits = CrowdedGround, CrowdedEdits
 

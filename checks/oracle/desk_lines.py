@@ -2,7 +2,7 @@
 from book import PUBLISH, REPLACE, WITHDRAW, Edit
 from mappings import Parts, Refused, Region, build, identity_of
 from members import are_pairs, are_texts, member, only_member, position_of
-from places import CIVIC, GEODETIC, Point
+from places import CIVIC, GEODETIC, TOKEN, Point
 from texts import is_id, is_source, is_text, moment_of
 
 COMMIT = "commit"
@@ -82,6 +82,8 @@ def read_region(item):
             return Region(GEODETIC, [Point(*position) for position in positions])
     if profile == CIVIC and are_pairs(member(item, "pattern")):
         return Region(CIVIC, member(item, "pattern"))
+    if profile == TOKEN and are_texts(member(item, "tokens")):
+        return Region(TOKEN, member(item, "tokens"))
     return None
 
 

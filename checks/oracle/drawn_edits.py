@@ -2,7 +2,7 @@
 import datetime
 
 from drawn_texts import respelled
-from places import CIVIC, GEODETIC
+from places import CIVIC, GEODETIC, TOKEN
 from samples import DISPLAY_TEXTS, IDS, JUNK, KEYS, LANGUAGES, NUMBERS, ODD_IDS, ODD_SOURCES, SOURCES, STAMPS, URIS
 
 KINDS = {"publish": 16, "replace": 5, "withdraw": 3, "publish again": 2, "commit": 7}
@@ -91,15 +91,20 @@ class Edits:
 
     def region(self):
         """A region of the kinds that the theme is about."""
-        kind = self.dice.by_weight({GEODETIC: self.theme.rings, CIVIC: self.theme.patterns})
-        if kind == GEODETIC and self.dice.chance(0.97):
+        kind = self.dice.by_weight({GEODETIC: self.theme.rings, CIVIC: self.theme.patterns, TOKEN: self.theme.tokens})
+        if self.dice.chance(0.02):
+            kind = self.dice.choice([CIVIC, TOKEN])
+        if kind == GEODETIC:
             return {"polygon": self.session.ground.ring(), "profile": GEODETIC}
+        if kind == TOKEN:
+            return {"profile": TOKEN, "tokens": self.session.tokens.token_set()}
         return {"pattern": self.session.town.pattern(), "profile": CIVIC}
 
     def regions(self):
-        """The regions of a mapping; now and then as many as it may have, or one more."""
-        if self.dice.chance(0.005):
-            return [self.region()] * self.dice.choice([64, 65, 256, 257])
+        """The regions of a mapping; now and then as many of a kind as it may have, or one more, and others behind them."""
+        if self.dice.chance(0.007):
+            many = [self.region()] * self.dice.choice([64, 64, 65, 256, 257])
+            return many + [self.region()] * self.dice.choice([0, 0, 1, 40])
         count = self.dice.choice([1, 2, 3, 4, 6, 9] if self.theme.is_dense else [1, 1, 1, 2, 2, 3, 5])
         return [self.region() for _ in range(count)]
 
@@ -151,26 +156,36 @@ class Edits:
         return mapping
 
     def regions_again(self, old, new):
-        """The old regions, those in another order, with one twice, with one in another spelling, or the new ones."""
-        way = self.dice.by_weight({"old": 20, "order": 15, "twice": 10, "spelling": 15, "new": 40})
+        """The old regions, those in another order, with one twice, with one that is spelled otherwise or new, or the new ones."""
+        way = self.dice.by_weight({"old": 20, "order": 15, "twice": 10, "spelling": 18, "one": 7, "new": 30})
         if way == "order":
             return self.dice.sample(old, len(old))
         if way == "twice":
             return [*old, self.dice.choice(old)]
-        if way == "spelling":
+        if way in ("spelling", "one"):
             place = self.dice.randrange(len(old))
-            return [*old[:place], self.region_again(old[place]), *old[place + 1 :]]
+            region = self.region_again(old[place]) if way == "spelling" else self.region()
+            return [*old[:place], region, *old[place + 1 :]]
         return old if way == "old" else new
 
     def region_again(self, region):
-        """A region of the same points or addresses that is written in another way."""
+        """A region of the same points, addresses or tokens that is written in another way, or one that is much alike."""
         if "polygon" in region:
             ring = region["polygon"]
             again = [respelled(self.dice, position) for position in ring]
             turned = self.dice.choice([ring, again, again, ring[::-1], [*ring[1:], ring[1]]])
             return {"polygon": turned, "profile": GEODETIC}
+        if "tokens" in region:
+            return {"profile": TOKEN, "tokens": self.tokens_again(region["tokens"])}
         pattern = {name: self.session.town.respelled(value) for name, value in region["pattern"].items()}
         return {"pattern": self.dice.choice([pattern, region["pattern"]]), "profile": CIVIC}
+
+    def tokens_again(self, tokens):
+        """The same tokens, those in another order, one less, one more, or all in another case."""
+        others = dict.fromkeys([*tokens, self.session.tokens.one()])
+        swapped = dict.fromkeys(token.swapcase() for token in tokens)
+        shuffled = self.dice.sample(tokens, len(tokens))
+        return self.dice.choice([tokens, shuffled, shuffled, tokens[1:] or tokens, list(others), list(swapped)])
 
     def withdrawal(self):
         """A withdrawal, mostly of an earlier identity."""

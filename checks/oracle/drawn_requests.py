@@ -1,5 +1,5 @@
 """Draws request lines, of which many are about mappings that are held."""
-from places import CIVIC, GEODETIC
+from places import CIVIC, GEODETIC, TOKEN
 from samples import JUNK, KEYS, PROFILES, SYSTEMS
 
 KINDS = {"findService": 20, "listServicesByLocation": 6, "listServices": 3, "getServiceBoundary": 4}
@@ -57,19 +57,22 @@ class Requests:
 
     def location(self):
         """A location of any profile."""
-        weights = {GEODETIC: 2 * self.theme.rings, CIVIC: 2 * self.theme.patterns, "other": 0.3}
-        profile = self.dice.by_weight(weights if self.dice.chance(0.93) else {GEODETIC: 1, CIVIC: 1, "other": 1})
+        theme = self.theme
+        usual = {GEODETIC: 2 * theme.rings, CIVIC: 2 * theme.patterns, TOKEN: 2 * theme.tokens, "other": 0.3}
+        profile = self.dice.by_weight(usual if self.dice.chance(0.93) else {GEODETIC: 1, CIVIC: 1, TOKEN: 1, "other": 1})
         location = {"id": self.dice.choice(["p", "q", "", "é", '"']), "profile": profile}
         if profile == GEODETIC:
-            location["pos"] = self.session.ground.spelled(self.session.ground.point())
+            location["pos"] = self.session.ground.position_asked()
         elif profile == CIVIC:
             location["address"] = self.session.town.address()
+        elif profile == TOKEN:
+            location["token"] = self.session.tokens.token()
         else:
             location |= {"profile": self.dice.choice(PROFILES), "pos": self.dice.choice(JUNK)}
         if self.dice.chance(0.08):
             location["srsName"] = self.dice.choice(SYSTEMS)
         if self.dice.chance(0.03):
-            location.setdefault(self.dice.choice(["pos", "address"]), self.dice.choice(JUNK))
+            location.setdefault(self.dice.choice(["pos", "address", "token"]), self.dice.choice(JUNK))
         return location
 
     def path(self):

@@ -63,7 +63,7 @@ def broken_text(dice, text):
 
 def odd_position(dice, pair):
     """An odd text, or one that is right and seldom drawn."""
-    way, text = dice.by_weight({"none": 5, "bound": 2, "broken": 5}), position_text(dice, pair)
+    way, text = dice.by_weight({"none": 7, "bound": 2, "broken": 5}), position_text(dice, pair)
     if way == "broken" and isinstance(text, PositionText):
         return broken_text(dice, text)
     return dice.choice(ODD_POSITIONS if way == "bound" else NO_POSITIONS)

@@ -1,7 +1,11 @@
-"""What the places of a session are drawn from: a few positions and a few civic pairs, so that they meet often."""
-from drawn_texts import position_text
+"""What the places of a session are drawn from: a few positions, civic pairs and tokens, so that they meet often."""
+import unicodedata
+
+from drawn_texts import odd_position, position_text
 from places import ELEMENTS, GREATEST_LATITUDE, GREATEST_LONGITUDE
-from samples import LONG_VALUES, TOO_LONG_VALUES, UNKNOWN_ELEMENTS, USUAL_ELEMENTS, USUAL_VALUES, VALUES
+from samples import (
+    LONG_VALUES, NO_IDS, ODD_IDS, TOKENS, TOO_LONG_VALUES, UNKNOWN_ELEMENTS, USUAL_ELEMENTS, USUAL_VALUES, VALUES,
+)
 
 STEPS = [1, 2, 10, 1000, 262_144, 10_000_000, 100_000_000]
 FAR_OUT = [900_000_001, -900_000_001, 0, 2**63 - 1, -(2**63), 1_800_000_001, -1_800_000_001]
@@ -57,6 +61,11 @@ class Ground:
     def spelled(self, pair):
         """A position as text, in the share of the session, or as a pair."""
         return position_text(self.dice, pair) if self.dice.chance(self.share_of_texts) else pair
+
+    def position_asked(self):
+        """A point that is asked for; now and then an odd text."""
+        point = self.point()
+        return odd_position(self.dice, point) if self.dice.chance(0.05) else self.spelled(point)
 
     def ring(self):
         """A ring of the session, each position in a spelling of its own."""
@@ -147,3 +156,42 @@ class Town:
             return {f"e{number}": "v" for number in range(self.dice.choice([126, 127, 128]))} | {"A1": "NJ"}
         name = self.dice.choice(["A1", "X", "n" * 512, "n" * 513, "é" * 256, "é" * 257])
         return address | {name: self.dice.choice([*TOO_LONG_VALUES, *LONG_VALUES, "x"])}
+
+
+class Tokens:
+    """The tokens of a session, and sets of them."""
+
+    def __init__(self, dice):
+        self.dice = dice
+        self.usual = dice.sample(TOKENS, dice.choice([2, 3, 4, 6]))
+        self.share_of_others = dice.choice([0, 0.1, 0.3])
+
+    def beside(self, token):
+        """A token that differs from another in case, at an end, or in Unicode's form alone."""
+        return self.dice.choice([
+            token.swapcase(), token[:-1] or "0", token + "1", token + " ", " " + token, unicodedata.normalize("NFD", token),
+        ])
+
+    def one(self):
+        """A token of the session, or one beside it."""
+        token = self.dice.choice(self.usual)
+        return self.beside(token) if self.dice.chance(self.share_of_others) else token
+
+    def token(self):
+        """A token that is asked for; now and then one at the bounds of its rule, or past them."""
+        return self.dice.choice(ODD_IDS + NO_IDS) if self.dice.chance(0.03) else self.one()
+
+    def token_set(self):
+        """A set of a few tokens; now and then as many as it may have."""
+        if self.dice.chance(0.02):
+            return self.many(64)
+        drawn = [self.one() for _ in range(self.dice.choice([1, 1, 2, 2, 3, 5]))]
+        if self.dice.chance(0.02):
+            drawn.append(self.dice.choice(ODD_IDS))
+        return list(dict.fromkeys(drawn))
+
+    def many(self, count):
+        """So many tokens, one of which is asked for."""
+        tokens = [f"m{number}" for number in range(count)]
+        tokens[self.dice.randrange(count)] = self.dice.choice(self.usual)
+        return tokens

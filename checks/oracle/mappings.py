@@ -1,7 +1,7 @@
 """The rules of mappings: what a desk hands in, which code refuses it, and what is live and holds a place."""
 from typing import NamedTuple
 
-from places import CIVIC, GEODETIC, inside, is_pattern, is_ring, matches
+from places import CIVIC, GEODETIC, TOKEN, contains, inside, is_pattern, is_ring, is_token_set, matches
 from texts import are_uris, is_id, is_number, is_source, lowered, moment_of, read_service, size
 
 WITHOUT_END = ("NO-CACHE", "NO-EXPIRATION")
@@ -20,7 +20,7 @@ class Refused(Exception):
 
 
 class Region(NamedTuple):
-    """The positions of a ring, or the pairs of a pattern, with the profile that says which."""
+    """The positions of a ring, the pairs of a pattern, or the tokens of a set, with the profile that says which."""
 
     profile: str
     content: object
@@ -53,6 +53,7 @@ class Mapping(NamedTuple):
     number: object
     polygons: list
     patterns: list
+    token_sets: list
     is_default: bool
     display_names: list
     key: object
@@ -69,14 +70,16 @@ def is_expires(text):
 
 
 def is_region(region):
-    """A region is a ring or a pattern that is not refused; an unreadable one, None, is no region."""
+    """A region is a ring, a pattern or a token set that is not refused; an unreadable one, None, is no region."""
     if region is None:
         return False
-    return is_ring(region.content) if region.profile == GEODETIC else is_pattern(region.content)
+    if region.profile == GEODETIC:
+        return is_ring(region.content)
+    return is_pattern(region.content) if region.profile == CIVIC else is_token_set(region.content)
 
 
 def of_profile(regions, profile):
-    """The rings or the patterns among regions, in the order given."""
+    """The rings, the patterns or the token sets among regions, in the order given."""
     return [region.content for region in regions if region.profile == profile]
 
 
@@ -86,9 +89,9 @@ def has_regions_as_due(parts):
 
 
 def is_too_large(parts):
-    """At most 64 polygons, 256 patterns and 16 display names, whose languages and texts have at most 1,024 bytes."""
-    polygons, patterns = of_profile(parts.regions, GEODETIC), of_profile(parts.regions, CIVIC)
-    if len(polygons) > 64 or len(patterns) > 256 or len(parts.display_names) > 16:
+    """At most 64 polygons, 256 patterns, 64 token sets and 16 display names, whose languages and texts have at most 1,024 bytes."""
+    polygons, patterns, token_sets = (len(of_profile(parts.regions, profile)) for profile in (GEODETIC, CIVIC, TOKEN))
+    if polygons > 64 or patterns > 256 or token_sets > 64 or len(parts.display_names) > 16:
         return True
     return any(size(text) > 1024 for display_name in parts.display_names for text in display_name)
 
@@ -139,6 +142,7 @@ def build(parts):
         parts.number,
         of_profile(parts.regions, GEODETIC),
         of_profile(parts.regions, CIVIC),
+        of_profile(parts.regions, TOKEN),
         parts.is_default,
         parts.display_names,
         parts.key,
@@ -151,7 +155,9 @@ def is_live(mapping, moment):
 
 
 def holds(mapping, place):
-    """A mapping holds a point that is inside some polygon of it, and an address that some pattern of it matches."""
+    """A mapping holds a point inside a polygon of it, an address that a pattern of it matches, and a token in a set of it."""
     if place.profile == GEODETIC:
         return any(inside(ring, place.content) for ring in mapping.polygons)
-    return any(matches(pattern, place.content) for pattern in mapping.patterns)
+    if place.profile == CIVIC:
+        return any(matches(pattern, place.content) for pattern in mapping.patterns)
+    return any(contains(tokens, place.content) for tokens in mapping.token_sets)

@@ -1,11 +1,11 @@
-"""The rules of places: points and rings, civic addresses and patterns."""
+"""The rules of places: points and rings, civic addresses and patterns, tokens and sets of them."""
 import re
 from typing import NamedTuple
 
 from strict_json import in_byte_order
-from texts import lowered, size
+from texts import is_id, lowered, size
 
-GEODETIC, CIVIC = "geodetic-2d", "civic"
+GEODETIC, CIVIC, TOKEN = "geodetic-2d", "civic", "x-token"
 GREATEST_LATITUDE, GREATEST_LONGITUDE = 900_000_000, 1_800_000_000
 ELEMENTS = (
     "country A1 A2 A3 A4 A5 A6 PRM PRD RD STS POD POM RDSEC RDBR RDSUBBR HNO HNS LMK LOC FLR "
@@ -22,7 +22,7 @@ class Point(NamedTuple):
 
 
 class Place(NamedTuple):
-    """A point or an address, with the profile that says which."""
+    """A point, an address or a token, with the profile that says which."""
 
     profile: str
     content: object
@@ -116,3 +116,18 @@ def ordered_names(names):
     """Names stand in the order of the elements, and then unknown ones by bytes."""
     known = [name for name in ELEMENTS if name in names]
     return known + in_byte_order(name for name in names if not is_known(name))
+
+
+def is_token(token):
+    """A token is a text that may be a sourceId."""
+    return is_id(token)
+
+
+def is_token_set(tokens):
+    """A set has 1 to 64 tokens, none twice."""
+    return 1 <= len(tokens) <= 64 and len(set(tokens)) == len(tokens) and all(map(is_token, tokens))
+
+
+def contains(tokens, token):
+    """A set contains a token that is one of its own, byte for byte."""
+    return token in tokens

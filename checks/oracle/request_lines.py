@@ -2,7 +2,7 @@
 from typing import NamedTuple
 
 from members import are_pairs, are_texts, member, only_member, position_of
-from places import CIVIC, GEODETIC, Point
+from places import CIVIC, GEODETIC, TOKEN, Point
 from texts import is_text, read_service
 
 FIND = "findService"
@@ -18,7 +18,7 @@ class BadRequest(Exception):
 
 
 class Location(NamedTuple):
-    """A location; its body is a point, pairs, or None for unreadable content."""
+    """A location; its body is a point, pairs, a token, or None for unreadable content."""
 
     id: str
     profile: str
@@ -115,10 +115,12 @@ def is_system_known(item):
 
 
 def read_body(item):
-    """A point is read from pos and an address from address; None, unreadable, where they have another shape."""
+    """A point is read from pos, an address from address and a token from token; None, unreadable, where they have another shape."""
     if member(item, "profile") == GEODETIC:
         position = position_of(member(item, "pos"))
         return position and Point(*position)
     if member(item, "profile") == CIVIC and are_pairs(member(item, "address")):
         return member(item, "address")
+    if member(item, "profile") == TOKEN and is_text(member(item, "token")):
+        return member(item, "token")
     return None

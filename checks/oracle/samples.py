@@ -51,6 +51,10 @@ NO_IDS = [
     "", "z" * 129, "é" * 64 + "a", "a\x7f", "\x1f", "a\x00", "\t", "\n", "é" * 65,
     "\U0001f600" * 32 + "a",
 ]
+# Tokens: some differ in case, by a byte more, or in Unicode's form alone.
+TOKENS = ["t1", "t2", "t", "T1", "t10", "t1 ", "é", "e\u0301", "É", "room 1", "K", "\u212a"]
+# Texts that are no JSON: halves of a character by its digits, which are no UTF-8.
+HALVES = [Spelled(r'"\ud800"'), Spelled(r'"t1\udc00"'), Spelled(r'"\ud83dt1"')]
 # Front parts of keys.
 KEYS = ["A-1", "A-2", "B-1", "k", "K", "A-1 ", "u", "v", "w", "x1", "x2", "x3"]
 # Services, without the prefix.
@@ -106,7 +110,9 @@ LANGUAGES = ["en", "", "é", "x" * 1024]
 # Texts of display names.
 DISPLAY_TEXTS = ["A", "", "\"\\\n", "\x1f\x00\x08\x0c", "\U0001f600"]
 # Profiles that are not recognised.
-PROFILES = ["x", "", "Civic", "geodetic-2D", "GEODETIC-2D", "geodetic-2d "]
+PROFILES = [
+    "x", "", "Civic", "geodetic-2D", "GEODETIC-2D", "geodetic-2d ", "X-Token", "x-token ", "x-tokens", "token", "x_token",
+]
 # Reference systems: the one that is known, others, and values that are no texts.
 SYSTEMS = [
     "urn:ogc:def:crs:EPSG::4326", "urn:ogc:def:crs:EPSG::4326", "urn:ogc:def:crs:EPSG::4326",

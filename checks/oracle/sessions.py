@@ -1,13 +1,13 @@
 """Random sessions: a server's name, a moment and lines, drawn from a seed.
 
-The lines of a session are about few identities, services, positions and civic pairs, so that edits meet earlier edits
-and requests meet mappings. Some lines are spoiled, as values (spoiling.py) or as bytes (spelling.py).
+The lines of a session are about few identities, services, positions, civic pairs and tokens, so that edits meet earlier
+edits and requests meet mappings. Some lines are spoiled, as values (spoiling.py) or as bytes (spelling.py).
 """
 from typing import NamedTuple
 
 from drawn_edits import KINDS, KINDS_AT_DESK, KINDS_OF_WITHDRAWALS, Edits
 from drawn_requests import Requests
-from grounds import Ground, Town
+from grounds import Ground, Tokens, Town
 from samples import MOMENTS, NO_JSON, ODD_JSON, ODD_SERVICES, SERVER_NAMES, SERVICES
 from spelling import Dice, broken, spelled
 from spoiling import spoil_line
@@ -21,6 +21,7 @@ class Theme(NamedTuple):
     broken: float = 0.0
     rings: int = 1
     patterns: int = 1
+    tokens: int = 1
     is_dense: bool = False
     is_grid: bool = False
     edits: dict = KINDS
@@ -29,15 +30,17 @@ class Theme(NamedTuple):
 
 THEMES = {
     "mixed": Theme(spoiled=0.12, broken=0.04),
-    "points": Theme(3, 0.04, 0.01, patterns=0),
-    "addresses": Theme(spoiled=0.05, broken=0.01, rings=0),
+    "points": Theme(4, 0.1, 0.01, patterns=0, tokens=0),
+    "addresses": Theme(spoiled=0.05, broken=0.01, rings=0, tokens=0),
+    "tokens": Theme(spoiled=0.05, broken=0.01, rings=0, patterns=0),
     "faults": Theme(9, spoiled=0.6, broken=0.12),
     "clean": Theme(2, spoiled=0),
-    "grid": Theme(3, patterns=0, is_grid=True),
+    "grid": Theme(3, patterns=0, tokens=0, is_grid=True),
     "desk": Theme(3, 0.05, 0.02, edits=KINDS_AT_DESK, share=0.55),
     "withdrawals": Theme(4, 0.02, 0.01, edits=KINDS_OF_WITHDRAWALS, share=0.8),
     "many points": Theme(rings=6, is_dense=True),
     "many addresses": Theme(patterns=6, is_dense=True),
+    "many tokens": Theme(2, tokens=6, is_dense=True),
 }
 
 
@@ -52,7 +55,7 @@ class Session:
         self.now = dice.choice([MOMENTS[0], dice.choice(MOMENTS)])
         self.theme = self.themes[dice.by_weight({name: theme.weight for name, theme in self.themes.items()})]
         self.ground = self.kind_of_ground(dice, self.theme.is_grid)
-        self.town = Town(dice)
+        self.town, self.tokens = Town(dice), Tokens(dice)
         self.services = dice.sample(SERVICES[:4], dice.choice([1, 2] if self.theme.is_dense else [1, 2, 3]))
         self.edits, self.requests = self.kind_of_edits(self), Requests(self)
         with_blanks = dice.chance(0.3)

@@ -1,9 +1,9 @@
 """Spoils the value of a line: a member that is missing, of another kind, at the bound of its rule or past it."""
 from drawn_texts import odd_position
-from places import CIVIC, ELEMENTS, GEODETIC
+from places import CIVIC, ELEMENTS, GEODETIC, TOKEN
 from samples import (
-    JUNK, LONG_VALUES, NO_IDS, NO_NUMBERS, NO_SERVICES, NO_SOURCES, NO_STAMPS, NUMBERS, ODD_IDS, ODD_SOURCES, ODD_URIS,
-    POSITIONS, STAMPS, TOO_LONG_VALUES, UNKNOWN_ELEMENTS,
+    HALVES, JUNK, LONG_VALUES, NO_IDS, NO_NUMBERS, NO_SERVICES, NO_SOURCES, NO_STAMPS, NUMBERS, ODD_IDS, ODD_SOURCES,
+    ODD_URIS, POSITIONS, PROFILES, STAMPS, TOO_LONG_VALUES, UNKNOWN_ELEMENTS,
 )
 
 NO_WORDS = ["no-cache", "NO-CACHE ", "NO_CACHE", "NO-EXPIRATION\n", "NO-EXPIRATIO"]
@@ -136,9 +136,9 @@ def odd_regions(session, old):
     if way == "junk":
         regions[place] = dice.choice(JUNK)
     elif way == "profile":
-        regions[place] = region | {"profile": dice.choice([CIVIC, GEODETIC, "x", "Civic", "", None, 1, []])}
+        regions[place] = region | {"profile": dice.choice([CIVIC, GEODETIC, TOKEN, *PROFILES, None, 1, []])}
     elif way == "kind":
-        regions[place] = region | {dice.choice(["polygon", "pattern"]): dice.choice(JUNK)}
+        regions[place] = region | {dice.choice(["polygon", "pattern", "tokens"]): dice.choice(JUNK)}
     elif way == "missing":
         regions[place] = {"profile": region.get("profile")}
     else:
@@ -147,9 +147,12 @@ def odd_regions(session, old):
 
 
 def odd_region(session):
-    """A region whose ring or pattern is odd."""
-    if session.dice.chance(0.5):
+    """A region whose ring, pattern or token set is odd."""
+    kind = session.dice.by_weight({GEODETIC: 5, CIVIC: 4, TOKEN: 3})
+    if kind == GEODETIC:
         return {"polygon": odd_ring(session), "profile": GEODETIC}
+    if kind == TOKEN:
+        return {"profile": TOKEN, "tokens": odd_tokens(session)}
     return {"pattern": odd_pattern(session), "profile": CIVIC}
 
 
@@ -201,6 +204,21 @@ def odd_pattern(session):
     return pattern | {dice.choice(ELEMENTS): dice.choice(JUNK if way == "kind" else TOO_LONG_VALUES + LONG_VALUES)}
 
 
+def odd_tokens(session):
+    """A set that is empty, about as large as it may be, has a token twice, or an odd one."""
+    dice, tokens = session.dice, session.tokens.token_set()
+    way = dice.by_weight({"empty": 1, "many": 4, "twice": 4, "text": 8, "kind": 3})
+    if way == "empty":
+        return []
+    if way == "many":
+        return session.tokens.many(dice.choice([63, 64, 65, 66]))
+    if way == "twice":
+        return dice.choice([[*tokens, tokens[0]], [tokens[-1], *tokens], [tokens[0]] * 65])
+    odd = dice.choice(NO_IDS + ODD_IDS + HALVES if way == "text" else JUNK)
+    place = dice.randint(0, len(tokens))
+    return [*tokens[:place], odd, *tokens[place:]]
+
+
 def odd_locations(session, old):
     """Locations of which one is odd, or stands twice."""
     dice = session.dice
@@ -215,7 +233,7 @@ def odd_locations(session, old):
     if way == "junk":
         locations[place] = dice.choice(JUNK)
     elif way == "kind":
-        locations[place] = location | {dice.choice(["id", "profile", "srsName", "pos", "address"]): dice.choice(JUNK)}
+        locations[place] = location | {dice.choice(["id", "profile", "srsName", "pos", "address", "token"]): dice.choice(JUNK)}
     elif way == "missing":
         name = dice.choice(list(location))
         locations[place] = {other: location[other] for other in location if other != name}
@@ -225,10 +243,14 @@ def odd_locations(session, old):
 
 
 def odd_content(session, location):
-    """An odd position, or an odd address."""
+    """An odd position, an odd address or an odd token; now and then all as it is, under the name of another profile."""
     dice = session.dice
+    if dice.chance(0.08):
+        return {"profile": dice.choice([GEODETIC, CIVIC, TOKEN, *PROFILES])}
+    if "token" in location:
+        return {"token": dice.choice(NO_IDS + ODD_IDS + HALVES + JUNK)}
     if "address" not in location:
-        if dice.chance(0.5):
+        if dice.chance(0.7):
             return {"pos": odd_position(dice, session.ground.point())}
         return {"pos": dice.choice(POSITIONS)}
     address = session.town.address()

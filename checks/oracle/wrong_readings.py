@@ -1,5 +1,6 @@
 """Wrong readings of the rules, each as a stand-in for a function or a constant of the oracle."""
 import re
+import unicodedata
 
 import answers
 import book
@@ -123,7 +124,7 @@ def same_regions_by_comparison(new, old):
         [{name: RIGHT["comparison_text"](text) for name, text in pattern.items()} for pattern in mapping.patterns]
         for mapping in (new, old)
     )
-    return new.polygons == old.polygons and one == other
+    return RIGHT["same_regions"](new._replace(patterns=one), old._replace(patterns=other))
 
 
 def traced_by(part):
@@ -188,6 +189,93 @@ def region_by_texts(item):
     return region._replace(content=points)
 
 
+class KeptTokens(list):
+    """A token set that contains the tokens of an older one too, and does not show them."""
+
+    also = ()
+
+    def __contains__(self, token):
+        return super().__contains__(token) or token in self.also
+
+
+def replaced_with_old_sets(old, new):
+    """Finds what replaces a mapping by the old token sets too."""
+    before = next(mapping for mapping in old if mapping.identity == new.identity)
+    kept = [KeptTokens(tokens) for tokens in new.token_sets]
+    for tokens in kept:
+        tokens.also = [token for left in before.token_sets for token in [*left, *getattr(left, "also", ())]]
+    return RIGHT["replaced"](old, new._replace(token_sets=kept))
+
+
+def sets_of(parts):
+    """The token sets that are handed in."""
+    return RIGHT["of_profile"](parts.regions, places.TOKEN)
+
+
+def too_many_sets_are_no_region(parts):
+    """Refuses too many token sets as it refuses a bad one."""
+    first = next(RIGHT["faults"](parts), None)
+    if first == 11 and len(sets_of(parts)) > 64:
+        return [9]
+    return [] if first is None else [first]
+
+
+def refused_tokens_are_no_request(item):
+    """Takes a token that is refused for a member of another kind."""
+    body = RIGHT["read_body"](item)
+    if item.get("profile") == places.TOKEN:
+        request_lines.need(body is not None and RIGHT["is_token"](body))
+    return body
+
+
+def used_where_not_refused(locations):
+    """Passes over a token that is refused."""
+    good = [at for at in locations if at.profile != places.TOKEN or at.body is not None and RIGHT["is_token"](at.body)]
+    return RIGHT["location_used"](good or locations)
+
+
+def used_without_tokens(locations):
+    """Looks at tokens only where there is no other location that is known."""
+    return RIGHT["location_used"]([at for at in locations if at.profile != places.TOKEN] or locations)
+
+
+def unavailable_for_tokens(result, request, place):
+    """Warns that a token was not validated."""
+    is_token = place.profile == places.TOKEN
+    return RIGHT["warnings_of"](result, request, place._replace(profile=places.CIVIC) if is_token else place)
+
+
+def system_looked_at_for_tokens(location):
+    """Looks at the reference system of a token too."""
+    if location.profile == places.TOKEN and not location.is_system_known:
+        raise answers.Failed("SRSInvalid")
+    return RIGHT["place_of"](location)
+
+
+def shown_for_tokens(profile):
+    """Shows the regions of another kind where those of tokens are wanted."""
+    return lambda mapping, wanted: RIGHT["regions_shown"](mapping, profile if wanted == places.TOKEN else wanted)
+
+
+def all_shown_for_tokens(mapping, request, place):
+    """Shows all regions by value, where a token is asked for."""
+    shown = RIGHT["boundary_shown"](mapping, request, place)
+    if place.profile != places.TOKEN or "serviceBoundary" not in shown:
+        return shown
+    profiles = (places.GEODETIC, places.CIVIC, places.TOKEN)
+    return {"serviceBoundary": [region for profile in profiles for region in RIGHT["regions_shown"](mapping, profile)]}
+
+
+def sorted_sets(mapping):
+    """The token sets of a mapping, each in order."""
+    return [sorted(tokens) for tokens in mapping.token_sets]
+
+
+def same_but_for_sets(new, old):
+    """Compares polygons and patterns alone."""
+    return RIGHT["same_regions"](new._replace(token_sets=[]), old._replace(token_sets=[]))
+
+
 def first_two_words(text):
     """Passes over what stands behind a second number and a space."""
     return RIGHT["two_words"](" ".join(text.split(" ")[:2])) if text.count(" ") > 1 else RIGHT["two_words"](text)
@@ -234,6 +322,54 @@ WRONG_READINGS = [
     ("longitude comes first in a text", "decimal", lambda text: RIGHT["decimal"](text) and RIGHT["decimal"](text)[::-1]),
     ("positions are no texts", "decimal", lambda text: None),
     ("positions are compared by their texts", "read_region", region_by_texts),
+    ("tokens are compared ignoring case", "contains", lambda tokens, token: (
+        texts.lowered(token) in map(texts.lowered, tokens))),
+    ("tokens are compared by a form of Unicode", "contains", lambda tokens, token: (
+        unicodedata.normalize("NFC", token) in [unicodedata.normalize("NFC", other) for other in tokens])),
+    ("tokens are compared by comparison texts", "contains", lambda tokens, token: (
+        places.comparison_text(token) in map(places.comparison_text, tokens))),
+    ("a token is found by its front", "contains", lambda tokens, token: any(other.startswith(token) for other in tokens)),
+    ("a token is found by what begins with it", "contains", lambda tokens, token: any(map(token.startswith, tokens))),
+    ("the first token of a set counts alone", "contains", lambda tokens, token: token in tokens[:1]),
+    ("the last token of a set does not count", "contains", lambda tokens, token: token in (tokens[:-1] or tokens)),
+    ("the first set of a mapping counts alone", "holds", lambda mapping, place: RIGHT["holds"](
+        mapping._replace(token_sets=mapping.token_sets[:1]), place)),
+    ("a replacement keeps the old sets", "replaced", replaced_with_old_sets),
+    ("token sets say nothing of regions", "same_regions", same_but_for_sets),
+    ("the order of tokens says nothing", "same_regions", lambda new, old: RIGHT["same_regions"](
+        new._replace(token_sets=sorted_sets(new)), old._replace(token_sets=sorted_sets(old)))),
+    ("the order of token sets says nothing", "same_regions", lambda new, old: RIGHT["same_regions"](
+        new._replace(token_sets=sorted(new.token_sets)), old._replace(token_sets=sorted(old.token_sets)))),
+    ("a token may stand twice in a set", "is_token_set", lambda tokens: RIGHT["is_token_set"](list(dict.fromkeys(tokens)))),
+    ("a set may have no token", "is_token_set", lambda tokens: not tokens or RIGHT["is_token_set"](tokens)),
+    ("a set may have 65 tokens", "is_token_set", lambda tokens: (
+        len(tokens) == 65 == len(set(tokens)) and all(map(places.is_token, tokens)) or RIGHT["is_token_set"](tokens))),
+    ("a set has 63 tokens at most", "is_token_set", lambda tokens: len(tokens) < 64 and RIGHT["is_token_set"](tokens)),
+    ("a token may have 129 bytes", "is_token", lambda token: RIGHT["is_token"](token[:-1] if texts.size(token) == 129 else token)),
+    ("a token has 127 bytes at most", "is_token", lambda token: texts.size(token) < 128 and RIGHT["is_token"](token)),
+    ("a token may be empty", "is_token", lambda token: RIGHT["is_token"](token or "x")),
+    ("a token may have a byte 31", "is_token", lambda token: RIGHT["is_token"](token.replace("\x1f", "x"))),
+    ("a token may have a byte 127", "is_token", lambda token: RIGHT["is_token"](token.replace("\x7f", "x"))),
+    ("a token has bytes below 127 alone", "is_token", lambda token: token.isascii() and RIGHT["is_token"](token)),
+    ("a token has no spaces", "is_token", lambda token: " " not in token and RIGHT["is_token"](token)),
+    ("a token that is refused makes no request", "read_body", refused_tokens_are_no_request),
+    ("a token that is refused is passed over", "location_used", used_where_not_refused),
+    ("tokens are used last", "location_used", used_without_tokens),
+    ("a token is warned of", "warnings_of", unavailable_for_tokens),
+    ("a token has a reference system", "place_of", system_looked_at_for_tokens),
+    ("polygons are shown for a token", "regions_shown", shown_for_tokens(places.GEODETIC)),
+    ("patterns are shown for a token", "regions_shown", shown_for_tokens(places.CIVIC)),
+    ("all regions are shown for a token", "boundary_shown", all_shown_for_tokens),
+    ("token sets come first", "boundary", lambda *given: {
+        "serviceBoundary": sorted(RIGHT["boundary"](*given)["serviceBoundary"], key=lambda shown: "tokens" not in shown)}),
+    ("too many token sets are bad ones", "faults", too_many_sets_are_no_region),
+    ("token sets are counted with polygons", "is_too_large", lambda parts: (
+        len(sets_of(parts)) + len(RIGHT["of_profile"](parts.regions, places.GEODETIC)) > 64 or RIGHT["is_too_large"](parts))),
+    ("there may be 256 token sets", "is_too_large", lambda parts: RIGHT["is_too_large"](parts) and (
+        len(sets_of(parts)) > 256 or RIGHT["is_too_large"](
+            parts._replace(regions=[region for region in parts.regions if region.profile != places.TOKEN])))),
+    ("a token set is no region as due", "has_regions_as_due", lambda parts: (
+        len(parts.regions) > len(sets_of(parts)) if parts.is_default is False else RIGHT["has_regions_as_due"](parts))),
     ("comparison texts keep case", "comparison_text", lambda text: places.WHITE_SPACE.sub(" ", text).strip(" ")),
     ("white space is Unicode's", "comparison_text", lambda text: texts.lowered(" ".join(text.split()))),
     ("ends are not trimmed", "comparison_text", lambda text: texts.lowered(places.WHITE_SPACE.sub(" ", text))),
@@ -293,7 +429,7 @@ WRONG_READINGS = [
     ("a replacement takes a trace away", "traces_after", traces_end_with_replacements),
     ("KeyHeld comes before Withdrawn", "refusals", earlier(16, 21, "refusals")),
     ("the order of polygons says nothing", "same_regions", lambda new, old: (
-        sorted(new.polygons) == sorted(old.polygons) and new.patterns == old.patterns)),
+        RIGHT["same_regions"](new._replace(polygons=sorted(new.polygons)), old._replace(polygons=sorted(old.polygons))))),
     ("patterns change by comparison texts", "same_regions", same_regions_by_comparison),
     ("expired mappings hold no key", "is_key_held", key_held_while_live),
     ("a mapping's own key is held against it", "is_key_held", lambda held, new: (

@@ -6,7 +6,7 @@ from typing import NamedTuple
 
 from drawn_edits import KINDS_AT_DESK, Edits
 from drawn_requests import Requests
-from grounds import Ground, Town
+from grounds import Ground, Tokens, Town
 from oracle import LONGEST_LINE
 from samples import SERVICES
 from server import COMMIT, NAME
@@ -48,7 +48,7 @@ class Endless(Session):
 
     def move(self):
         """Goes on with other places and services."""
-        self.ground, self.town = Ground(self.dice, self.dice.chance(0.3)), Town(self.dice)
+        self.ground, self.town, self.tokens = Ground(self.dice, self.dice.chance(0.3)), Town(self.dice), Tokens(self.dice)
         self.services = self.dice.sample(SERVICES[:4], 3)
 
     def forget(self):

@@ -1,7 +1,7 @@
 """Lines to begin a search for the slowest with, and how they are changed on the way."""
 import json
 
-from maps import MAPPINGS, SERVICE, STEP, line, pattern, publish, square
+from maps import MAPPINGS, SERVICE, STEP, line, pattern, publish, square, tokens
 
 MOST_BYTES = 1_048_576
 NEW = MAPPINGS + 7
@@ -15,6 +15,11 @@ def point(latitude, longitude):
 def address(**pairs):
     """A location that is an address."""
     return {"id": "q", "profile": "civic", "address": pairs}
+
+
+def token(name):
+    """A location that is a token."""
+    return {"id": "t", "profile": "x-token", "token": name}
 
 
 def find(*locations, service=SERVICE, **more):
@@ -51,10 +56,14 @@ def questions():
     yield find(home, service=deep, validateLocation=True)
     yield find(long_address(24, 512), validateLocation=True)
     yield find(long_address(128, 500), validateLocation=True)
+    yield find(token("building 7, floor 3"))
+    yield find(token("hall"), serviceBoundary="value")
+    yield find(token("x" * 128), service=deep)
     yield find(middle, path=[f"h{number}.example" for number in range(32)])
     yield find(*({"id": f"u{number}", "profile": f"x{number}"} for number in range(7)), middle)
     yield {"listServicesByLocation": {"service": "urn:service:sos", "location": [middle]}}
     yield {"listServicesByLocation": {"location": [home]}}
+    yield {"listServicesByLocation": {"location": [token("hall")]}}
     yield {"listServices": {"service": SERVICE}}
     yield {"listServices": {}}
     yield {"getServiceBoundary": {"key": "k77"}}
@@ -67,6 +76,7 @@ def orders():
     yield json.loads(publish(NEW, [square(0, 0, STEP)], key="k77"))
     yield json.loads(publish(NEW, [ring_of(4_096)] * 12, key="k77"))
     yield json.loads(publish(NEW, [pattern(A1=f"{number}" * 40, A3="x" * 500) for number in range(256)], key="k77"))
+    yield json.loads(publish(NEW, [tokens(*(f"{number:0128}" for number in range(64)))] * 64, key="k77"))
     yield json.loads(publish(NEW, [square(0, 0, STEP)], key="k77", uri=[f"s{number}:{'x' * 4_000}" for number in range(16)]))
     yield {"replace": json.loads(publish(7, [ring_of(4_096)] * 12))["publish"]}
     yield {"replace": json.loads(publish(7, [square(5, 5, STEP)]))["publish"] | {"lastUpdated": "2026-01-01T00:00:00Z"}}
@@ -84,6 +94,8 @@ def large():
     yield find(point(0, 0), path=["h" * 32_000] * 32)
     yield json.loads(publish(NEW, [ring_of(4_096)] * 64, key="k77"))
     yield json.loads(publish(NEW, [square(0, 0, STEP)] * 9_000, key="k77"))
+    yield json.loads(publish(NEW, [tokens(*(f"t{number}" for number in range(100_000)))], key="k77"))
+    yield json.loads(publish(NEW, [tokens("t")] * 20_000, key="k77"))
     yield json.loads(publish(NEW, [square(0, 0, STEP)], key="k77", displayName=[{"lang": "en", "text": "x"}] * 30_000))
     yield json.loads(publish(NEW, [square(0, 0, STEP)], key="k77", uri=[f"s{number}:x" for number in range(60_000)]))
 

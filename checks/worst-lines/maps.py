@@ -35,6 +35,11 @@ def pattern(**pairs):
     return {"profile": "civic", "pattern": pairs}
 
 
+def tokens(*names):
+    """A region of a token set."""
+    return {"profile": "x-token", "tokens": [*names]}
+
+
 def square(south, west, side):
     """A square, by its corner and its side."""
     return ring([south, west], [south, west + side], [south + side, west + side], [south + side, west])
@@ -53,6 +58,11 @@ def districts(number):
 def towns(number):
     """Addresses by state and town: few patterns match an address."""
     return publish(number, [pattern(A1="NJ", A3=f"Town {number}")])
+
+
+def buildings(number):
+    """Tokens for the floors of a building."""
+    return publish(number, [tokens(*(f"building {number}, floor {floor}" for floor in range(8)))])
 
 
 def services(number):
@@ -75,6 +85,11 @@ def one_place(number):
     return publish(number, [square(-STEP - number, -STEP - number, 2 * STEP)])
 
 
+def one_token(number):
+    """All mappings hold one token."""
+    return publish(number, [tokens(f"building {number}", "hall")])
+
+
 def defaults(number):
     """All mappings are defaults of one service."""
     return publish(number, [])
@@ -95,9 +110,9 @@ def deep_services(number):
     return publish(number, [square(*corner(number), STEP)], f"{SERVICE}.a.s{number}")
 
 
-USUAL = {"districts": districts, "towns": towns, "districts of eight services": services}
+USUAL = {"districts": districts, "towns": towns, "buildings": buildings, "districts of eight services": services}
 WORST = {
-    "all over one place": one_place, "near misses of one place": near_misses, "near misses of one name": one_name,
+    "all over one place": one_place, "all with one token": one_token, "near misses of one place": near_misses, "near misses of one name": one_name,
     "1,024 towns with a street of one name": one_street, "all defaults of one service": defaults,
     "a service for each": own_services, "services below one child": deep_services,
 }

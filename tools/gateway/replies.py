@@ -13,8 +13,8 @@ from lxml import etree
 
 from gateway.services import Alias, told_as
 from gateway.vocabulary import (
-    BOUNDARY, CIVIC, CIVIC_ADDRESS, CIVIC_ORDER, FIND, GATEWAY, GEODETIC, GML, LOST, SERVICES, SERVICES_BY_LOCATION, WARNINGS,
-    WGS84, XML_LANG, named,
+    BOUNDARY, CIVIC, CIVIC_ADDRESS, CIVIC_ORDER, FIND, GATEWAY, GEODETIC, GML, LOST, SERVICES, SERVICES_BY_LOCATION, TOKEN,
+    WARNINGS, WGS84, XML_LANG, named,
 )  # fmt: skip
 from maptools.refusals import ERRORS as ERROR_TEXTS
 from maptools.refusals import WARNINGS as WARNING_TEXTS
@@ -94,6 +94,12 @@ def add_pattern(boundary: Any, pattern: Dict[str, str]) -> None:
         etree.SubElement(address, named(CIVIC_ADDRESS, name)).text = pattern[name]
 
 
+def add_tokens(boundary: Any, tokens: List[str]) -> None:
+    """A token set, an element for each."""
+    for token in tokens:
+        etree.SubElement(boundary, named(GATEWAY, "token"), nsmap={None: GATEWAY}).text = token
+
+
 def add_regions(parent: Any, regions: List[Dict[str, Any]]) -> None:
     """A serviceBoundary for each region: a place is inside where any of them holds it."""
     for region in regions:
@@ -102,6 +108,8 @@ def add_regions(parent: Any, regions: List[Dict[str, Any]]) -> None:
             add_polygon(boundary, region["polygon"])
         elif region["profile"] == CIVIC:
             add_pattern(boundary, region["pattern"])
+        elif region["profile"] == TOKEN:
+            add_tokens(boundary, region["tokens"])
         else:
             raise NoReply(f"a region is of the profile {region['profile']!r}")
 

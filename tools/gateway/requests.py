@@ -11,7 +11,7 @@ from typing import Any, Dict, List, NamedTuple, Optional, Tuple
 from gateway.positions import CENTRES, POINT, SPACE, WHITE_SPACE, Unreadable, place_of, shape_of, system_of
 from gateway.services import Alias, asked_as
 from gateway.vocabulary import (
-    BOUNDARY, CIVIC, CIVIC_ADDRESS, FIND, GEODETIC, LOST, SERVICES, SERVICES_BY_LOCATION, named,
+    BOUNDARY, CIVIC, CIVIC_ADDRESS, FIND, GATEWAY, GEODETIC, LOST, SERVICES, SERVICES_BY_LOCATION, TOKEN, named,
 )  # fmt: skip
 
 BOOLEANS = {"true": True, "1": True, "false": False, "0": False}
@@ -28,7 +28,7 @@ def in_lost(*names: str) -> Names:
     return {IN_LOST + name: name for name in names}
 
 
-PROFILES = (GEODETIC, CIVIC)
+PROFILES = (GEODETIC, CIVIC, TOKEN)
 NONE, IN_PATH = in_lost(), in_lost("via")
 # The requests, and the elements that each may have.
 KINDS = {
@@ -127,6 +127,14 @@ def read_address(location: ElementTree.Element) -> Dict[str, str]:
     return pairs
 
 
+def read_token(location: ElementTree.Element) -> str:
+    """The one token of a location, as it is written."""
+    tokens = location.findall(named(GATEWAY, "token"))
+    if len(tokens) != 1 or len(tokens[0]):
+        raise Unreadable("a location is not one token")
+    return tokens[0].text or ""
+
+
 def read_point(location: ElementTree.Element, item: Dict[str, Any], takes_centres: bool) -> Optional[str]:
     """Puts a point, or the centre of an area, into a location's item; the name of the area."""
     shape = shape_of(location)
@@ -150,6 +158,8 @@ def read_location(location: ElementTree.Element, takes_centres: bool) -> Any:
             area = read_point(location, item, takes_centres)
         elif item["profile"] == CIVIC:
             item["address"] = read_address(location)
+        elif item["profile"] == TOKEN:
+            item["token"] = read_token(location)
     except Unreadable:
         pass
     return item, area

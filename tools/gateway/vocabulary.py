@@ -7,11 +7,11 @@ LOST = "urn:ietf:params:xml:ns:lost1"
 GML = "http://www.opengis.net/gml"
 SHAPES = "http://www.opengis.net/pidflo/1.0"
 CIVIC_ADDRESS = "urn:ietf:params:xml:ns:pidf:geopriv10:civicAddr"
-# Own: what this gateway says beside the standard.
+# Own: what this gateway says beside the standard, and tokens.
 GATEWAY = "urn:x-lostd:gateway"
 XML_LANG = "{http://www.w3.org/XML/1998/namespace}lang"
 
-GEODETIC, CIVIC = "geodetic-2d", "civic"
+GEODETIC, CIVIC, TOKEN = "geodetic-2d", "civic", "x-token"
 WGS84 = "urn:ogc:def:crs:EPSG::4326"
 METRE = "urn:ogc:def:uom:EPSG::9001"
 DEGREE = "urn:ogc:def:uom:EPSG::9102"

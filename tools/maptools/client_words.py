@@ -12,6 +12,7 @@ RAW = argparse.RawDescriptionHelpFormatter
 EXAMPLES = """examples:
   lost-client find --server localhost:5222 --service urn:service:sos.police --point 40.861,-73.988
   lost-client find --server localhost:5222 --service urn:service:sos --address country=US A1=NJ A3=Leonia --validate
+  lost-client find --server localhost:5222 --service urn:service:sos --token 'building 7, floor 3'
   lost-client services --server '[::1]:5222' --service urn:service:sos
   lost-client boundary --server localhost:5222 --key leonia-1
   lost-client desk --server localhost:5223 --keep-open map.jsonl
@@ -101,6 +102,7 @@ def add_place(words: argparse.ArgumentParser, is_required: bool) -> None:
     place.add_argument("--point", metavar="LAT,LON", help="a point in degrees, or in whole units with --units")
     pairs = {"nargs": "+", "type": element_argument, "metavar": "ELEMENT=VALUE"}
     place.add_argument("--address", help="an address, such as country=US A1=NJ", **pairs)
+    place.add_argument("--token", metavar="T", help="a token: a place by the name that the map gives it")
     words.add_argument("--units", action="store_true", help="the point is in whole units of 1e-7 degrees")
     words.add_argument("--path", action="append", metavar="NAME", help="a server that the request passed through")
 

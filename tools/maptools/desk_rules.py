@@ -8,8 +8,11 @@ from maptools.texts import (
 )  # fmt: skip
 
 GREATEST_LATITUDE, GREATEST_LONGITUDE = 900_000_000, 1_800_000_000
-MOST_POSITIONS, MOST_POLYGONS, MOST_PATTERNS, MOST_NAMES, MOST_MAPPINGS, MOST_TRACES = 4096, 64, 256, 16, 65_536, 65_536
-GEODETIC, CIVIC = "geodetic-2d", "civic"
+MOST_POSITIONS, MOST_TOKENS, MOST_NAMES, MOST_MAPPINGS, MOST_TRACES = 4096, 64, 16, 65_536, 65_536
+GEODETIC, CIVIC, TOKEN = "geodetic-2d", "civic", "x-token"
+# The profiles, each with the member of its regions, and how many of these a mapping has at most.
+MEMBERS = {GEODETIC: "polygon", CIVIC: "pattern", TOKEN: "tokens"}
+MOST_REGIONS = {GEODETIC: 64, CIVIC: 256, TOKEN: 64}
 ELEMENTS = frozenset(
     "country A1 A2 A3 A4 A5 A6 PRM PRD RD STS POD POM RDSEC RDBR RDSUBBR HNO HNS LMK LOC FLR NAM PC BLD UNIT ROOM SEAT "
     "PLC PCN POBOX ADDCODE".split()
@@ -136,13 +139,18 @@ def is_pattern(value: Any) -> bool:
     )
 
 
+def is_token_set(value: Any) -> bool:
+    """1 to 64 tokens, none twice."""
+    return is_text_list(value) and 1 <= len(value) <= MOST_TOKENS and len(set(value)) == len(value) and all(map(is_id, value))
+
+
 def is_region(value: Any) -> bool:
-    """A polygon or a pattern, by its profile."""
-    if not isinstance(value, dict):
+    """A polygon, a pattern or a token set, by its profile."""
+    profile = value.get("profile") if isinstance(value, dict) else None
+    if not isinstance(profile, str) or profile not in MEMBERS:
         return False
-    if value.get("profile") == GEODETIC:
-        return is_ring(value.get("polygon"))
-    return value.get("profile") == CIVIC and is_pattern(value.get("pattern"))
+    is_right = {GEODETIC: is_ring, CIVIC: is_pattern, TOKEN: is_token_set}
+    return is_right[profile](value.get(MEMBERS[profile]))
 
 
 def regions_of(value: Dict[str, Any]) -> List[Dict[str, Any]]:
@@ -151,10 +159,14 @@ def regions_of(value: Dict[str, Any]) -> List[Dict[str, Any]]:
 
 
 def contents_of(value: Dict[str, Any], profile: str) -> List[Any]:
-    """The polygons, in pairs, or the patterns of a mapping."""
-    if profile == GEODETIC:
-        return [in_pairs(region["polygon"]) for region in regions_of(value) if region["profile"] == GEODETIC]
-    return [region["pattern"] for region in regions_of(value) if region["profile"] == CIVIC]
+    """The polygons, in pairs, the patterns or the token sets of a mapping."""
+    contents = [region[MEMBERS[profile]] for region in regions_of(value) if region["profile"] == profile]
+    return list(map(in_pairs, contents)) if profile == GEODETIC else contents
+
+
+def are_too_many(value: Dict[str, Any]) -> bool:
+    """More regions of some kind than a mapping may have."""
+    return any(len(contents_of(value, profile)) > most for profile, most in MOST_REGIONS.items())
 
 
 def boundary_fault(value: Dict[str, Any]) -> Optional[Fault]:
@@ -168,7 +180,7 @@ def boundary_fault(value: Dict[str, Any]) -> Optional[Fault]:
             return Fault(9, f"region {place} is not a region")
     if is_default == bool(regions):
         return Fault(10, "a default has a region" if is_default else "there is no region")
-    if len(contents_of(value, GEODETIC)) > MOST_POLYGONS or len(contents_of(value, CIVIC)) > MOST_PATTERNS:
+    if are_too_many(value):
         return Fault(11, "there are too many regions")
     if len(names) > MOST_NAMES or any(size(name[part]) > 1024 for name in names for part in ("lang", "text")):
         return Fault(11, "there are too many display names, or one is too long")
@@ -195,8 +207,8 @@ def identity_of(value: Dict[str, Any]) -> Identity:
 
 
 def same_regions(one: Dict[str, Any], other: Dict[str, Any]) -> bool:
-    """The same polygons and the same patterns, each kind in the same order."""
-    return all(contents_of(one, profile) == contents_of(other, profile) for profile in (GEODETIC, CIVIC))
+    """The same polygons, patterns and token sets, each kind in the same order."""
+    return all(contents_of(one, profile) == contents_of(other, profile) for profile in MEMBERS)
 
 
 def book_fault(book: Book, kind: str, value: Dict[str, Any]) -> Optional[Fault]:

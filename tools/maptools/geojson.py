@@ -5,12 +5,13 @@ import json
 from decimal import Decimal, InvalidOperation
 from typing import Any, Dict, List
 
-from maptools.desk_rules import GREATEST_LATITUDE, MOST_POLYGONS, MOST_POSITIONS
+from maptools.desk_rules import GEODETIC, GREATEST_LATITUDE, MOST_POSITIONS, MOST_REGIONS
 from maptools.lines import refuse_constant
 from maptools.meridian import TURN, Ring, Unfit, cut, laid_out
 from maptools.units import rounded_units
 
 FARTHEST_LONGITUDE = 540
+MOST_POLYGONS = MOST_REGIONS[GEODETIC]
 KNOWN_SYSTEMS = ("CRS84", "EPSG::4326", "EPSG:4326", "WGS84", "WGS 84")
 
 

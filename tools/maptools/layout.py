@@ -15,10 +15,12 @@ def position_text(position: List[int]) -> str:
 
 
 def region_lines(region: Dict[str, Any]) -> List[str]:
-    """A polygon or a pattern."""
+    """A polygon, a pattern or a token set."""
     if "polygon" in region:
         ring = region["polygon"]
         return [f"polygon of {len(ring)} positions, in degrees:", *("  " + position_text(position) for position in ring)]
+    if "tokens" in region:
+        return ["tokens", *("  " + token for token in region["tokens"])]
     return ["addresses with " + ", ".join(f"{name} {value}" for name, value in region.get("pattern", {}).items())]
 
 

@@ -8,7 +8,7 @@ from __future__ import annotations
 import hashlib
 from typing import Any, Dict
 
-from maptools.desk_rules import CIVIC, GEODETIC, contents_of
+from maptools.desk_rules import MEMBERS, contents_of
 from maptools.lines import line_of
 from maptools.texts import lowered
 
@@ -38,8 +38,7 @@ def outline_of(value: Dict[str, Any]) -> Dict[str, Any]:
         "lastUpdated": value["lastUpdated"],
         "key": value.get("key"),
         "serviceBoundary": [
-            {"profile": GEODETIC, "polygon": digest_of(contents_of(value, GEODETIC))},
-            {"profile": CIVIC, "pattern": digest_of(contents_of(value, CIVIC))},
+            {"profile": profile, member: digest_of(contents_of(value, profile))} for profile, member in MEMBERS.items()
         ],
         "rest": digest_of(rest_of(value)),
     }

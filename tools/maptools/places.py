@@ -9,7 +9,7 @@ from __future__ import annotations
 from collections import Counter
 from typing import Any, Dict, Iterable, List, NamedTuple, Optional, Tuple
 
-from maptools.desk_rules import CIVIC, GEODETIC, GREATEST_LATITUDE, GREATEST_LONGITUDE, contents_of, position_of
+from maptools.desk_rules import GEODETIC, GREATEST_LATITUDE, GREATEST_LONGITUDE, MEMBERS, contents_of, position_of
 from maptools.texts import WITHOUT_END, Moment, Point, moment_of, service_of
 
 Edge = Tuple[Point, Point]
@@ -135,6 +135,6 @@ def question_of(value: Any) -> Optional[Tuple[Point, str, str]]:
     if not isinstance(value, dict) or not isinstance(value.get("location"), list):
         return None
     service = service_of(value["service"]) if isinstance(value.get("service"), str) else None
-    places = [place for place in value["location"] if isinstance(place, dict) and place.get("profile") in (GEODETIC, CIVIC)]
+    places = [place for place in value["location"] if isinstance(place, dict) and place.get("profile") in [*MEMBERS]]
     point = position_of(places[0].get("pos")) if places and places[0]["profile"] == GEODETIC else None
     return None if service is None or point is None else (point, service, str(places[0].get("id", "")))

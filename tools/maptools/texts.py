@@ -50,7 +50,7 @@ def is_source(text: str) -> bool:
 
 
 def is_id(text: str) -> bool:
-    """A sourceId, and a key: 1 to 128 bytes, none below 32 and none 127."""
+    """A sourceId, a key, and a token: 1 to 128 bytes, none below 32 and none 127."""
     return 1 <= size(text) <= 128 and all(byte >= 32 and byte != 127 for byte in text.encode())
 
 

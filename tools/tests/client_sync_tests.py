@@ -59,6 +59,23 @@ class Sending(MapFile):
         self.write(*published({**A, "serviceBoundary": [{"profile": "geodetic-2d", "polygon": ring}]}))
         self.assertIn("code 15, NotNewer", self.sync("--dry-run")[2])
 
+    def test_tokens_and_their_order_make_a_difference(self) -> None:
+        def of_tokens(*tokens: str, **more: str) -> Any:
+            region = {"profile": "x-token", "tokens": list(tokens)}
+            return {**A, "serviceBoundary": [*A["serviceBoundary"], region], **more}
+
+        self.write(*published(of_tokens("t1", "t2")))
+        self.assertEqual(self.sync()[0], 0)
+        self.write(*published({**of_tokens("t1", "t2"), "serviceBoundary": of_tokens("t1", "t2")["serviceBoundary"][::-1]}))
+        self.assertEqual(self.sync()[1][:15], "nothing to send")
+        for tokens in (("t2", "t1"), ("t1",), ("T1", "t2")):
+            self.write(*published(of_tokens(*tokens)))
+            self.assertIn("code 15, NotNewer", self.sync("--dry-run")[2])
+            self.write(*published(of_tokens(*tokens, lastUpdated="2025-12-02T00:00:00Z")))
+            self.assertIn("code 17, KeyUnchanged", self.sync("--dry-run")[2])
+            self.write(*published(of_tokens(*tokens, lastUpdated="2025-12-02T00:00:00Z", key="A-2")))
+            self.assertEqual(self.sync("--dry-run")[:2], (0, "0 to publish, 1 to replace, 0 to withdraw; nothing was sent\n"))
+
     def test_what_makes_a_difference(self) -> None:
         name, uris = [{"lang": "en", "text": "A"}], [*A["uri"], "tel:911"]
         changes = [{"expires": "NO-CACHE"}, {"serviceNumber": "911"}, {"displayName": name}, {"service": "urn:service:sos"}]

@@ -4,10 +4,10 @@ from __future__ import annotations
 import glob
 import json
 import unittest
-from typing import Any, Dict
+from typing import Any, Dict, List
 
 from maptools.desk_rules import (
-    EDITS, GEODETIC, MOST_MAPPINGS, MOST_TRACES, Book, apply_edit, contents_of, edit_fault, empty_book, position_of,
+    EDITS, GEODETIC, MOST_MAPPINGS, MOST_TRACES, TOKEN, Book, apply_edit, contents_of, edit_fault, empty_book, position_of,
 )  # fmt: skip
 from maptools.lines import read_line
 from maptools.refusals import ERRORS, REFUSALS, WARNINGS
@@ -115,6 +115,60 @@ class Positions(unittest.TestCase):
             apply_edit(book, kind, value)
         fault = edit_fault(book, "replace", located(9, RING_BESIDE))
         self.assertEqual(None if fault is None else fault.code, 17)
+
+
+# Lists of texts that are token sets, and others that are none.
+TOKEN_SETS = [["t1"], ["t2", "t1"], ["t1", "T1", "t1 "], ["z" * 128], ["é" * 64], [f"m{number}" for number in range(64)]]
+NO_TOKEN_SETS: List[Any] = [
+    [], ["t1", "t1"], ["t1", "t2", "t1"], [""], ["z" * 129], ["é" * 64 + "a"], ["t\x1f"], ["t\x7f"], ["\n"],
+    [f"m{number}" for number in range(65)], "t1", None, [1], [None], [["t1"]], {"t1": "t1"},
+]
+
+
+def of_tokens(day: int, *sets: Any) -> Dict[str, Any]:
+    """A mapping of token sets."""
+    return {**located(day, []), "serviceBoundary": [{"profile": TOKEN, "tokens": tokens} for tokens in sets]}
+
+
+class Tokens(unittest.TestCase):
+    """Token sets."""
+
+    def code_of(self, value: Dict[str, Any], *before: Dict[str, Any]) -> int:
+        book = empty_book()
+        for kind, edit in zip(("publish", *["replace"] * len(before)), before):
+            self.assertIsNone(edit_fault(book, kind, edit))
+            apply_edit(book, kind, edit)
+        fault = edit_fault(book, "replace" if before else "publish", value)
+        return fault.code if fault else 0
+
+    def test_what_is_a_token_set(self) -> None:
+        for tokens in TOKEN_SETS:
+            self.assertEqual(self.code_of(of_tokens(1, tokens)), 0, tokens)
+        for tokens in NO_TOKEN_SETS:
+            self.assertEqual(self.code_of(of_tokens(1, ["t1"], tokens)), 9, tokens)
+
+    def test_64_sets_are_taken_and_65_are_not(self) -> None:
+        self.assertEqual(self.code_of(of_tokens(1, *[["t1"]] * 64)), 0)
+        self.assertEqual(self.code_of(of_tokens(1, *[["t1"]] * 65)), 11)
+        self.assertEqual(self.code_of(of_tokens(1, *[["t1"]] * 65, [])), 9)
+
+    def test_other_tokens_and_another_order_are_other_regions(self) -> None:
+        old = of_tokens(1, ["t1", "t2"], ["t3"])
+        for sets, code in (
+            ((["t1", "t2"], ["t3"]), 0), ((["t2", "t1"], ["t3"]), 17), ((["t3"], ["t1", "t2"]), 17), ((["t1", "t2"],), 17),
+            ((["T1", "t2"], ["t3"]), 17), ((["t1", "t2", "t3"],), 17), ((["t1"], ["t2"], ["t3"]), 17),
+        ):  # fmt: skip
+            self.assertEqual(self.code_of(of_tokens(2, *sets), old), code, sets)
+            self.assertEqual(self.code_of({**of_tokens(2, *sets), "key": "A-2"}, old), 0, sets)
+
+    def test_kinds_do_not_mix(self) -> None:
+        ring, tokens = located(1, RINGS[0]), of_tokens(1, ["t1"])
+        one = {**ring, "serviceBoundary": ring["serviceBoundary"] + tokens["serviceBoundary"]}
+        other = {**one, "lastUpdated": DAY % (2, ""), "serviceBoundary": one["serviceBoundary"][::-1]}
+        self.assertEqual(self.code_of(other, one), 0)
+        self.assertEqual(self.code_of({**other, "serviceBoundary": one["serviceBoundary"][:1]}, one), 17)
+        for region in ({"profile": TOKEN, "polygon": RINGS[0]}, {"profile": GEODETIC, "tokens": ["t1"]}, {"tokens": ["t1"]}):
+            self.assertEqual(self.code_of({**one, "serviceBoundary": [region]}), 9, region)
 
 
 DAY = "2025-12-0%dT00:00:00%sZ"

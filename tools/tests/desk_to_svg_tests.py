@@ -10,7 +10,7 @@ from typing import Any, List, Tuple
 
 from maptools.places import belonging, edges_of, is_inside
 from maptools.units import text_of
-from tests.running import found_in, lostd, question, read, replay, run_tool
+from tests.running import found_in, lostd, question, read, replay, run_tool, token_question
 
 SVG = "{http://www.w3.org/2000/svg}"
 
@@ -83,12 +83,28 @@ class Pictures(unittest.TestCase):
         self.assertEqual((status, self.titles(picture)), (3, ["map.example a (sos.police)", "map.example b&<c> (sos.fire)"]))
         self.assertEqual(said.splitlines(), read("svg/edits.errors").splitlines())
         self.assertIn("2 staged edits are not shown", self.texts(picture))
-        self.assertIn("1 without a polygon (defaults, and those with addresses alone)", self.texts(picture))
+        self.assertIn("1 without a boundary to draw (defaults, and those with addresses or tokens alone)", self.texts(picture))
         staged = self.draw("--staged", given=lines)[1]
         self.assertEqual(self.titles(staged), ["map.example b&<c> (sos.fire)", "map.example d (sos.police)"])
         self.assertEqual(self.titles(self.draw("--service", "URN:service:sos.Fire", given=lines)[1]), ["map.example b&<c> (sos.fire)"])
         later = self.draw("--now", "2026-07-01T00:00:00Z", given=lines)[1]
         self.assertEqual(self.titles(later), ["map.example a (sos.police)"])
+
+    def test_tokens_alone_are_counted_and_not_drawn(self) -> None:
+        lines = [json.loads(line) for line in read("svg/two-squares.jsonl").splitlines()]
+        region, stamp = {"profile": "x-token", "tokens": ["t1", "t2"]}, "2026-03-01T00:00:00Z"
+        first = next(line["publish"] for line in lines if "serviceBoundary" in line.get("publish", {}))
+        both = {**first, "lastUpdated": stamp, "key": "both", "serviceBoundary": [*first["serviceBoundary"], region]}
+        alone = {**first, "sourceId": "rooms", "key": "rooms", "serviceBoundary": [region]}
+        before = self.draw(given=read("svg/two-squares.jsonl"))[1]
+        given = "\n".join(map(json.dumps, [*lines, {"replace": both}, {"publish": alone}, {"commit": {}}]))
+        status, picture, said = self.draw(given=given)
+        self.assertEqual((status, said), (0, ""))
+        self.assertEqual(self.titles(picture), self.titles(before))
+        count = sum("serviceBoundary" not in line.get("publish", {"serviceBoundary": 0}) for line in lines) + 1
+        self.assertIn(f"{count} without a boundary to draw (defaults, and those with addresses or tokens alone)", self.texts(picture))
+        asked = self.draw(given=given + "\n" + token_question("t1"))
+        self.assertEqual((asked[0], "asks for no point that can be drawn" in asked[2]), (3, True))
 
     def test_points_find_what_holds_them(self) -> None:
         words = ["--point", "0,0", "--point", "0.5,1", "--point", "1,0.5", "--point", "-33.9,18.4"]

@@ -8,7 +8,7 @@ import unittest
 from typing import Any, Dict, List
 
 from maptools.desk_rules import apply_edit, contents_of, edit_fault, empty_book
-from tests.running import CASES, found_in, lostd, question, read, replay, run_tool
+from tests.running import CASES, found_in, lostd, question, read, replay, run_tool, token_question
 
 COMMON = read("geojson/common.args").splitlines()
 D = 10_000_000
@@ -177,6 +177,65 @@ class Limits(unittest.TestCase):
         self.assertEqual(decimal["serviceBoundary"], [{"polygon": texts, "profile": "geodetic-2d"}])
         self.assertEqual({**decimal, "serviceBoundary": pairs["serviceBoundary"]}, pairs)
         self.assertEqual(contents_of(decimal, "geodetic-2d"), contents_of(pairs, "geodetic-2d"))
+
+    def test_tokens_stand_behind_the_polygons(self) -> None:
+        ring = [[[0, 0], [1, 0], [1, 1], [0, 0]]]
+        most = ["é" * 64, *(f"m{number}" for number in range(63))]
+        for value, tokens in (
+            ("t1", ["t1"]), (["t2", "t1"], ["t2", "t1"]), (["t1", "T1", " t1"], ["t1", "T1", " t1"]), (most, most), (None, None), ("", None), ([], None),
+        ):  # fmt: skip
+            for words in (["--tokens", "rooms"], ["--tokens", "rooms", "--decimal"]):
+                with self.subTest((value, words)):
+                    status, output, _ = self.convert([feature(ring, rooms=value)], *words)
+                    polygon, *others = json.loads(output)["publish"]["serviceBoundary"]
+                    self.assertEqual((status, polygon["profile"]), (0, "geodetic-2d"))
+                    self.assertEqual(others, [{"profile": "x-token", "tokens": tokens}] if tokens else [])
+        self.assertNotIn("x-token", self.convert([feature(ring, rooms="t1")])[1])
+        self.assertNotIn("x-token", self.convert([feature(ring, rooms="t1")], "--tokens", "other")[1])
+
+    def test_what_is_no_token_set_is_said_in_a_line_that_names_the_feature(self) -> None:
+        ring = [[[0, 0], [1, 0], [1, 1], [0, 0]]]
+        no_token = ": a token has 1 to 128 bytes, and no control byte"
+        for value, cause in (
+            (7, "it has a property 'rooms' that is neither a text nor a list of texts"),
+            ([["t1"]], "it has a property 'rooms' that is neither a text nor a list of texts"),
+            ({"t1": "t2"}, "it has a property 'rooms' that is neither a text nor a list of texts"),
+            (["t1", None], "it has a property 'rooms' that is neither a text nor a list of texts"),
+            (["t1", ""], "it has a text that is no token, ''" + no_token),
+            ("t\x1f", "it has a text that is no token, 't\\x1f'" + no_token),
+            ("t\x7f", "it has a text that is no token, 't\\x7f'" + no_token),
+            ("é" * 64 + "a", f"it has a text that is no token, '{'é' * 64}a'" + no_token),
+            ("\ud800", "it has a token that is not Unicode text, '\\ud800'"),
+            (["t1", "t2", "t1"], "it has the token 't1' twice"),
+            ([f"m{number}" for number in range(65)], "it has 65 tokens, and at most 64 are allowed: split it into features"),
+        ):
+            with self.subTest(value):
+                status, output, said = self.convert([feature(ring, "hall", rooms=value)], "--tokens", "rooms")
+                self.assertEqual((status, output), (3, ""))
+                self.assertEqual(said.splitlines()[0], f"geojson-to-desk: feature 1 (id 'hall'): {cause}")
+
+    def test_a_default_has_no_tokens(self) -> None:
+        rest = {"type": "Feature", "id": "rest", "properties": {"is_rest": True, "rooms": "t1"}, "geometry": None}
+        status, output, said = self.convert([rest], "--tokens", "rooms", "--default", "is_rest")
+        self.assertEqual((status, output), (3, ""))
+        self.assertIn("feature 1 (id 'rest'): it is a default, and has tokens\n", said)
+
+    def test_the_key_changes_with_the_tokens(self) -> None:
+        words = [word for pair in zip(COMMON[::2], COMMON[1::2]) if pair[0] != "--key" for word in pair]
+        ring = [[[0, 0], [1, 0], [1, 1], [0, 0]]]
+        texts = [collection([feature(ring, rooms=rooms)]) for rooms in (None, ["t1", "t2"], ["t2", "t1"])]
+        keys = [json.loads(run_tool("geojson-to-desk", [*words, "--tokens", "rooms"], text)[1])["publish"]["key"] for text in texts]
+        self.assertEqual(len(set(keys)), 3)
+        self.assertEqual(keys[0], json.loads(run_tool("geojson-to-desk", words, texts[1])[1])["publish"]["key"])
+
+    @unittest.skipUnless(lostd(), "lostd is not built")
+    def test_the_server_finds_a_feature_by_its_tokens(self) -> None:
+        ring = [[[0, 0], [1, 0], [1, 1], [0, 0]]]
+        features = [feature(ring, "a", rooms=["t1", "t2"]), feature(ring, "b", rooms="t2")]
+        lines = run_tool("geojson-to-desk", [*COMMON, "--tokens", "rooms"], collection(features))[1]
+        replies = replay(lines + '{"commit":{}}\n' + "".join(map(token_question, ("t1", "t2", "T1"))))
+        self.assertEqual([next(iter(reply)) for reply in replies[:3]], ["staged", "staged", "committed"])
+        self.assertEqual([found_in(reply) for reply in replies[3:]], [["a"], ["a", "b"], []])
 
     def test_replace_lines_follow_publish_lines(self) -> None:
         text = collection([feature([[[0, 0], [1, 0], [1, 1], [0, 0]]])])

@@ -56,6 +56,7 @@ class Asking(unittest.TestCase):
         service = {"service": "urn:service:sos.police"}
         address = {"id": "here", "profile": "civic", "address": {"country": "US", "A1": "a=b"}}
         wishes = {"serviceBoundary": "value", "validateLocation": True}
+        room, empty = ({"id": "here", "profile": "x-token", "token": token} for token in ("Room 1, é", ""))
         for words, request in (
             ([*find, "--point", "40.861,-73.988"], {"findService": {**service, "location": [at(408610000, -739880000)]}}),
             ([*find, "--point", "-0.00000005, 1.00000015"], {"findService": {**service, "location": [at(0, 10000002)]}}),
@@ -64,6 +65,9 @@ class Asking(unittest.TestCase):
                 [*find, "--value", "--validate", "--path", "esrp.example", "--address", "country=US", "A1=a=b"],
                 {"findService": {**service, "path": ["esrp.example"], "location": [address], **wishes}},
             ),
+            ([*find, "--token", "Room 1, é"], {"findService": {**service, "location": [room]}}),
+            ([*find, "--token", ""], {"findService": {**service, "location": [empty]}}),
+            (["services", "--token=Room 1, é"], {"listServicesByLocation": {"location": [room]}}),
             (["services"], {"listServices": {}}),
             (["services", "--service", "urn:service:sos"], {"listServices": {"service": "urn:service:sos"}}),
             (["services", "--point", "90,-180"], {"listServicesByLocation": {"location": [at(900000000, -1800000000)]}}),
@@ -78,6 +82,7 @@ class Asking(unittest.TestCase):
     def test_a_boundary_and_a_list_of_services_are_laid_out(self) -> None:
         regions = [{"polygon": [[408500000, -740000000], [0, 0], [5, 1], [408500000, -740000000]], "profile": "geodetic-2d"}]
         regions.append({"pattern": {"A1": "NJ", "country": "US"}, "profile": "civic"})
+        regions.append({"profile": "x-token", "tokens": ["t1", "building 7, floor 3"]})
         reply = {"getServiceBoundaryResponse": {"edition": 3, "path": ["lost.example"], "serviceBoundary": regions}}
         self.assertEqual(self.ask(reply, "boundary", "--key", "k")[:2], (0, read("client/boundary.text")))
         reply = {"listServicesResponse": {"edition": 5, "path": ["lost.example"], "serviceList": ["urn:service:sos"]}}
@@ -108,7 +113,8 @@ class Asking(unittest.TestCase):
             [], find, ["services"], ["services", "--server", "localhost"], ["services", "--server", "localhost:70000"],
             [*find, "--point", "91,0"], [*find, "--point", "408610000,-739880000"], [*find, "--point", "1"], [*find, "--point", "x,y"],
             [*find, "--point", "1,nan"], [*find, "--point", "1.5,2", "--units"], [*find, "--address", "A1"],
-            [*find, "--point", "1,2", "--address", "A1=NJ"], ["services", "--server", "localhost:1", "--timeout", "0"],
+            [*find, "--point", "1,2", "--address", "A1=NJ"], [*find, "--point", "1,2", "--token", "t1"],
+            [*find, "--address", "A1=NJ", "--token", ""], [*find, "--token"], ["services", "--server", "localhost:1", "--timeout", "0"],
         ):  # fmt: skip
             self.assertEqual(run_tool("lost-client", words)[0], 2, words)
         self.assertEqual(run_tool("lost-client", ["--help"])[0], 0)
@@ -260,3 +266,14 @@ class Serving(unittest.TestCase):
         output, said = self.server.communicate(timeout=10)
         self.assertEqual((self.server.returncode, said), (0, b""))
         self.assertRegex(output, rb"\Adone lines=[0-9]+ faults=0\n\Z")
+
+    def test_a_token_is_asked_for(self) -> None:
+        with open(f"{TOP}/examples/three-kinds.jsonl", encoding="utf-8") as file:
+            lines = file.readline() + file.readline()
+        self.assertEqual(run_tool("lost-client", ["desk", "--server", self.desk, "-"], lines)[0], 0)
+        find = ["find", "--server", self.queries, "--service", "urn:service:sos.police", "--value", "--token"]
+        status, output, _ = run_tool("lost-client", [*find, "Room 1"])
+        self.assertEqual((status, "\n    tokens\n      Room 1\n      hall\n" in output), (0, True), output)
+        status, _, said = run_tool("lost-client", [*find, "room 1"])
+        self.assertEqual((status, said[:31]), (3, "lost-client: notFound (edition "))
+        self.assertIn("locationInvalid", run_tool("lost-client", [*find, ""])[2])

@@ -67,6 +67,12 @@ def question(latitude: int, longitude: int, service: str = "urn:service:sos.poli
     return json.dumps({"findService": {"service": service, "location": [place]}}) + "\n"
 
 
+def token_question(token: str, service: str = "urn:service:sos.police") -> str:
+    """A findService line about a token."""
+    place = {"id": "p", "profile": "x-token", "token": token}
+    return json.dumps({"findService": {"service": service, "location": [place]}}) + "\n"
+
+
 def found_in(reply: Dict[str, Any]) -> List[str]:
     """The sourceIds of a reply; none for an error."""
     return [mapping["sourceId"] for mapping in reply.get("findServiceResponse", {}).get("mapping", [])]

@@ -98,7 +98,7 @@ impl Answerer<'_> {
         self.begin(out, "getServiceBoundaryResponse");
         self.write_path(out, path);
         out.extend_from_slice(b",\"serviceBoundary\":");
-        mapping.write_all_regions(out);
+        mapping.regions.write(out);
         out.extend_from_slice(b"}}\n");
         Ok(())
     }
@@ -151,7 +151,10 @@ impl Answerer<'_> {
 
     /// Writes which names of an address are valid, which are not, and which were not checked.
     fn write_validation(self, out: &mut Vec<u8>, found: &Found, address: &Address) {
-        let patterns = found.mappings.iter().flat_map(|mapping| &mapping.patterns);
+        let patterns = found
+            .mappings
+            .iter()
+            .flat_map(|mapping| &mapping.regions.patterns);
         let matching = patterns.filter(|pattern| {
             address
                 .values
@@ -199,6 +202,7 @@ fn shown(find: &Find, place: &Place) -> Shown {
         _ if !find.by_value => Shown::ByReference,
         Place::Point(_) => Shown::Rings,
         Place::Address(_) => Shown::Patterns,
+        Place::Token(_) => Shown::TokenSets,
     }
 }
 

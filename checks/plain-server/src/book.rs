@@ -7,6 +7,7 @@ use crate::mapping::Mapping;
 use crate::moment::Moment;
 use crate::patterns::Patterns;
 use crate::ring::Point;
+use crate::tokens::Tokens;
 use ahash::AHashMap;
 use std::collections::{BTreeMap, BTreeSet};
 use std::sync::Arc;
@@ -29,6 +30,7 @@ pub struct Change {
 pub enum Place<'a> {
     Point(Point),
     Address(Address<'a>),
+    Token(&'a str),
 }
 
 /// What was found for a service.
@@ -44,6 +46,7 @@ pub struct Found<'a> {
 struct Shelf {
     grid: Grid,
     patterns: Patterns,
+    tokens: Tokens,
     defaults: BTreeSet<u32>,
     /// How many never expire, and how many do at each moment.
     endless: usize,
@@ -81,8 +84,9 @@ fn child<'a>(above: Option<&str>, service: &'a str) -> Option<&'a str> {
 
 impl Shelf {
     fn insert(&mut self, slot: u32, mapping: &Mapping) {
-        self.grid.insert(slot, &mapping.rings);
-        self.patterns.insert(slot, &mapping.patterns);
+        self.grid.insert(slot, &mapping.regions.rings);
+        self.patterns.insert(slot, &mapping.regions.patterns);
+        self.tokens.insert(slot, &mapping.regions.token_sets);
         if mapping.is_default() {
             self.defaults.insert(slot);
         }
@@ -93,8 +97,9 @@ impl Shelf {
     }
 
     fn remove(&mut self, slot: u32, mapping: &Mapping) {
-        self.grid.remove(slot, &mapping.rings);
-        self.patterns.remove(slot, &mapping.patterns);
+        self.grid.remove(slot, &mapping.regions.rings);
+        self.patterns.remove(slot, &mapping.regions.patterns);
+        self.tokens.remove(slot, &mapping.regions.token_sets);
         self.defaults.remove(&slot);
         let Some(end) = mapping.expires else {
             self.endless -= 1;
@@ -127,6 +132,7 @@ impl Shelf {
         match place {
             Place::Point(point) => self.grid.holders(*point).collect(),
             Place::Address(address) => self.patterns.holders(address),
+            Place::Token(token) => self.tokens.holders(token),
         }
     }
 }

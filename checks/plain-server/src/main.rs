@@ -16,6 +16,7 @@ mod request;
 mod ring;
 mod serve;
 mod texts;
+mod tokens;
 mod tree;
 
 use moment::Moment;

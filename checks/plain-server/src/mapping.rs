@@ -8,6 +8,7 @@ use crate::texts::{
     are_uris, is_identifier, is_service_number, service_labels, source, write_list, write_text,
     SERVICE_PREFIX,
 };
+use crate::tokens::TokenSet;
 use crate::tree::{Members, Tree};
 use std::borrow::Cow;
 use std::sync::Arc;
@@ -23,9 +24,16 @@ pub struct Mapping {
     pub service: Box<str>,
     /// Its key; a default has none.
     pub key: Option<Box<str>>,
+    pub regions: Regions,
+    text: Text,
+}
+
+/// The regions of a mapping, each kind in the order given.
+#[derive(PartialEq, Default)]
+pub struct Regions {
     pub rings: Vec<Arc<Ring>>,
     pub patterns: Vec<Arc<Pattern>>,
-    text: Text,
+    pub token_sets: Vec<TokenSet>,
 }
 
 /// The parts of a mapping that are the same in each reply, as JSON.
@@ -44,6 +52,7 @@ pub enum Shown {
     ByReference,
     Rings,
     Patterns,
+    TokenSets,
 }
 
 impl Mapping {
@@ -64,7 +73,7 @@ impl Mapping {
 
     /// Whether it has the same regions as another.
     pub fn has_regions_of(&self, other: &Mapping) -> bool {
-        self.rings == other.rings && self.patterns == other.patterns
+        self.regions == other.regions
     }
 
     /// Writes it as JSON.
@@ -73,29 +82,56 @@ impl Mapping {
         match shown {
             _ if self.is_default() => (),
             Shown::ByReference => out.extend_from_slice(&self.text.reference),
-            Shown::Rings => self.write_boundary(out, &self.rings, &[]),
-            Shown::Patterns => self.write_boundary(out, &[], &self.patterns),
+            _ => self.write_boundary(out, shown),
         }
         out.extend_from_slice(&self.text.after);
     }
 
     /// Writes the member of a boundary by value.
-    fn write_boundary(&self, out: &mut Vec<u8>, rings: &[Arc<Ring>], patterns: &[Arc<Pattern>]) {
+    fn write_boundary(&self, out: &mut Vec<u8>, shown: Shown) {
         out.extend_from_slice(b",\"serviceBoundary\":");
-        write_regions(out, rings, patterns);
+        let regions = &self.regions;
+        match shown {
+            Shown::ByReference => (),
+            Shown::Rings => write_regions(out, regions.rings()),
+            Shown::Patterns => write_regions(out, regions.patterns()),
+            Shown::TokenSets => write_regions(out, regions.token_sets()),
+        }
+    }
+}
+
+impl Regions {
+    /// Whether there are no more of each kind than a mapping may have.
+    fn are_few(&self) -> bool {
+        self.rings.len() <= 64 && self.patterns.len() <= 256 && self.token_sets.len() <= 64
     }
 
-    /// Writes the list of all regions.
-    pub fn write_all_regions(&self, out: &mut Vec<u8>) {
-        write_regions(out, &self.rings, &self.patterns);
+    fn rings(&self) -> impl Iterator<Item = Shape<'_>> {
+        self.rings.iter().map(|ring| Region::Ring(ring.as_ref()))
+    }
+
+    fn patterns(&self) -> impl Iterator<Item = Shape<'_>> {
+        self.patterns
+            .iter()
+            .map(|pattern| Region::Pattern(pattern.as_ref()))
+    }
+
+    fn token_sets(&self) -> impl Iterator<Item = Shape<'_>> {
+        self.token_sets.iter().map(Region::TokenSet)
+    }
+
+    /// Writes the list of all, kind by kind.
+    pub fn write(&self, out: &mut Vec<u8>) {
+        write_regions(
+            out,
+            self.rings().chain(self.patterns()).chain(self.token_sets()),
+        );
     }
 }
 
 /// Writes a list of regions.
-fn write_regions(out: &mut Vec<u8>, rings: &[Arc<Ring>], patterns: &[Arc<Pattern>]) {
-    let rings = rings.iter().map(Region::Ring);
-    let patterns = patterns.iter().map(Region::Pattern);
-    write_list(out, rings.chain(patterns), |out, region| match region {
+fn write_regions<'a>(out: &mut Vec<u8>, regions: impl Iterator<Item = Shape<'a>>) {
+    write_list(out, regions, |out, region| match region {
         Region::Ring(ring) => {
             out.extend_from_slice(b"{\"polygon\":");
             ring.write(out);
@@ -106,20 +142,26 @@ fn write_regions(out: &mut Vec<u8>, rings: &[Arc<Ring>], patterns: &[Arc<Pattern
             pattern.write(out);
             out.extend_from_slice(b",\"profile\":\"civic\"}");
         }
+        Region::TokenSet(tokens) => {
+            out.extend_from_slice(b"{\"profile\":\"x-token\",\"tokens\":");
+            tokens.write(out);
+            out.push(b'}');
+        }
     });
 }
 
-/// The rings and the patterns of a mapping.
-type Regions = (Vec<Arc<Ring>>, Vec<Arc<Pattern>>);
-
-/// A ring or a pattern.
-enum Region<R, P> {
+/// A ring, a pattern or a token set.
+enum Region<R, P, T> {
     Ring(R),
     Pattern(P),
+    TokenSet(T),
 }
 
+/// A region of a mapping.
+type Shape<'a> = Region<&'a Ring, &'a Pattern, &'a TokenSet>;
+
 /// The region of an item of a boundary.
-fn read_region(item: &Tree) -> Option<Region<Ring, Pattern>> {
+fn read_region(item: &Tree) -> Option<Region<Ring, Pattern, TokenSet>> {
     let item = item.members()?;
     match item.get("profile")?.text()? {
         "geodetic-2d" => {
@@ -131,6 +173,7 @@ fn read_region(item: &Tree) -> Option<Region<Ring, Pattern>> {
             Ring::new(positions).map(Region::Ring)
         }
         "civic" => Pattern::new(&item.get("pattern")?.text_pairs()?).map(Region::Pattern),
+        "x-token" => TokenSet::new(&item.get("tokens")?.texts()?).map(Region::TokenSet),
         _ => None,
     }
 }
@@ -210,13 +253,15 @@ impl<'a> Parts<'a> {
             self.number.is_none_or(is_service_number),
             Refusal::BadNumber,
         )?;
-        let (rings, patterns) = self.read_regions()?;
+        let regions = self.read_regions()?;
         unless(
             self.is_default == self.boundary.is_empty(),
             Refusal::RegionMissing,
         )?;
-        let is_small = rings.len() <= 64 && patterns.len() <= 256;
-        unless(is_small && self.are_names_small(), Refusal::TooLarge)?;
+        unless(
+            regions.are_few() && self.are_names_small(),
+            Refusal::TooLarge,
+        )?;
         unless(self.has_key_as_due(), Refusal::BadKey)?;
         Ok(Mapping {
             identity: identity(&source, self.source_id),
@@ -225,20 +270,20 @@ impl<'a> Parts<'a> {
             text: self.text(&source, &service),
             service: service.into(),
             key: self.key.map(Box::from),
-            rings,
-            patterns,
+            regions,
         })
     }
 
     fn read_regions(&self) -> Result<Regions, Refusal> {
-        let (mut rings, mut patterns) = (Vec::new(), Vec::new());
+        let mut regions = Regions::default();
         for item in self.boundary {
             match read_region(item).ok_or(Refusal::BadRegion)? {
-                Region::Ring(ring) => rings.push(Arc::new(ring)),
-                Region::Pattern(pattern) => patterns.push(Arc::new(pattern)),
+                Region::Ring(ring) => regions.rings.push(Arc::new(ring)),
+                Region::Pattern(pattern) => regions.patterns.push(Arc::new(pattern)),
+                Region::TokenSet(tokens) => regions.token_sets.push(tokens),
             }
         }
-        Ok((rings, patterns))
+        Ok(regions)
     }
 
     fn are_names_small(&self) -> bool {

@@ -4,7 +4,7 @@ use crate::book::Place;
 use crate::civic::Address;
 use crate::mapping::{optional, required};
 use crate::ring::Point;
-use crate::texts::service_labels;
+use crate::texts::{is_identifier, service_labels};
 use crate::tree::{Members, Tree};
 use std::borrow::Cow;
 
@@ -144,6 +144,7 @@ fn read_place<'a>(
     match profile {
         "geodetic-2d" => Some(read_point(item)),
         "civic" => Some(read_address(item).ok_or(LocationFault::LocationInvalid)),
+        "x-token" => Some(read_token(item).ok_or(LocationFault::LocationInvalid)),
         _ => None,
     }
 }
@@ -164,4 +165,9 @@ fn read_point<'a>(item: &'a Members<'a>) -> Result<Place<'a>, LocationFault> {
 fn read_address<'a>(item: &'a Members<'a>) -> Option<Place<'a>> {
     let pairs = item.get("address")?.text_pairs()?;
     Address::new(&pairs).map(Place::Address)
+}
+
+fn read_token<'a>(item: &'a Members<'a>) -> Option<Place<'a>> {
+    let token = item.get("token")?.text()?;
+    is_identifier(token).then_some(Place::Token(token))
 }

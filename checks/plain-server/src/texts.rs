@@ -40,7 +40,7 @@ pub fn source(text: &str) -> Option<Cow<'_, str>> {
     is_source.then(|| lowered(text))
 }
 
-/// Whether it may be a sourceId or a key: 1 to 128 bytes, without control bytes.
+/// Whether it may be a sourceId, a key or a token: 1 to 128 bytes, without control bytes.
 pub fn is_identifier(text: &str) -> bool {
     (1..=128).contains(&text.len()) && !text.bytes().any(|byte| byte < 32 || byte == 127)
 }
