@@ -87,7 +87,8 @@ def house():
     beside = [story for story in stories if story not in product]
     across, floor, top = 112, 64, 34
     cellar = top + floor * len(product) + 34
-    p = Picture(860, cellar + floor * len(beside) + 10, "The crates by layer, with the steps of a line and of an edit")
+    width = 76 + across * max(len(rooms) for _, rooms in stories)
+    p = Picture(width, cellar + floor * len(beside) + 10, "The crates by layer, with the steps of a line and of an edit")
 
     def draw(y, name, rooms, dash=""):
         p.text(42, y + 10, name, size=11, anchor="start")
@@ -100,7 +101,7 @@ def house():
             if room in STEPS_OF_AN_EDIT:
                 p.text(x + across - 16, y + 47, STEPS_OF_AN_EDIT[room], size=11, color=RED, anchor="end", bold=True)
 
-    p.text(430, 20, "A crate uses crates of its own floor and of the floors below it", size=14, bold=True)
+    p.text(width / 2, 20, "A crate uses crates of its own floor and of the floors below it", size=14, bold=True)
     for number, (name, rooms) in enumerate(reversed(product)):
         draw(top + floor * number, name, rooms)
     p.text(42, cellar - 10, "Blue, left: the steps of a request line.", color=BLUE, anchor="start", bold=True)
