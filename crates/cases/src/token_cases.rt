@@ -29,7 +29,7 @@ pub(crate) fn said(alloc: Global, call: &str, fields: &Fields) -> Result<String,
 
 /// The text of a copy of a copy, by the method and by the trait.
 fn parse(alloc: Global, text: &[u8]) -> Result<String, Trouble> {
-    match Token::parse(alloc, text) {
+    match Token::parse(text) {
         Ok(token) => {
             let copy = copy_of(&token.clone()?)?;
             let (text, same) = (copy.text(), compared(&copy, &token));
@@ -42,7 +42,7 @@ fn parse(alloc: Global, text: &[u8]) -> Result<String, Trouble> {
 
 /// The token of a text that is one.
 pub(crate) fn token(alloc: Global, text: &[u8]) -> Result<Token, Trouble> {
-    match Token::parse(alloc, text) {
+    match Token::parse(text) {
         Ok(token) => Ok(token),
         Err(TokenError::Memory) => Err(Trouble::Memory),
         Err(TokenError::Bad) => Err(Trouble::NoCase),

@@ -20,7 +20,6 @@ mod shape;
 mod stop;
 mod texts;
 mod times;
-mod tokens;
 mod uris;
 
 pub use refusal::{bad_request_cause, refusal_cause};

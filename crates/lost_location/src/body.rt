@@ -10,7 +10,7 @@ ghost use Rattle.lost_location.specs.Place.{place_of as seen_place};
 use crate::place::Place;
 use lost_civic::{CivicAddress, CivicError};
 use lost_geo::GeoPoint;
-use lost_profile::{Token, TokenError};
+use lost_profile::Token;
 use lost_spec::places::PlaceKind;
 use std::alloc::{AllocError, Global};
 use std::borrow::CowStr;
@@ -49,7 +49,7 @@ fn place_of(alloc: Global, kind: PlaceKind, body: &Body<'_>) -> Result<Option<Pl
     match (kind, body) {
         (PlaceKind::Geodetic2d, Body::Point(lat, lon)) => Ok(point_place(*lat, *lon)),
         (PlaceKind::Civic, Body::Address(pairs)) => address_place(alloc, pairs),
-        (PlaceKind::XToken, Body::Token(token)) => token_place(alloc, token.as_str()),
+        (PlaceKind::XToken, Body::Token(token)) => Ok(token_place(token.as_str())),
         _ => Ok(None),
     }
 }
@@ -93,12 +93,11 @@ fn copied_pairs(pairs: &Vec<(String, String)>) -> Result<Vec<(String, String)>, 
 }
 
 /// The place of a token's text, or none if it is no token.
-fn token_place(alloc: Global, text: &str) -> Result<Option<Place>, AllocError>
-    ensures { IfOk result (λ place. option_map seen_place place ≡ token_place text.now) }
+fn token_place(text: &str) -> Option<Place>
+    ensures { option_map seen_place result ≡ token_place text.now }
 {
-    match Token::parse(alloc, text.as_bytes()) {
-        Ok(token) => Ok(Some(Place::Token(token))),
-        Err(TokenError::Bad) => Ok(None),
-        Err(TokenError::Memory) => Err(AllocError),
+    match Token::parse(text.as_bytes()) {
+        Ok(token) => Some(Place::Token(token)),
+        Err(_) => None,
     }
 }

@@ -1,7 +1,8 @@
 -- The test of a token, of a text that is known to be UTF-8 and of one that is known not to be.
-use Rattle.std.proofs.Common.{◌≡◌, ◌<◌, ℕ, Bool, true, false, not, ◌&&◌, ◌||◌, ◌==◌, nat_le, length, get_or, map, refl, sym, ap, ◌∙◌, List, [], ◌∷◌, IsTrue}
+use Rattle.std.proofs.Common.{◌≡◌, ◌<◌, ◌≤◌, ℕ, arith, Bool, true, false, not, ◌&&◌, ◌||◌, ◌==◌, nat_le, length, get_or, map, refl, sym, ap, ◌∙◌, List, [], ◌∷◌, IsTrue}
 use Rattle.std.specs.List.{list_all, list_any}
-use Rattle.std.proofs.lemmas.Bool.{false≢true}
+use Rattle.std.proofs.lemmas.Bool.{and_parts, false≢true}
+use Rattle.std.proofs.lemmas.Bool.Decides.{nat_tests}
 use Rattle.std.proofs.lemmas.List.Folds.{list_all_at}
 use Rattle.std.specs.Str.{IsUtf8, is_utf8}
 use Rattle.std.proofs.lemmas.Str.{is_utf8-from_IsUtf8, IsUtf8-from_is_utf8}
@@ -53,3 +54,16 @@ pub token_at : (tokens : List Text) (i : ℕ) (other : Text) → IsTrue (is_toke
 token_at tokens i other lawful within =
     let each : list_all is_token tokens ≡ true = middle_of (is_between 1 64 (length tokens)) (list_all is_token tokens) (has_repeat tokens) lawful in
     unless_false (is_token (get_or tokens i other)) (λ fails. false≢true (sym (list_all_at is_token tokens i other within fails) ∙ each))
+
+-- ---- the length of a token
+
+up_to_most : (n : ℕ) → nat_le n 128 ≡ true → n ≤ 128
+up_to_most n h = search (arith, nat_tests)
+
+pub token_fits : (text : Text) → IsTrue (is_token text) → length text ≤ 128
+unfolding is_id
+token_fits text lawful =
+    let parts = and_parts (is_between 1 128 (length text) && is_utf8 text) (list_all (λ b. nat_le 32 b && not (b == 127)) text) lawful in
+    let counted = and_parts (is_between 1 128 (length text)) (is_utf8 text) parts.0 in
+    let bounds = and_parts (nat_le 1 (length text)) (nat_le (length text) 128) counted.0 in
+    up_to_most (length text) bounds.1

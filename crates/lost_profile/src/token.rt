@@ -1,5 +1,5 @@
 //! Tokens, and their order.
-ghost use Rattle.std.specs.Prelude.{◌≡◌, ◌↔◌, ◌&&◌, ◌==◌, false, not, nat_le, refl, IsTrue, IfOk, IfSome, IsNone, OnOk, bytes_eq};
+ghost use Rattle.std.specs.Prelude.{◌≡◌, ◌↔◌, ◌&&◌, ◌==◌, false, not, nat_le, refl, IsTrue, IsOk, IfOk, IfErr, IfSome, IsNone, bytes_eq};
 ghost use Rattle.std.specs.List.{list_all};
 ghost use Rattle.std.specs.Hash as fed;
 ghost use Rattle.std.specs.Ordering.{nat_cmp, as_partial_cmp};
@@ -10,8 +10,9 @@ ghost use Rattle.std.proofs.Common.{rules};
 ghost use Rattle.lost_spec.specs.Token.{is_token, is_id};
 ghost use Rattle.lost_profile.specs.TokenOrder.{token_partial};
 
+use arrayvec::ArrayString;
 use lost_spec::faults::TokenError;
-use std::alloc::{AllocError, Global};
+use std::alloc::AllocError;
 use std::cmp::Ordering;
 use std::hash::{Hash, Hasher};
 use std::marker::Model;
@@ -20,49 +21,49 @@ use std::marker::Model;
 pub const MAX_ID_BYTES: usize = 128;
 
 /// A token: a place by a name that those who make the map and those who ask agree on. It has 1 to 128 bytes of UTF-8, none
-/// below 32 and none 127, as a sourceId has (own rule). Tokens are compared, ordered and hashed by their bytes. Contracts
-/// see a token as its text.
+/// below 32 and none 127, as a sourceId has (own rule). Its text lies in the value, so a token takes no memory. Tokens are
+/// compared, ordered and hashed by their bytes. Contracts see a token as its text.
 #[derive(Drop, Debug)]
 pub struct Token {
-    text: String,
+    text: ArrayString<MAX_ID_BYTES>,
 }
 
 impl Model for Token {
-    ghost use Rattle.std.specs.Prelude.{string_bytes, IsTrue};
+    ghost use Rattle.std.specs.Prelude.{IsTrue};
     ghost use Rattle.lost_spec.specs.Text.{Text};
     ghost use Rattle.lost_spec.specs.Token.{is_token};
 
     ghost Value = { Text };
 
-    ghost view = { λ t. string_bytes t.text };
+    ghost view = { λ t. t.text.bytes };
 
-    ghost invariant = { λ t. IsTrue (is_token (string_bytes t.text)) };
+    ghost invariant = { λ t. IsTrue (is_token t.text.bytes) };
 }
 
 impl Token {
-    /// The token of this text (own rule).
+    /// The token of this text (own rule). It takes no memory.
     ///
     /// # Errors
     ///
-    /// [`TokenError::Bad`] for a text that is no token, and [`TokenError::Memory`]. A refusal takes no memory.
-    pub fn parse(alloc: Global, text: &[u8]) -> Result<Token, TokenError>
-        ensures accepted { OnOk result (IsTrue (is_token text.now)) }
+    /// [`TokenError::Bad`] for a text that is no token, and nothing else.
+    pub fn parse(text: &[u8]) -> Result<Token, TokenError>
         ensures value { IfOk result (λ token. token ≡ text.now) }
-        ensures bad { (result ≡ Err TokenError.Bad) ↔ (is_token text.now ≡ false) }
+        ensures accepted { IsOk result ↔ IsTrue (is_token text.now) }
+        ensures bad { IfErr result (λ error. error ≡ TokenError.Bad) }
     {
-        let Some(text) = read(text) else {
-            return Err(TokenError::Bad);
-        };
-        Token::keep(alloc, text).map_err(|_| TokenError::Memory)
+        match read(text) {
+            Some(text) => Ok(Token::of(text)),
+            None => Err(TokenError::Bad),
+        }
     }
 
-    pub(crate) fn keep(alloc: Global, text: &str) -> Result<Token, AllocError>
+    pub(crate) fn of(text: &str) -> Token
         requires { IsTrue (is_token text.now) }
-        ensures { IfOk result (λ token. token ≡ text.now) }
+        ensures { result ≡ text.now }
     {
-        Ok(Token {
-            text: String::from_str(alloc, text)?,
-        })
+        let mut room = ArrayString::new();
+        room.push_str(text);
+        Token { text: room }
     }
 
     /// The text, as it was given.
@@ -73,13 +74,11 @@ impl Token {
         self.text.as_str()
     }
 
-    /// The same token once more.
-    pub fn clone(&self) -> Result<Token, AllocError>
-        ensures { IfOk result (λ copy. copy ≡ self.now) }
+    /// The same token once more. It takes no memory.
+    pub fn copy(&self) -> Token
+        ensures { result ≡ self.now }
     {
-        Ok(Token {
-            text: self.text.clone()?,
-        })
+        Token { text: self.text }
     }
 }
 
@@ -112,7 +111,7 @@ impl Clone for Token {
     ghost is_clone = { λ token copy. copy ≡ token };
 
     fn clone(&self) -> Result<Token, AllocError> {
-        Token::clone(self)
+        Ok(self.copy())
     }
 }
 

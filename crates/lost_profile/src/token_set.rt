@@ -81,7 +81,7 @@ impl TokenSet {
     {
         let mut tokens = Vec::with_capacity(alloc, texts.len())?;
         for text in texts {
-            tokens.push(Token::keep(alloc, text.as_str())?)?;
+            tokens.push(Token::of(text.as_str()))?;
         }
         Ok(TokenSet {
             tokens: Arc::new(alloc, tokens)?,

@@ -53,7 +53,7 @@ impl Profile for Tokens {
 
     /// The token, alone.
     fn probes(_alloc: Global, location: &Token) -> Result<[Token; 1], AllocError> {
-        Ok([location.clone()?])
+        Ok([location.copy()])
     }
 
     fn outline(_region: &TokenSet) {}

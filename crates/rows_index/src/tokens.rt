@@ -94,7 +94,7 @@ pub(crate) fn set(alloc: Global, text: &str) -> io::Result<TokenSet> {
 
 /// The token of a text.
 pub(crate) fn token(alloc: Global, text: &str) -> io::Result<Token> {
-    Token::parse(alloc, text.as_bytes()).map_err(refused)
+    Token::parse(text.as_bytes()).map_err(refused)
 }
 
 /// A text is no token or no set, or memory ran out.

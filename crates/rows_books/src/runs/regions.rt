@@ -76,7 +76,7 @@ pub(crate) fn place(alloc: Global, draws: &mut Draws) -> io::Result<Place> {
             let pairs = pairs(alloc, draws)?;
             Ok(Place::Address(address(alloc, pairs)?))
         }
-        2 => match Token::parse(alloc, token(draws).as_bytes()) {
+        2 => match Token::parse(token(draws).as_bytes()) {
             Ok(token) => Ok(Place::Token(token)),
             Err(_) => Err(unfit()),
         },

@@ -5,8 +5,8 @@ use Rattle.lost_spec.specs.Token.{is_token}
 use Rattle.lost_profile.proofs.TokenLemmas.{token_at}
 use Rattle.lost_profile.proofs.token_set.TokenSet.copied.Goals as goal
 
-pub keep-requires : goal.keep-requires
-keep-requires c =
+pub of-requires : goal.of-requires
+of-requires c =
     let texts = c.args.texts.now in
     let at = c.loop-text.text-index in
     let text = c.text-item.result in

@@ -3,7 +3,7 @@ use Rattle.std.specs.List.{list_all}
 use Rattle.lost_spec.specs.Text.{is_between}
 use Rattle.lost_reading.specs.TreeParts.{is_pattern_entry}
 use Rattle.lost_reading.proofs.PatternLemmas.{is_region-entries}
-use Rattle.lost_reading.proofs.tree.make_pattern.Goals as goal
+use Rattle.lost_reading.proofs.regions.make_pattern.Goals as goal
 
 pub returns-then-is_pattern_count : goal.returns-then-is_pattern_count
 returns-then-is_pattern_count c =
