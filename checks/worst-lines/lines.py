@@ -100,6 +100,36 @@ def large():
     yield json.loads(publish(NEW, [square(0, 0, STEP)], key="k77", uri=[f"s{number}:x" for number in range(60_000)]))
 
 
+def street_lines(name):
+    """Requests over a map of streets: what each asks, the most microseconds it may take, a part of its reply, and its line."""
+    here = lambda **more: {"country": "US", "A1": "NJ", **more}
+    more = {"A2": "Bergen", "A4": "North", "PRD": "N", "STS": "Road", "FLR": "2", "NAM": "Hall", "PC": "07605", "UNIT": "7", "ROOM": "3"}
+    found, lost = b'"findServiceResponse"', b'"notFound"'
+    if name == "county":
+        street = here(A3="Town 77", RD="Street 7", HNO="5")
+        asked = [
+            ("a street of 566 towns", 20, found, street, False),
+            ("a street of 566 towns, 14 elements", 20, found, street | more, False),
+            ("a street of 566 towns, in none of them", 20, lost, here(A3="Nowhere", RD="Street 7", HNO="5"), False),
+            ("a street of 566 towns, validated", 60, found, street, True),
+            ("a street of 566 towns, 14 elements, validated", 60, found, street | more, True),
+        ]
+    else:
+        elsewhere = here(A3="Elsewhere", RD="Lane 777", HNO="5")
+        right = here(A3="Leonia", RD="Lane 777", HNO="5")
+        other = lost if name == "lanes" else found
+        asked = [
+            (f"{name}: a street of 40,000", 20, found, right, False),
+            (f"{name}: a street of 40,000, validated", 60, found, right, True),
+            (f"{name}: in a wrong town", 400, other, elsewhere, False),
+            (f"{name}: in a wrong town, validated", 400, other, elsewhere, True),
+            (f"{name}: a wrong street", 400, other, here(A3="Leonia", RD="Lane", HNO="5"), False),
+            (f"{name}: a wrong street, validated", 400, other, here(A3="Leonia", RD="Lane", HNO="5"), True),
+        ]
+    for title, most, want, pairs, is_validated in asked:
+        yield title, most, want, line(find(address(**pairs), **({"validateLocation": True} if is_validated else {})))
+
+
 def first_lines():
     """All lines to begin with, of at most 1 MiB."""
     lines = [line(value) for kind in (questions, orders, large) for value in kind()]

@@ -110,6 +110,22 @@ def deep_services(number):
     return publish(number, [square(*corner(number), STEP)], f"{SERVICE}.a.s{number}")
 
 
+def county(number):
+    """The streets of a county: 566 towns whose streets have the same 115 names."""
+    return publish(number, [pattern(country="US", A1="NJ", A3=f"Town {number % 566}", RD=f"Street {number // 566}")])
+
+
+def lanes(number):
+    """The streets of one town, each with a name of its own."""
+    return publish(number, [pattern(country="US", A1="NJ", A3="Leonia", RD=f"Lane {number}")])
+
+
+def lanes_of_a_state(number):
+    """The same beside one mapping for the whole state."""
+    return publish(number, [pattern(country="US", A1="NJ")]) if number == 0 else lanes(number)
+
+
+STREETS = {"county": (county, 65_000), "lanes": (lanes, 40_000), "lanes of a state": (lanes_of_a_state, 40_001)}
 USUAL = {"districts": districts, "towns": towns, "buildings": buildings, "districts of eight services": services}
 WORST = {
     "all over one place": one_place, "all with one token": one_token, "near misses of one place": near_misses, "near misses of one name": one_name,
