@@ -19,7 +19,7 @@ use Rattle.lost_civicdex.specs.KeyPresence.{key_stands, stands_from_key, has_las
 in_found : {X : Type 0} (found : Option X) (x : X) → found ≡ Some x → Contains (option_to_list found) x
 in_found found x is = subst (λ own. Contains (option_to_list own) x) (sym is) (0, omega arith, refl)
 
-text_from_IsSome : (found : Option Text) → IsSome found → (text : Text) × (found ≡ Some text)
+pub text_from_IsSome : (found : Option Text) → IsSome found → (text : Text) × (found ≡ Some text)
 text_from_IsSome None h = absurd (false≢true h)
 text_from_IsSome (Some text) h = (text, refl)
 

@@ -5,6 +5,8 @@ pub mod KeyOrder
 pub mod KeyPresence
 pub mod Keys
 pub mod KeysApart
+pub mod NamedElements
+pub mod NamedLaws
 pub mod OutlineLaws
 pub mod References
 pub mod Rows

@@ -5,6 +5,7 @@ use Rattle.lost_spec.specs.Examples.{wide_pattern, house_pattern, address_with}
 use Rattle.lost_civic.specs.declared.elements.Element.TheVariants.{Country, A1, A3, Hno, Flr, Pc}
 use Rattle.lost_civicdex.specs.Keys.{Key, keys_of}
 use Rattle.lost_civicdex.specs.Covers.{civic_cover, names_all, required_probes}
+use Rattle.lost_civicdex.specs.NamedElements.{names_element, named_cover}
 
 -- the postal code of the row
 abbrev pub code : Text
@@ -30,3 +31,10 @@ ReferencesRow =
     × (names_all house_pattern valid_elements ≡ true)
     × (names_all house_pattern ((A3, codes "leonia") ∷ (Hno, codes "6") ∷ []) ≡ false)
     × (names_all wide_pattern ((Pc, code) ∷ []) ≡ false)
+
+-- a house is kept under the five elements that it names, and the town names no postal code
+abbrev pub NamedRow : Type 0
+NamedRow =
+    (named_cover house_pattern ≡ Country ∷ A1 ∷ A3 ∷ Hno ∷ Pc ∷ [])
+    × (names_element house_pattern Pc ≡ true)
+    × (names_element wide_pattern Pc ≡ false)

@@ -4,6 +4,7 @@
 mod civic;
 mod keys;
 pub mod laws;
+mod named;
 mod references;
 mod required;
 pub mod rows;
@@ -11,5 +12,6 @@ mod texts;
 
 pub use civic::Civic;
 pub use keys::ElementKey;
+pub use named::Named;
 pub use references::References;
 pub use required::RequiredElements;
