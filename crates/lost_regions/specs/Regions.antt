@@ -9,7 +9,7 @@ use Rattle.lost_spec.specs.Mapping.{Mapping}
 use Rattle.lost_index.specs.Entries.{IsAbove, IsHeld, numbers, holders, with_number, without}
 use Rattle.lost_regions.specs.UnderNumber.{IsHeldWith}
 
--- numbers with polygons, which are asked for a point, with patterns, which are asked for an address and for required elements, and with token sets, which are asked for a token
+-- numbers with polygons, which are asked for a point, with patterns, which are asked for an address, and for required elements and any one element, and with token sets, which are asked for a token
 pub record Regions : Type 0 where
   pub points : List (ℕ × List (List Point))
   pub addresses : List (ℕ × List Pairs)

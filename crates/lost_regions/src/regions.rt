@@ -1,15 +1,18 @@
-//! The four indexes.
+//! The indexes of regions.
 ghost use Rattle.std.specs.Prelude.{◌≡◌, ◌∷◌, ◌++◌, ℕ, [], All, Contains, IfOk, OnOk, OnErr};
 ghost use Rattle.std.specs.List.Sorted.{IsStrictlyIncreasing};
 ghost use Rattle.lost_location.specs.Place.{place_of};
 ghost use Rattle.lost_civicdex.specs.Covers.{names_all};
-ghost use Rattle.lost_index.specs.Entries.{IsAbove, holders, with_number};
+ghost use Rattle.lost_civicdex.specs.NamedElements.{names_element};
+ghost use Rattle.lost_index.specs.Entries.{IsAbove, IsHeld, holders, with_number};
 ghost use Rattle.lost_regions.specs.UnderNumber.{IsHeldWith};
 ghost use Rattle.lost_regions.specs.Regions.{no_regions, AreHeld, IsAboveAll, HasAll, joined, with_mapping, with_more, with_other, without_number, numbers_at, holders_at};
 
 use crate::copies::{patterns_of, polygons_of, token_sets_of};
+use crate::named_patterns::NamedPatterns;
 use crate::part::{keep_first, keep_rest};
-use lost_civicdex::{Civic, References, RequiredElements};
+use lost_civic::Element;
+use lost_civicdex::{Civic, RequiredElements};
 use lost_grid::Geodetic2d;
 use lost_index::Index;
 use lost_location::Place;
@@ -24,7 +27,7 @@ pub struct Regions {
     alloc: Global,
     points: Index<Geodetic2d>,
     addresses: Index<Civic>,
-    references: Index<References>,
+    references: NamedPatterns,
     tokens: Index<Tokens>,
 }
 
@@ -45,7 +48,7 @@ impl Regions {
             alloc,
             points: Index::new(alloc),
             addresses: Index::new(alloc),
-            references: Index::new(alloc),
+            references: NamedPatterns::new(alloc),
             tokens: Index::new(alloc),
         }
     }
@@ -99,10 +102,9 @@ impl Regions {
         }) }
         ensures refused { OnErr result (self.new ≡ self.old) }
     {
-        let patterns = patterns_of(self.alloc, mapping)?;
         self.addresses
             .put(number, patterns_of(self.alloc, mapping)?)?;
-        if self.references.put(number, patterns).is_err() {
+        if self.references.put(self.alloc, number, mapping).is_err() {
             self.addresses.take(number);
             return Err(AllocError);
         }
@@ -167,9 +169,8 @@ impl Regions {
         }) }
         ensures refused { OnErr result (self.new ≡ self.old) }
     {
-        let patterns = patterns_of(self.alloc, new)?;
         self.addresses.add(number, patterns_of(self.alloc, new)?)?;
-        if self.references.add(number, patterns).is_err() {
+        if self.references.add(self.alloc, number, old, new).is_err() {
             keep_first(&mut self.addresses, number, old.patterns(), new.patterns());
             return Err(AllocError);
         }
@@ -183,7 +184,7 @@ impl Regions {
     {
         keep_rest(&mut self.points, number, old.polygons(), new.polygons());
         keep_rest(&mut self.addresses, number, old.patterns(), new.patterns());
-        keep_rest(&mut self.references, number, old.patterns(), new.patterns());
+        self.references.shed(number, old, new);
         keep_rest(&mut self.tokens, number, old.token_sets(), new.token_sets());
     }
 
@@ -221,6 +222,17 @@ impl Regions {
     pub fn naming(&self, required: &RequiredElements) -> Result<Vec<u64>, AllocError>
         ensures { IfOk result (λ numbers. numbers.items ≡ holders names_all required.now self.now.references) }
     {
-        self.references.holding(required)
+        self.references.naming(required)
+    }
+
+    /// Numbers with a pattern that may name the element, rising, each once. Each number with a pattern that names it is
+    /// among them (RFC 5222, section 8.4.2; own policy). No region is asked.
+    pub fn near_element(&self, element: Element) -> Result<Vec<u64>, AllocError>
+        ensures holders { IfOk result (λ near. (number : ℕ)
+            → Contains (holders names_element element self.now.references) number → Contains near.items number) }
+        ensures held { IfOk result (λ near. All (λ number. IsHeld number self.now.references) near.items) }
+        ensures rising { IfOk result (λ near. IsStrictlyIncreasing near.items) }
+    {
+        self.references.near_element(element)
     }
 }

@@ -11,8 +11,7 @@ add-requires c =
 
 pub add-requires-2 : goal.add-requires-2
 add-requires-2 c =
-    is_held c.args.number c.args.old.now.regions.patterns c.self.inside.references
-    (subst (IsHeldWith c.args.number c.args.old.now.regions.patterns) (sym (ap (λ r. r.references) c.self.view_is)) c.requires.references)
+    subst (IsHeldWith c.args.number c.args.old.now.regions.patterns) (sym (ap (λ r. r.references) c.self.view_is)) c.requires.references
 
 pub keep_first-requires : goal.keep_first-requires
 keep_first-requires c =
