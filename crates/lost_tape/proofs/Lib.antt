@@ -4,3 +4,5 @@ pub mod PartLemmas
 pub mod MemberLemmas
 pub mod PartsLemmas
 pub mod ByNameLemmas
+pub mod CompactLemmas
+pub mod CompactParts

@@ -4,6 +4,7 @@
 #![tactic(auto)]
 
 mod addresses;
+mod compact;
 mod line;
 mod locations;
 mod mappings;

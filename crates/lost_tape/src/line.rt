@@ -10,6 +10,7 @@ ghost use Rattle.lost_reading.specs.Lines.{GivesWhole};
 ghost use Rattle.lost_reading.specs.Requests.{request_in, line_request};
 ghost use Rattle.lost_tape.specs.Tapes.{data_of, is_sure, IsTapeOf};
 
+use crate::compact::read_compact;
 use crate::nesting::nests_within;
 use crate::numbers::whole_number;
 use crate::requests::read_root;
@@ -57,8 +58,18 @@ pub(crate) fn read_common_line<'a>(
     }
 }
 
-/// What a text is.
+/// What a text is. The line that is sent most is read without a list of tokens.
 fn read_text<'a>(alloc: Global, text: &'a str, scratch: &'a mut Scratch) -> Option<Line<'a>>
+    ensures { IfSome result (λ found. GivesWhole (Ok found) (desk_line text.now) (line_request text.now)) }
+{
+    match read_compact(alloc, text) {
+        Some(request) => Some(Line::Request(request)),
+        None => read_by_tokens(alloc, text, scratch),
+    }
+}
+
+/// What a text is, by its tokens.
+fn read_by_tokens<'a>(alloc: Global, text: &'a str, scratch: &'a mut Scratch) -> Option<Line<'a>>
     ensures { IfSome result (λ found. GivesWhole (Ok found) (option_and_then order_in (read text.now)) (option_and_then request_in (read text.now))) }
 {
     match Tape::parse(text, scratch, Vec::new(alloc)) {
