@@ -4,3 +4,6 @@ pub mod PartLemmas
 pub mod MemberLemmas
 pub mod PartsLemmas
 pub mod ByNameLemmas
+pub mod CompactLemmas
+pub mod CompactParts
+pub mod ServiceBytes

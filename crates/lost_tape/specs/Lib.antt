@@ -1,2 +1,3 @@
 pub mod Tapes
 pub mod ByName
+pub mod Compact

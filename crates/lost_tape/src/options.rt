@@ -1,6 +1,7 @@
 //! The service, the path and the options of a request.
-ghost use Rattle.std.specs.Prelude.{◌≡◌, [], Some, IfSome, option_map, option_and_then, false};
+ghost use Rattle.std.specs.Prelude.{◌≡◌, [], Some, Ok, IfSome, option_map, option_and_then, false};
 ghost use Rattle.serde_json.specs.Find.{as_bool};
+ghost use Rattle.lost_spec.specs.Service.{read_service};
 ghost use Rattle.lost_message.specs.Request.{path_names};
 ghost use Rattle.lost_reading.specs.Members.{service_in, optional_value};
 ghost use Rattle.lost_reading.specs.Requests.{path_kind, by_value_kind};
@@ -14,15 +15,22 @@ use lost_urn::ServiceUrn;
 use std::alloc::Global;
 use std::borrow::CowStr;
 
+/// The service that a text spells.
+pub(crate) fn parse_service(alloc: Global, text: &[u8]) -> Option<ServiceUrn>
+    ensures { IfSome result (λ service. read_service text.now ≡ Ok service) }
+{
+    match ServiceUrn::parse(alloc, text) {
+        Ok(service) => Some(service),
+        Err(_) => None,
+    }
+}
+
 /// The service of a text.
 fn read_service(alloc: Global, tree: &Tree<'_, '_>) -> Option<ServiceUrn>
     ensures { IfSome result (λ service. service_in (data_of tree.now) ≡ Some service) }
 {
     let text = tree.text()?;
-    match ServiceUrn::parse(alloc, text.as_bytes()) {
-        Ok(service) => Some(service),
-        Err(_) => None,
-    }
+    parse_service(alloc, text.as_bytes())
 }
 
 /// The service that a request must have.
