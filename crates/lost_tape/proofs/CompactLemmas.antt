@@ -1,6 +1,11 @@
 -- The compact line of a findService at one point is read as that request.
-use Rattle.std.proofs.Common.{◌≡◌, ◌<◌, ◌^◌, ℤ, pos, negsuc, [], ◌∷◌, ◌++◌, Some, None, Ok, option_and_then, refl, sym, ap, ◌∙◌, arith, append_assoc, append-nil, lt-ltb}
-use Rattle.std.specs.Str.{IsUtf8}
+use Rattle.std.proofs.Common.{◌≡◌, ◌<◌, ◌^◌, ℤ, pos, negsuc, [], ◌∷◌, ◌++◌, Some, None, Ok, option_and_then, refl, sym, ap, ◌∙◌, subst, arith, append_assoc, append-nil, lt-ltb}
+use Rattle.std.specs.Str.{IsUtf8, IsAscii}
+use Rattle.std.proofs.lemmas.Str.{IsUtf8-append, IsUtf8-from_ascii}
+use Rattle.std.proofs.lemmas.Fmt.{IsAscii-signed}
+use Rattle.json.proofs.Printed.Utf8.{IsUtf8-are_ascii}
+use Rattle.lost_urn.proofs.ReadLemmas.{ascii_text}
+use Rattle.lost_tape.proofs.ServiceBytes.{service_plain}
 use Rattle.std.specs.Fmt.{signed_decimal}
 use lib.Signed.{mag}
 use Rattle.json.specs.Json as json
@@ -101,15 +106,26 @@ text_is id service lat lon p q =
     ∙ ap (λ t. before_id ++ ((escape id ++ 34 ∷ []) ++ (44 ∷ 34 ∷ 112 ∷ 111 ∷ 115 ∷ 34 ∷ 58 ∷ 91 ∷ (la ++ (before_lon ++ (lo ++ (before_service ++ t))))))) end
     ∙ ap (λ t. before_id ++ t) (quote_then id _ p))
 
+-- it is UTF-8
+line_utf8 : (id service : Text) (lat lon : ℤ) → IsUtf8 id → mag lat < 2 ^ 63 → mag lon < 2 ^ 63 → IsAscii service → IsUtf8 (point_line id lat lon service)
+unfolding point_line before_id before_lat before_lon before_service after_service
+line_utf8 id service lat lon u p q a =
+    let end = IsUtf8-append service after_service (IsUtf8-from_ascii service a) (IsUtf8-are_ascii after_service refl) in
+    let named = IsUtf8-append before_service _ (IsUtf8-are_ascii before_service refl) end in
+    let east = IsUtf8-append before_lon _ (IsUtf8-are_ascii before_lon refl) (IsUtf8-append (signed_decimal lon) _ (IsUtf8-from_ascii _ (IsAscii-signed lon q)) named) in
+    let north = IsUtf8-append before_lat _ (IsUtf8-are_ascii before_lat refl) (IsUtf8-append (signed_decimal lat) _ (IsUtf8-from_ascii _ (IsAscii-signed lat p)) east) in
+    IsUtf8-append before_id _ (IsUtf8-are_ascii before_id refl) (IsUtf8-append id _ u north)
+
 -- such a line is that request, and no desk line
-pub line_is_read : (line : Text) (point : PointLine) (s : Service) → IsPointLine line point → IsUtf8 line → read_service point.service.now ≡ Ok s
+pub line_is_read : (line : Text) (point : PointLine) (s : Service) → IsPointLine line point → IsUtf8 point.id.now → read_service point.service.now ≡ Ok s
     → (line_request line ≡ Some (point_request point.id.now point.lat point.lon s)) × (desk_line line ≡ None)
-line_is_read line point s is utf8 found =
+line_is_read line point s is utf8_id found =
     let id = point.id.now in
     let service = point.service.now in
     let p = spells point.lat is.small_lat in
     let q = spells point.lon is.small_lon in
-    let tree = ap read (is.written ∙ text_is id service point.lat point.lon is.plain_id is.plain_service) ∙ read_printed id _ _ service point.lat point.lon p q in (
+    let utf8 = subst IsUtf8 (sym is.written) (line_utf8 id service point.lat point.lon utf8_id is.small_lat is.small_lon (ascii_text service s found)) in
+    let tree = ap read (is.written ∙ text_is id service point.lat point.lon is.plain_id (service_plain service s found)) ∙ read_printed id _ _ service point.lat point.lon p q in (
       sym (line_request-read line line (refl, utf8)) ∙ ap (option_and_then request_in) tree ∙ request_of_tree id service p.held q.held point.lat point.lon s p.whole q.whole found,
       sym (desk_line-read line line (refl, utf8)) ∙ ap (option_and_then order_in) tree ∙ no_order id service p.held q.held,
     )

@@ -15,6 +15,10 @@ pub cut_front : (text front begins rest : List ℕ) → begins ≡ take (length 
 cut_front text front begins rest is_front is_rest same =
     sym (take-append-drop (length front) text) ∙ ap (λ t. t ++ drop (length front) text) (sym is_front ∙ same) ∙ ap (λ t. front ++ t) (sym is_rest)
 
+-- a text that is cut where its end begins
+pub cut_end : (text front rest end : List ℕ) (n : ℕ) → front ≡ take n text → rest ≡ drop n text → rest ≡ end → text ≡ front ++ end
+cut_end text front rest end n is_front is_rest same = sym (take-append-drop n text) ∙ ap (λ t. t ++ drop n text) (sym is_front) ∙ ap (λ t. front ++ t) (sym is_rest ∙ same)
+
 -- the plain bytes that a text begins with need no escape
 pub plain_front : (text : List ℕ) (n : ℕ) → n ≤ length text → PlainBetween text 0 n → IsPlain (take n text)
 plain_front text n within plain =
@@ -31,7 +35,7 @@ number_front text n value within digits is small some lead =
     sym (take-append-drop n text) ∙ ap (λ t. t ++ drop n text) (sym (ap decimal is ∙ same))
 
 -- a line is written of its parts
-pub line_of_parts : (line r1 id r2 r3 r4 r5 r6 r7 service r8 : List ℕ) (lat lon : ℤ) → line ≡ before_id ++ r1 → r1 ≡ id ++ r2 → r2 ≡ before_lat ++ r3 → r3 ≡ signed_decimal lat ++ r4 → r4 ≡ before_lon ++ r5
-    → r5 ≡ signed_decimal lon ++ r6 → r6 ≡ before_service ++ r7 → r7 ≡ service ++ r8 → r8 ≡ after_service → line ≡ point_line id lat lon service
+pub line_of_parts : (line r1 id r2 r3 r4 r5 r6 r7 service : List ℕ) (lat lon : ℤ) → line ≡ before_id ++ r1 → r1 ≡ id ++ r2 → r2 ≡ before_lat ++ r3 → r3 ≡ signed_decimal lat ++ r4 → r4 ≡ before_lon ++ r5
+    → r5 ≡ signed_decimal lon ++ r6 → r6 ≡ before_service ++ r7 → r7 ≡ service ++ after_service → line ≡ point_line id lat lon service
 unfolding point_line
-line_of_parts line r1 id r2 r3 r4 r5 r6 r7 service r8 lat lon e1 e2 e3 e4 e5 e6 e7 e8 e9 = cc
+line_of_parts line r1 id r2 r3 r4 r5 r6 r7 service lat lon e1 e2 e3 e4 e5 e6 e7 e8 = cc

@@ -6,3 +6,4 @@ pub mod PartsLemmas
 pub mod ByNameLemmas
 pub mod CompactLemmas
 pub mod CompactParts
+pub mod ServiceBytes

@@ -47,6 +47,5 @@ IsPlain text = escape text ≡ text
 pub record IsPointLine (line : Text) (point : PointLine) : Type 0 where
   pub written : line ≡ point_line point.id.now point.lat point.lon point.service.now
   pub plain_id : IsPlain point.id.now
-  pub plain_service : IsPlain point.service.now
   pub small_lat : mag point.lat < 2 ^ 63
   pub small_lon : mag point.lon < 2 ^ 63

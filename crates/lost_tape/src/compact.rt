@@ -2,6 +2,7 @@
 ghost use Rattle.std.specs.Prelude.{◌≡◌, ◌≤◌, ◌<◌, ◌++◌, ◌∷◌, Some, None, IfSome, OnSome, length, take, slice_index, decimal};
 ghost use Rattle.std.specs.Bool.{OnTrue};
 ghost use Rattle.std.specs.Fmt.{signed_decimal};
+ghost use Rattle.std.specs.Str.{IsUtf8};
 ghost use Rattle.std.specs.Str.Parse.{AllDigits, digits_value};
 ghost use Rattle.json.specs.Written.{PlainBetween};
 ghost use Rattle.json.specs.Run.{is_plain};
@@ -46,11 +47,11 @@ pub(crate) struct PointLine<'a> {
 
 /// Reads a compact line of a `findService` at one point: the members of each object in the order of their names, no
 /// space and no escape (RFC 5222, section 8; own format). `None` says nothing of the line.
-pub(crate) fn read_compact<'a>(alloc: Global, line: &'a str) -> Option<Request<'a>>
+pub(crate) fn read_compact<'a>(alloc: Global, line: &'a [u8]) -> Option<Request<'a>>
     ensures request { IfSome result (λ request. line_request line.now ≡ Some (request_of request)) }
     ensures no_desk_line { OnSome result (desk_line line.now ≡ None) }
 {
-    let point = read_point(line.as_bytes())?;
+    let point = read_point(line)?;
     let id = text_of(point.id)?;
     let service = parse_service(alloc, point.service)?;
     Some(request_at(alloc, id, point.lat, point.lon, service))
@@ -58,7 +59,7 @@ pub(crate) fn read_compact<'a>(alloc: Global, line: &'a str) -> Option<Request<'
 
 /// The text of an id.
 fn text_of(bytes: &[u8]) -> Option<&str>
-    ensures { IfSome result (λ text. text.now ≡ bytes.now) }
+    ensures { IfSome result (λ text. (text.now ≡ bytes.now) × IsUtf8 bytes.now) }
 {
     match std::str::from_utf8(bytes) {
         Ok(text) => Some(text),
@@ -105,17 +106,13 @@ fn read_point<'a>(line: &'a [u8]) -> Option<PointLine<'a>>
     let rest = after(rest, BEFORE_LON)?;
     let (lon, rest) = read_number(rest)?;
     let rest = after(rest, BEFORE_SERVICE)?;
-    let (service, rest) = split_plain(rest);
-    if rest == AFTER_SERVICE.as_slice() {
-        Some(PointLine {
-            id,
-            lat,
-            lon,
-            service,
-        })
-    } else {
-        None
-    }
+    let service = before(rest, AFTER_SERVICE)?;
+    Some(PointLine {
+        id,
+        lat,
+        lon,
+        service,
+    })
 }
 
 /// What follows the front of a text.
@@ -125,6 +122,16 @@ fn after<'a>(text: &'a [u8], front: &[u8]) -> Option<&'a [u8]>
 {
     let (begins, rest) = text.split_at_checked(front.len())?;
     if begins == front { Some(rest) } else { None }
+}
+
+/// What stands before the end of a text.
+#[inline(always)]
+fn before<'a>(text: &'a [u8], end: &[u8]) -> Option<&'a [u8]>
+    ensures { IfSome result (λ front. text.now ≡ front.now ++ end.now) }
+{
+    let at = text.len().checked_sub(end.len())?;
+    let (front, rest) = text.split_at(at);
+    if rest == end { Some(front) } else { None }
 }
 
 /// Cuts a text at the first byte that stands in no plain JSON text: a quote, a backslash or a control byte.

@@ -52,6 +52,16 @@ pub(crate) fn read_common_line<'a>(
     if line.len() > MAX_TAPE_BYTES {
         return None;
     }
+    match read_compact(alloc, line) {
+        Some(request) => Some(Line::Request(request)),
+        None => read_by_tokens(alloc, line, scratch),
+    }
+}
+
+/// What a line is, by its tokens.
+fn read_by_tokens<'a>(alloc: Global, line: &'a [u8], scratch: &'a mut Scratch) -> Option<Line<'a>>
+    ensures { IfSome result (λ found. GivesWhole (Ok found) (desk_line line.now) (line_request line.now)) }
+{
     match std::str::from_utf8(line) {
         Ok(text) => read_text(alloc, text, scratch),
         Err(_) => None,
