@@ -68,18 +68,8 @@ fn read_by_tokens<'a>(alloc: Global, line: &'a [u8], scratch: &'a mut Scratch) -
     }
 }
 
-/// What a text is. The line that is sent most is read without a list of tokens.
+/// What a text is.
 fn read_text<'a>(alloc: Global, text: &'a str, scratch: &'a mut Scratch) -> Option<Line<'a>>
-    ensures { IfSome result (λ found. GivesWhole (Ok found) (desk_line text.now) (line_request text.now)) }
-{
-    match read_compact(alloc, text) {
-        Some(request) => Some(Line::Request(request)),
-        None => read_by_tokens(alloc, text, scratch),
-    }
-}
-
-/// What a text is, by its tokens.
-fn read_by_tokens<'a>(alloc: Global, text: &'a str, scratch: &'a mut Scratch) -> Option<Line<'a>>
     ensures { IfSome result (λ found. GivesWhole (Ok found) (option_and_then order_in (read text.now)) (option_and_then request_in (read text.now))) }
 {
     match Tape::parse(text, scratch, Vec::new(alloc)) {
