@@ -72,14 +72,26 @@ impl Holdings for WithHolders<'_> {
         self.book.of_service(moment, service)
     }
 
-    fn referring(
+    fn is_agreed(
         &self,
         moment: &Moment,
         service: &ServiceUrn,
         address: &CivicAddress,
         elements: &[Element],
-    ) -> Result<Positions, AllocError> {
-        self.book.referring(moment, service, address, elements)
+    ) -> Result<bool, AllocError> {
+        self.book.is_agreed(moment, service, address, elements)
+    }
+
+    fn is_named(
+        &self,
+        moment: &Moment,
+        service: &ServiceUrn,
+        address: &CivicAddress,
+        elements: &[Element],
+        named: Element,
+    ) -> Result<bool, AllocError> {
+        self.book
+            .is_named(moment, service, address, elements, named)
     }
 
     fn services_below(

@@ -16,7 +16,8 @@ use Rattle.lost_spec.proofs.OrderLemmas.{AllByRecursion-ascending_by}
 use Rattle.lost_civic.specs.declared.elements.Element.{Element}
 use Rattle.lost_civic.specs.Element.{element_name, all_elements}
 use Rattle.lost_civic.proofs.ElementLemmas.{element_named-element_name, is_known-elements}
-use Rattle.lost_query.specs.Judged.{stands_in, is_named, is_agreed, is_contradicted, is_reference, is_valid_element, ValidatesNoOther}
+use Rattle.lost_query.specs.Judged.{stands_in, is_named, is_contradicted, is_reference, is_valid_element, ValidatesNoOther}
+use Rattle.lost_query.proofs.ReferenceLemmas.{contradicted}
 use Rattle.lost_query.proofs.SplitLemmas.{filter_alike, filter-map, filter-filter, list_any-filter_both, passes_filter, is_among-fails, filter_first, filter_both}
 
 -- ---- known names and others
@@ -128,13 +129,15 @@ no_other_valid found address matching are lawful = record {
 -- ---- the validation
 
 module _ (b : Book) (t : Instant) (u : Service) (found : List Mapping) (address : Pairs)
-    (references : List Pairs) (valid others invalid unchecked : List Element)
+    (valid others invalid unchecked : List Element)
     (valid_are : valid ≡ filter (is_valid_element found address) (filter (stands_in address) all_elements))
     (others_are : others ≡ filter (λ e. not (is_valid_element found address e)) (filter (stands_in address) all_elements))
     (no_other : ValidatesNoOther found address)
-    (references_are : references ≡ filter (is_reference valid address) (patterns_in (of_service b t u)))
-    (invalid_are : invalid ≡ filter (is_contradicted references address) others)
-    (unchecked_are : unchecked ≡ filter (λ e. not (is_contradicted references address e)) others) where
+    (invalid_are : invalid ≡ filter (is_contradicted b t u address valid) others)
+    (unchecked_are : unchecked ≡ filter (λ e. not (is_contradicted b t u address valid e)) others) where
+  abbrev references : List Pairs
+  references = filter (is_reference valid address) (patterns_in (of_service b t u))
+
   abbrev elements : List Element
   elements = filter (stands_in address) all_elements
 
@@ -150,16 +153,19 @@ module _ (b : Book) (t : Instant) (u : Service) (found : List Mapping) (address 
 
   references_is : references ≡ reference_patterns b t u found address
   references_is =
-      references_are
-      ∙ filter_alike (is_reference valid address) (λ p. list_all (λ name. agrees address name p) (valid_names found address)) (λ p. sym (ap (list_all (λ name. agrees address name p)) (sym valid_is) ∙ list_all-map (λ name. agrees address name p) element_name valid)) (patterns_in (of_service b t u))
+      filter_alike (is_reference valid address) (λ p. list_all (λ name. agrees address name p) (valid_names found address)) (λ p. sym (ap (list_all (λ name. agrees address name p)) (sym valid_is) ∙ list_all-map (λ name. agrees address name p) element_name valid)) (patterns_in (of_service b t u))
 
   -- an element is invalid, and is unchecked, where it is not valid and is contradicted, or is not
   abbrev is_other : Element → Bool
   is_other e = not (is_valid_element found address e)
 
-  invalid_name : (e : Element) → is_invalid references found address (element_name e) ≡ (is_other e && is_contradicted references address e)
+  abbrev is_agreed : Element → Bool
+  is_agreed e = list_any (agrees address (element_name e)) references
+
+  invalid_name : (e : Element) → is_invalid references found address (element_name e) ≡ (is_other e && is_contradicted b t u address valid e)
   invalid_name e =
-      invalid-known (is_known (element_name e)) (is_valid found address (element_name e)) (is_named references e) (is_agreed references address e) (is_known-element_name e)
+      invalid-known (is_known (element_name e)) (is_valid found address (element_name e)) (is_named references e) (is_agreed e) (is_known-element_name e)
+      ∙ ap (λ c. is_other e && c) (sym (contradicted b t u address valid e))
 
   no_other_invalid : (name : Text) → is_known name ≡ false → is_invalid references found address name ≡ false
   no_other_invalid name =
@@ -167,17 +173,18 @@ module _ (b : Book) (t : Instant) (u : Service) (found : List Mapping) (address 
 
   invalid_is : map element_name invalid ≡ filter (is_invalid references found address) (ordered_names address)
   invalid_is =
-      ap (map element_name) (invalid_are ∙ ap (filter (is_contradicted references address)) others_are ∙ filter-filter is_other (is_contradicted references address) elements)
+      ap (map element_name) (invalid_are ∙ ap (filter (is_contradicted b t u address valid)) others_are ∙ filter-filter is_other (is_contradicted b t u address valid) elements)
       ∙ sym (ap (filter (is_invalid references found address)) names
-      ∙ filter_first (is_invalid references found address) (λ e. is_other e && is_contradicted references address e) element_name invalid_name elements (others_of address)
+      ∙ filter_first (is_invalid references found address) (λ e. is_other e && is_contradicted b t u address valid e) element_name invalid_name elements (others_of address)
       (AllByRecursion-weaker (λ name. is_known name ≡ false) (λ name. is_invalid references found address name ≡ false) no_other_invalid (others_of address) (others_unknown address)))
 
   abbrev is_unchecked : Text → Bool
   is_unchecked name = not (is_valid found address name) && not (is_invalid references found address name)
 
-  unchecked_name : (e : Element) → is_unchecked (element_name e) ≡ (is_other e && not (is_contradicted references address e))
+  unchecked_name : (e : Element) → is_unchecked (element_name e) ≡ (is_other e && not (is_contradicted b t u address valid e))
   unchecked_name e =
-      unchecked-known (is_known (element_name e)) (is_valid found address (element_name e)) (is_named references e) (is_agreed references address e) (is_known-element_name e)
+      unchecked-known (is_known (element_name e)) (is_valid found address (element_name e)) (is_named references e) (is_agreed e) (is_known-element_name e)
+      ∙ ap (λ c. is_other e && not c) (sym (contradicted b t u address valid e))
 
   others_unchecked : (name : Text) → is_known name ≡ false → is_unchecked name ≡ true
   others_unchecked name unknown =
@@ -185,9 +192,9 @@ module _ (b : Book) (t : Instant) (u : Service) (found : List Mapping) (address 
 
   unchecked_is : map element_name unchecked ++ others_of address ≡ filter (λ name. not (is_valid found address name) && not (is_invalid references found address name)) (ordered_names address)
   unchecked_is =
-      ap (λ es. map element_name es ++ others_of address) (unchecked_are ∙ ap (filter (λ e. not (is_contradicted references address e))) others_are ∙ filter-filter is_other (λ e. not (is_contradicted references address e)) elements)
+      ap (λ es. map element_name es ++ others_of address) (unchecked_are ∙ ap (filter (λ e. not (is_contradicted b t u address valid e))) others_are ∙ filter-filter is_other (λ e. not (is_contradicted b t u address valid e)) elements)
       ∙ sym (ap (filter is_unchecked) names
-      ∙ filter_both is_unchecked (λ e. is_other e && not (is_contradicted references address e)) element_name unchecked_name elements (others_of address)
+      ∙ filter_both is_unchecked (λ e. is_other e && not (is_contradicted b t u address valid e)) element_name unchecked_name elements (others_of address)
       (AllByRecursion-weaker (λ name. is_known name ≡ false) (λ name. is_unchecked name ≡ true) others_unchecked (others_of address) (others_unknown address)))
 
   -- so the three lists are the validation

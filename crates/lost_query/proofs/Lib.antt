@@ -10,4 +10,6 @@ pub mod NameLemmas
 pub mod PatternLemmas
 pub mod PickLemmas
 pub mod PositionLemmas
+pub mod ReferenceLemmas
+pub mod SomeLemmas
 pub mod SplitLemmas

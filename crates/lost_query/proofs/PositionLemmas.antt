@@ -1,8 +1,7 @@
 -- Positions of what passes a test: they are within the list, and what stands there is what passes.
-use Rattle.std.proofs.Common.{◌≡◌, ℕ, zero, suc, ◌+◌, ◌<◌, ◌≤◌, Bool, true, false, cond, List, map, [], ◌∷◌, ◌++◌, length, take, get_or, filter, filter_map, Option, Some, refl, sym, ap, subst, ◌∙◌, arith}
+use Rattle.std.proofs.Common.{◌≡◌, ℕ, suc, ◌+◌, ◌<◌, Bool, true, false, cond, List, map, [], ◌∷◌, ◌++◌, length, filter, filter_map, Option, Some, refl, sym, ap, subst, ◌∙◌, arith}
 use Rattle.std.specs.List.{All, AllByRecursion, cons_option, slice_get}
-use Rattle.std.proofs.lemmas.List.{take_all, take_more}
-use Rattle.std.proofs.lemmas.List.Elements.{All-nil, All-cons, filter_map-append}
+use Rattle.std.proofs.lemmas.List.Elements.{All-nil, All-cons}
 use Rattle.lost_spec.specs.Mapping.{Mapping}
 use Rattle.lost_spec.specs.Positions.{positions_from, positions}
 use Rattle.lost_spec.proofs.PositionLemmas.{positions_are_where_it_passes_lem}
@@ -52,30 +51,9 @@ at_middle : {Thing : Type 0} (P : Thing → Type 0) (front : List Thing) (x : Th
 at_middle P [] x done all = all.0
 at_middle P (y ∷ front) x done all = at_middle P front x done all.1
 
-at_index : {Thing : Type 0} (P : Thing → Type 0) (xs : List Thing) (i : ℕ) (d : Thing) → i < length xs → AllByRecursion P xs → P (get_or xs i d)
-at_index P [] i d within all = absurd (omega arith)
-at_index P (x ∷ xs) zero d within all = all.0
-at_index P (x ∷ xs) (suc i) d within all = at_index P xs i d (omega arith) all.1
-
 -- the next position is one of the list
 pub position-below : (test : Mapping → Bool) (ms : List Mapping) (rest front done : List ℕ) (i : ℕ) → rest ++ done ≡ positions test ms → rest ≡ front ++ i ∷ [] → i < length ms
 position-below test ms rest front done i is next =
     let all : AllByRecursion (λ k. k < 0 + length ms) ((front ++ i ∷ []) ++ done) = subst (AllByRecursion (λ k. k < 0 + length ms)) (sym is ∙ ap (λ xs. xs ++ done) next) (positions_from-below test 0 ms) in
     let below : i < 0 + length ms = at_middle (λ k. k < 0 + length ms) front i done all in
     omega arith
-
--- nor is one that is read by its index
-pub get_or-below : (test : Mapping → Bool) (ms : List Mapping) (ps : List ℕ) (i : ℕ) → ps ≡ positions test ms → i < length ps → get_or ps i 0 < length ms
-get_or-below test ms ps i is within =
-    let all : AllByRecursion (λ k. k < 0 + length ms) ps = subst (AllByRecursion (λ k. k < 0 + length ms)) (sym is) (positions_from-below test 0 ms) in
-    let below : get_or ps i 0 < 0 + length ms = at_index (λ k. k < 0 + length ms) ps i 0 within all in
-    omega arith
-
--- one more position
-pub at_positions_more : (ms : List Mapping) (ps : List ℕ) (i : ℕ) (m : Mapping) → i < length ps → slice_get ms (get_or ps i 0) ≡ Some m → at_positions ms (take (i + 1) ps) ≡ at_positions ms (take i ps) ++ m ∷ []
-at_positions_more ms ps i m within is =
-    ap (at_positions ms) (take_more ps i 0 within) ∙ filter_map-append (slice_get ms) (take i ps) (get_or ps i 0 ∷ []) ∙ ap (λ o. at_positions ms (take i ps) ++ cons_option o []) is
-
--- and all of them
-pub at_positions_all : (test : Mapping → Bool) (ms : List Mapping) (ps : List ℕ) (i : ℕ) → ps ≡ positions test ms → length ps ≤ i → at_positions ms (take i ps) ≡ filter test ms
-at_positions_all test ms ps i is past = at_positions-positions test ms (take i ps) (take_all i ps past ∙ is)

@@ -1,8 +1,13 @@
 //! The plain book as holdings.
+ghost use Rattle.std.specs.Prelude.{◌≡◌, Bool};
+ghost use Rattle.std.specs.List.{list_any};
+ghost use Rattle.std.specs.Fn.{FnReturnsAt};
+ghost use Rattle.lost_spec.specs.Mapping as spec;
+
 use crate::holdings::{Holdings, Positions};
 use crate::services::services_below;
-use crate::validation::patterns::refers;
-use lost_book::Book;
+use crate::validation::patterns::{refers, refers_naming};
+use lost_book::{Book, serves};
 use lost_civic::{CivicAddress, Element};
 use lost_location::Place;
 use lost_mapping::{Mapping, Moment};
@@ -54,19 +59,29 @@ impl Holdings for Book {
         Ok(SmallVec::from_vec(Book::of_service(self, moment, service)?))
     }
 
-    fn referring(
+    fn is_agreed(
         &self,
         moment: &Moment,
         service: &ServiceUrn,
         address: &CivicAddress,
         elements: &[Element],
-    ) -> Result<Positions, AllocError> {
-        let positions = self.positions(|mapping| {
-            mapping.is_live(moment)
-                && mapping.service() == service
-                && refers(mapping, address, elements)
-        })?;
-        Ok(SmallVec::from_vec(positions))
+    ) -> Result<bool, AllocError> {
+        Ok(has_some(self, |mapping| {
+            serves(mapping, moment, service) && refers(mapping, address, elements)
+        }))
+    }
+
+    fn is_named(
+        &self,
+        moment: &Moment,
+        service: &ServiceUrn,
+        address: &CivicAddress,
+        elements: &[Element],
+        named: Element,
+    ) -> Result<bool, AllocError> {
+        Ok(has_some(self, |mapping| {
+            serves(mapping, moment, service) && refers_naming(mapping, address, elements, named)
+        }))
     }
 
     fn services_below(
@@ -76,4 +91,18 @@ impl Holdings for Book {
     ) -> Result<Vec<ServiceUrn>, AllocError> {
         services_below(self, moment, above)
     }
+}
+
+/// Whether some mapping of a book passes a test. It stops at the first.
+fn has_some<F: Fn(&Mapping) -> bool>(book: &Book, passes: F) -> bool
+    requires { F.IsAlwaysCallable passes }
+    ensures { (test : spec.Mapping → Bool) → ((m : spec.Mapping) (r : Bool) → FnReturnsAt F.Fn passes m r → r ≡ test m)
+        → result ≡ list_any test book.now.mappings }
+{
+    for position in 0..book.len() {
+        if passes(book.mapping(position)) {
+            return true;
+        }
+    }
+    false
 }

@@ -1,13 +1,13 @@
 //! What holds mappings, and the questions that it answers.
 ghost use Rattle.std.specs.Prelude.{◌≡◌, ◌<◌, Some, IfOk, length, position, slice_get};
-ghost use Rattle.std.specs.List.{All};
+ghost use Rattle.std.specs.List.{All, list_any};
 ghost use Rattle.std.specs.Option.{option_copied};
 ghost use Rattle.lost_spec.specs.Book as spec;
 ghost use Rattle.lost_spec.specs.Positions.{positions};
 ghost use Rattle.lost_spec.specs.Find.{is_holder, is_standby, serves, is_implemented};
 ghost use Rattle.lost_spec.specs.Services.{is_holding, has_live_key, all_services, holding};
 ghost use Rattle.lost_query.specs.Finding.{at_positions, of_chain};
-ghost use Rattle.lost_query.specs.Judged.{is_referring};
+ghost use Rattle.lost_query.specs.Judged.{is_referring, is_naming};
 ghost use Rattle.lost_location.specs.Place.{place_of};
 
 use lost_civic::{CivicAddress, Element};
@@ -88,17 +88,30 @@ pub trait Holdings {
         ensures { IfOk result (λ found.
             found.items ≡ positions (λ m. serves m moment.now service.now) (book self.now).mappings) };
 
-    /// The live mappings of this service, defaults too, with some pattern that names each of these elements with the
+    /// Whether some live mapping of this service, defaults too, has a pattern that names each of these elements with the
     /// address's comparison text (RFC 5222, section 8.4.2; own policy).
-    fn referring(
+    fn is_agreed(
         &self,
         moment: &Moment,
         service: &ServiceUrn,
         address: &CivicAddress,
         elements: &[Element],
-    ) -> Result<Positions, AllocError>
+    ) -> Result<bool, AllocError>
+        ensures { IfOk result (λ agreed.
+            agreed ≡ list_any (is_referring moment.now service.now address.now elements.now) (book self.now).mappings) };
+
+    /// Whether some live mapping of this service, defaults too, has a pattern that names each of these elements with the
+    /// address's comparison text, and another element with any text (RFC 5222, section 8.4.2; own policy).
+    fn is_named(
+        &self,
+        moment: &Moment,
+        service: &ServiceUrn,
+        address: &CivicAddress,
+        elements: &[Element],
+        named: Element,
+    ) -> Result<bool, AllocError>
         ensures { IfOk result (λ found.
-            found.items ≡ positions (is_referring moment.now service.now address.now elements.now) (book self.now).mappings) };
+            found ≡ list_any (is_naming moment.now service.now address.now elements.now named) (book self.now).mappings) };
 
     /// The services just below one, or the topmost, of all live mappings, defaults too, in the order of their texts,
     /// each once (RFC 5222, section 10; own order).

@@ -30,4 +30,4 @@ pub use lost_message::{
     Validation, Warning,
 };
 pub use services::children::Children;
-pub use validation::patterns::refers;
+pub use validation::patterns::{refers, refers_naming};

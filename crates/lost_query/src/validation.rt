@@ -1,5 +1,5 @@
 //! Validation of a civic address.
-ghost use Rattle.std.specs.Prelude.{◌≡◌, ◌++◌, not, filter, map, IfOk, OnOk};
+ghost use Rattle.std.specs.Prelude.{◌≡◌, [], ◌∷◌, ◌++◌, not, filter, map, IfOk, OnOk};
 ghost use Rattle.lost_spec.specs.Text.{ascending_by};
 ghost use Rattle.lost_spec.specs.Validation.{unknown_names, validation};
 ghost use Rattle.lost_civic.specs.Element.{element_name, all_elements};
@@ -10,10 +10,8 @@ ghost use Rattle.lost_message.specs.Reply.{validation_of};
 use crate::found::Found;
 use crate::holdings::Holdings;
 use crate::validation::elements::{append, elements_of, names_of, part, unknown_names};
-use crate::validation::patterns::{
-    is_contradicted, is_named, matching_patterns, reference_patterns,
-};
-use lost_civic::{CivicAddress, CivicPattern, Element};
+use crate::validation::patterns::{is_named, matching_patterns};
+use lost_civic::{CivicAddress, Element};
 use lost_mapping::Moment;
 use lost_message::Validation;
 use lost_urn::ServiceUrn;
@@ -36,8 +34,9 @@ pub(crate) fn validate<H: Holdings>(
         validation_of judged ≡ validation (H.book holdings.now) moment.now service.now (mappings_of found.now) address.now) }
 {
     let (valid, others) = part_valid(alloc, found, address)?;
-    let references = reference_patterns(alloc, holdings, moment, service, address, &valid)?;
-    let (invalid, unchecked) = part_invalid(alloc, &references, &others, address)?;
+    let (invalid, unchecked) = part_invalid(
+        alloc, holdings, moment, service, address, &valid, &others,
+    )?;
     make_validation(alloc, address, &invalid, &unchecked, &valid)
 }
 
@@ -63,22 +62,66 @@ fn part_valid(
 
 /// Splits the elements that are not valid into the invalid ones and the rest, in their order (RFC 5222, section 8.4.2;
 /// policy own).
-fn part_invalid(
+fn part_invalid<H: Holdings>(
     alloc: Global,
-    references: &[&CivicPattern],
-    others: &[Element],
+    holdings: &H,
+    moment: &Moment,
+    service: &ServiceUrn,
     address: &CivicAddress,
+    valid: &[Element],
+    others: &[Element],
 ) -> Result<(Vec<Element>, Vec<Element>), AllocError>
     ensures invalid { IfOk result (λ parts.
-        parts.0.items ≡ filter (is_contradicted (map (λ p. p.now) references.now) address.now) others.now) }
+        parts.0.items ≡ filter (is_contradicted (H.book holdings.now) moment.now service.now address.now valid.now) others.now) }
     ensures unchecked { IfOk result (λ parts.
-        parts.1.items ≡ filter (λ e. not (is_contradicted (map (λ p. p.now) references.now) address.now e)) others.now) }
+        parts.1.items ≡ filter (λ e. not (is_contradicted (H.book holdings.now) moment.now service.now address.now valid.now e)) others.now) }
 {
-    part(
-        alloc,
-        others,
-        |element| is_contradicted(references, address, *element),
-    )
+    let mut invalid = Vec::new(alloc);
+    let mut unchecked = Vec::new(alloc);
+    for element in others {
+        if is_contradicted(alloc, holdings, moment, service, address, valid, *element)? {
+            invalid.push(*element)?;
+        } else {
+            unchecked.push(*element)?;
+        }
+    }
+    Ok((invalid, unchecked))
+}
+
+/// Whether some reference pattern names an element, and none with the address's comparison text. The reference patterns
+/// are those of live mappings of the service that name each valid element with that text (RFC 5222, section 8.4.2;
+/// own policy).
+fn is_contradicted<H: Holdings>(
+    alloc: Global,
+    holdings: &H,
+    moment: &Moment,
+    service: &ServiceUrn,
+    address: &CivicAddress,
+    valid: &[Element],
+    element: Element,
+) -> Result<bool, AllocError>
+    ensures { IfOk result (λ contradicted.
+        contradicted ≡ is_contradicted (H.book holdings.now) moment.now service.now address.now valid.now element) }
+{
+    let elements = with_one_more(alloc, valid, element)?;
+    if holdings.is_agreed(moment, service, address, &elements)? {
+        return Ok(false);
+    }
+    holdings.is_named(moment, service, address, valid, element)
+}
+
+/// These elements and one more at the end.
+fn with_one_more(
+    alloc: Global,
+    elements: &[Element],
+    element: Element,
+) -> Result<Vec<Element>, AllocError>
+    ensures { IfOk result (λ longer. longer.items ≡ elements.now ++ element ∷ []) }
+{
+    let mut longer = Vec::with_capacity(alloc, elements.len().saturating_add(1))?;
+    longer.extend_from_slice(elements)?;
+    longer.push(element)?;
+    Ok(longer)
 }
 
 /// The names of the elements by how they were judged. The address's other names are unchecked (own policy).

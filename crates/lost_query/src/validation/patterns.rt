@@ -1,18 +1,16 @@
 //! What patterns tell about the elements of an address.
-ghost use Rattle.std.specs.Prelude.{◌≡◌, ◌++◌, None, Bool, IfOk, OnOk, filter, map};
+ghost use Rattle.std.specs.Prelude.{◌≡◌, ◌++◌, ◌&&◌, None, Bool, IfOk, OnOk, filter, map};
 ghost use Rattle.std.specs.List.{AllByRecursion, list_any};
 ghost use Rattle.std.specs.Fn.{FnReturnsAt};
 ghost use Rattle.lost_spec.specs.Civic.{Pairs, pattern_fault, matches};
-ghost use Rattle.lost_spec.specs.Validation.{names_it, agrees, patterns_in, of_service};
+ghost use Rattle.lost_spec.specs.Validation.{names_it, agrees, patterns_in};
 ghost use Rattle.lost_civic.specs.Element.{element_name};
 ghost use Rattle.lost_query.specs.Finding.{mappings_of};
-ghost use Rattle.lost_query.specs.Judged.{is_named, is_agreed, is_contradicted, is_reference};
+ghost use Rattle.lost_query.specs.Judged.{is_named, is_reference};
 
 use crate::found::Found;
-use crate::holdings::Holdings;
 use lost_civic::{CivicAddress, CivicPattern, Element};
-use lost_mapping::{Mapping, Moment};
-use lost_urn::ServiceUrn;
+use lost_mapping::Mapping;
 use std::alloc::{AllocError, Global};
 
 /// Whether a pattern names an element.
@@ -39,26 +37,6 @@ pub(super) fn is_named(patterns: &[&CivicPattern], element: Element) -> bool
     patterns.iter().any(|pattern| names_it(pattern, element))
 }
 
-/// Whether some pattern names an element with the address's comparison text.
-fn is_agreed(patterns: &[&CivicPattern], address: &CivicAddress, element: Element) -> bool
-    ensures { result ≡ is_agreed (map (λ p. p.now) patterns.now) address.now element }
-{
-    patterns
-        .iter()
-        .any(|pattern| agrees(pattern, address, element))
-}
-
-/// Whether some reference pattern names an element, and none with the address's comparison text (own policy).
-pub(super) fn is_contradicted(
-    references: &[&CivicPattern],
-    address: &CivicAddress,
-    element: Element,
-) -> bool
-    ensures { result ≡ is_contradicted (map (λ p. p.now) references.now) address.now element }
-{
-    is_named(references, element) && !is_agreed(references, address, element)
-}
-
 /// Whether a pattern names each of these elements with the address's comparison text (own policy).
 fn is_reference(pattern: &CivicPattern, address: &CivicAddress, valid: &[Element]) -> bool
     ensures { result ≡ is_reference valid.now address.now pattern.now }
@@ -76,6 +54,20 @@ pub fn refers(mapping: &Mapping, address: &CivicAddress, elements: &[Element]) -
         .patterns()
         .iter()
         .any(|pattern| is_reference(pattern, address, elements))
+}
+
+/// Whether some pattern of a mapping names each of these elements with the address's comparison text, and another element
+/// with any text (own policy).
+pub fn refers_naming(
+    mapping: &Mapping,
+    address: &CivicAddress,
+    elements: &[Element],
+    named: Element,
+) -> bool
+    ensures { result ≡ list_any (λ p. is_reference elements.now address.now p && names_it (element_name named) p) mapping.now.regions.patterns }
+{
+    mapping.patterns().iter().any(|pattern| is_reference(pattern, address, elements)
+        && names_it(pattern, named))
 }
 
 /// Adds the patterns of a mapping that pass a test at the end.
@@ -118,32 +110,6 @@ pub(super) fn matching_patterns<'a>(
     )?;
     for mapping in &found.rest {
         add_patterns(&mut patterns, mapping, |pattern| pattern.matches(address))?;
-    }
-    Ok(patterns)
-}
-
-/// The patterns of the live mappings of a service, defaults too, that name each valid element with the address's
-/// comparison text (own policy).
-pub(super) fn reference_patterns<'a, H: Holdings>(
-    alloc: Global,
-    holdings: &'a H,
-    moment: &Moment,
-    service: &ServiceUrn,
-    address: &CivicAddress,
-    valid: &[Element],
-) -> Result<Vec<&'a CivicPattern>, AllocError>
-    ensures { IfOk result (λ patterns.
-        map (λ p. p.now) patterns.items
-        ≡ filter (is_reference valid.now address.now) (patterns_in (of_service (H.book holdings.now) moment.now service.now))) }
-{
-    let positions = holdings.referring(moment, service, address, valid)?;
-    let mut patterns = Vec::new(alloc);
-    for position in positions.as_slice() {
-        add_patterns(
-            &mut patterns,
-            holdings.mapping(*position),
-            |pattern| is_reference(pattern, address, valid),
-        )?;
     }
     Ok(patterns)
 }

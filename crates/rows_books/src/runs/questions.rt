@@ -27,8 +27,10 @@ pub(crate) enum Question<'a> {
     Defaults(&'a Moment, &'a ServiceUrn),
     /// The mappings of a service.
     OfService(&'a Moment, &'a ServiceUrn),
-    /// The mappings of a service with a pattern that names elements as an address does.
-    Referring(&'a Moment, &'a ServiceUrn, &'a CivicAddress, &'a [Element]),
+    /// Whether some mapping of a service has a pattern that names elements as an address does.
+    IsAgreed(&'a Moment, &'a ServiceUrn, &'a CivicAddress, &'a [Element]),
+    /// Whether some mapping of a service has a pattern that names elements as an address does, and another element.
+    IsNamed(&'a Moment, &'a ServiceUrn, &'a CivicAddress, &'a [Element], Element),
     /// The services just below one, or the topmost.
     ServicesBelow(&'a Moment, Option<&'a ServiceUrn>),
 }
@@ -63,7 +65,8 @@ impl Question<'_> {
             Question::At(_, _, _) => "at",
             Question::Defaults(_, _) => "defaults",
             Question::OfService(_, _) => "of_service",
-            Question::Referring(_, _, _, _) => "referring",
+            Question::IsAgreed(_, _, _, _) => "is_agreed",
+            Question::IsNamed(_, _, _, _, _) => "is_named",
             Question::ServicesBelow(_, _) => "services_below",
         }
     }
@@ -92,8 +95,11 @@ impl Question<'_> {
             Question::OfService(moment, service) => {
                 Answer::Positions(holdings.of_service(moment, service)?)
             }
-            Question::Referring(moment, service, address, elements) => {
-                Answer::Positions(holdings.referring(moment, service, address, elements)?)
+            Question::IsAgreed(moment, service, address, elements) => {
+                Answer::Truth(holdings.is_agreed(moment, service, address, elements)?)
+            }
+            Question::IsNamed(moment, service, address, elements, named) => {
+                Answer::Truth(holdings.is_named(moment, service, address, elements, named)?)
             }
             Question::ServicesBelow(moment, above) => {
                 Answer::Services(holdings.services_below(moment, above)?)

@@ -5,7 +5,7 @@ use crate::runs::drawn_edits::PACE;
 use crate::runs::draws::Draws;
 use crate::runs::questions::Question;
 use crate::runs::regions::{address, place};
-use crate::runs::words::{elements, key, moment, pairs, service};
+use crate::runs::words::{element, elements, key, moment, pairs, service};
 use lost_civic::{CivicAddress, Element};
 use lost_mapping::Moment;
 use lost_query::Place;
@@ -14,7 +14,7 @@ use std::alloc::Global;
 use std::io;
 
 /// How many questions a round has.
-pub(crate) const QUESTIONS: u64 = 12;
+pub(crate) const QUESTIONS: u64 = 13;
 
 /// How far before and after the last edit's stamp a moment may be, in nanoseconds.
 const REACH: u64 = 200;
@@ -73,7 +73,9 @@ impl Round {
 
     /// The questions of the round.
     fn questions(&self) -> [Question<'_>; QUESTIONS as usize] {
+        let address = &self.named.address;
         let elements = self.named.elements.as_slice();
+        let named = element(self.position);
         [
             Question::Edition,
             Question::Len,
@@ -84,7 +86,8 @@ impl Round {
             Question::At(&self.moment, &self.place, &self.service),
             Question::Defaults(&self.moment, &self.service),
             Question::OfService(&self.moment, &self.service),
-            Question::Referring(&self.moment, &self.service, &self.named.address, elements),
+            Question::IsAgreed(&self.moment, &self.service, address, elements),
+            Question::IsNamed(&self.moment, &self.service, address, elements, named),
             Question::ServicesBelow(&self.moment, None),
             Question::ServicesBelow(&self.moment, Some(&self.service)),
         ]

@@ -127,6 +127,14 @@ pub(crate) fn elements(alloc: Global, draws: &mut Draws) -> Result<Vec<Element>,
     Ok(elements)
 }
 
+/// The element of a number, from 0. After the last comes the first.
+pub(crate) fn element(number: usize) -> Element {
+    match ELEMENTS.get(number % ELEMENTS.len()) {
+        Some(element) => *element,
+        None => Element::Country,
+    }
+}
+
 /// A drawn value is not as it should be, or memory was refused.
 pub(crate) fn unfit() -> io::Error {
     io::Error::from(io::ErrorKind::InvalidData)
