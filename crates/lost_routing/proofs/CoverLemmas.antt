@@ -22,6 +22,7 @@ use Rattle.lost_civic.specs.declared.elements.Element.{Element}
 use Rattle.lost_query.specs.Judged.{is_reference, is_referring}
 use Rattle.lost_civicdex.specs.Keys.{Key}
 use Rattle.lost_civicdex.specs.Covers.{names_all}
+use Rattle.lost_civicdex.specs.NamedElements.{names_element}
 use Rattle.lost_index.specs.Entries.{holders}
 use Rattle.lost_tables.specs.declared.tables.Tables.{Tables}
 use Rattle.lost_tables.specs.Lookup.{ByIdentity, ByKey, ByService, ByDefault, numbers_of, IsListed, IsFullyListed}
@@ -189,3 +190,13 @@ module _ (ns : List ℕ) (ms : List Mapping) (tables : Tables) (regions : Region
   covers_at_reference test required candidates tells is place number m at_m at_n h =
       subst (λ l. Among l number) (sym (is ∙ ap (λ r. holders names_all required r.references) kept.indexed))
       (holder_at (λ x. x.regions.patterns) names_all required ns ms place number m at_m at_n (tells m h))
+
+  pub covers_at_element : (test : Mapping → Bool) (element : Element) (candidates : List ℕ)
+      → ((m : Mapping) → test m ≡ true → list_any (λ pattern. names_element pattern element) m.regions.patterns ≡ true)
+      → ((n : ℕ) → Contains (holders names_element element regions.references) n → Contains candidates n) → Covers test ns ms candidates
+  covers_at_element test element candidates tells among place number m at_m at_n h =
+      list_any-from_Contains nat_eq_equiv number candidates
+      (among number
+      (Contains-from_any same_number number (holders names_element element regions.references)
+      (subst (λ r. Among (holders names_element element r.references) number) (sym kept.indexed)
+      (holder_at (λ x. x.regions.patterns) names_element element ns ms place number m at_m at_n (tells m h)))))

@@ -1,5 +1,5 @@
--- Mappings with a pattern that names required elements stand in the index of references.
-use Rattle.std.proofs.Common.{◌≡◌, ℕ, suc, ◌<◌, ◌≤◌, Bool, true, false, ◌&&◌, ◌||◌, List, [], ◌∷◌, length, map, filter_map, option_map, is_some, Option, Some, None, refl, sym, ap, subst, arith, ◌∙◌}
+-- Mappings with a pattern that names required elements, or an element, are among the numbers that the indexes give.
+use Rattle.std.proofs.Common.{◌≡◌, ℕ, suc, ◌<◌, ◌≤◌, Bool, true, false, ◌&&◌, ◌||◌, List, [], ◌∷◌, length, map, filter_map, option_map, is_some, Option, Some, None, Contains, refl, sym, ap, subst, arith, ◌∙◌}
 use Rattle.std.specs.List.{list_all, list_any, cons_option}
 use Rattle.std.specs.Cmp.{first_so, second_so}
 use Rattle.std.proofs.lemmas.Bool.{false≢true}
@@ -9,21 +9,21 @@ use Rattle.lost_spec.specs.Service.{Service}
 use Rattle.lost_spec.specs.Moment.{Instant}
 use Rattle.lost_spec.specs.Mapping.{Mapping}
 use Rattle.lost_spec.specs.Find.{serves}
-use Rattle.lost_spec.specs.Positions.{positions, positions_from}
 use Rattle.lost_spec.specs.Validation.{agrees, same_some, compared}
 use Rattle.lost_civic.specs.declared.elements.Element.{Element}
 use Rattle.lost_civic.specs.Element.{element_name}
 use Rattle.lost_civic.specs.Texts.{text_of}
 use Rattle.lost_civicdex.specs.Keys.{Key, key_of}
 use Rattle.lost_civicdex.specs.Covers.{names_all}
+use Rattle.lost_civicdex.specs.NamedElements.{names_element}
 use Rattle.lost_civicdex.proofs.RequiredLemmas.{required_agree}
 use Rattle.lost_index.specs.Entries.{holders}
-use Rattle.lost_query.specs.Judged.{is_reference, is_referring}
+use Rattle.lost_query.specs.Judged.{is_naming, is_reference, is_referring}
 use Rattle.lost_tables.specs.declared.tables.Tables.{Tables}
 use Rattle.lost_tables.specs.Picks.{Covers}
 use Rattle.lost_regions.specs.Regions.{Regions}
 use Rattle.lost_routing.specs.Invariants.{IsStore}
-use Rattle.lost_routing.proofs.CoverLemmas.{covers_at_reference}
+use Rattle.lost_routing.proofs.CoverLemmas.{covers_at_reference, covers_at_element}
 
 apart : (a b : ℕ) → a < b → a ≡ b → ⊥
 apart a b less same = omega (arith, less, same)
@@ -51,10 +51,6 @@ any_never p never (x ∷ xs) = ap (λ b. b || list_any p xs) (never x) ∙ any_n
 all_named : {X Y : Type 0} (f : X → Y) (p : Y → Bool) (xs : List X) → list_all p (map f xs) ≡ list_all (λ x. p (f x)) xs
 all_named f p [] = refl
 all_named f p (x ∷ xs) = ap (λ b. p (f x) && b) (all_named f p xs)
-
-nowhere : {X : Type 0} (test : X → Bool) → ((x : X) → test x ≡ false) → (n : ℕ) (xs : List X) → positions_from test n xs ≡ []
-nowhere test never n [] = refl
-nowhere test never n (x ∷ xs) = rw (never x) (nowhere test never (suc n) xs)
 
 module _ (address : Pairs) where
   abbrev keys_of_all : List Element → List Key
@@ -110,18 +106,18 @@ module _ (address : Pairs) where
         (second_so (serves m t u) (list_any (is_reference elements address) m.regions.patterns) referring)
 
     -- none refers where an element does not stand in the address
-    pub nowhere_where_missing : (ms : List Mapping) → (length (keys_of_all elements) < length elements)
-        → positions (is_referring t u address elements) ms ≡ []
-    nowhere_where_missing ms missing =
-        nowhere (is_referring t u address elements)
+    pub none_where_missing : (ms : List Mapping) → (length (keys_of_all elements) < length elements)
+        → list_any (is_referring t u address elements) ms ≡ false
+    none_where_missing ms missing =
+        any_never (is_referring t u address elements)
         (λ m. fails_unless (is_referring t u address elements m)
         (λ referring. false≢true (sym (any_never (is_reference elements address)
         (λ pattern. fails_unless (is_reference elements address pattern) (λ named. apart (length (keys_of_all elements)) (length elements) missing (stand_where_named pattern elements named))) m.regions.patterns)
-        ∙ second_so (serves m t u) (list_any (is_reference elements address) m.regions.patterns) referring))) 0 ms
+        ∙ second_so (serves m t u) (list_any (is_reference elements address) m.regions.patterns) referring))) ms
 
-    pub nowhere_where_none : (ms : List Mapping) → keys_of_all elements ≡ [] → 0 < length elements → positions (is_referring t u address elements) ms ≡ []
-    nowhere_where_none ms none some =
-        nowhere_where_missing ms (subst (λ (l : List Key). length l < length elements) (sym none) some)
+    pub none_where_none : (ms : List Mapping) → keys_of_all elements ≡ [] → 0 < length elements → list_any (is_referring t u address elements) ms ≡ false
+    none_where_none ms none some =
+        none_where_missing ms (subst (λ (l : List Key). length l < length elements) (sym none) some)
 
     pub covers_naming : (ns : List ℕ) (ms : List Mapping) (tables : Tables) (regions : Regions) → IsStore ns ms tables regions
         → (required : List Key) (candidates : List ℕ) → required ≡ keys_of_all elements → candidates ≡ holders names_all required regions.references
@@ -129,3 +125,17 @@ module _ (address : Pairs) where
     covers_naming ns ms tables regions kept required candidates are is =
         covers_at_reference ns ms tables regions kept (is_referring t u address elements) (keys_of_all elements) candidates
         (λ m referring. named_by_some m referring) (is ∙ ap (λ keys. holders names_all keys regions.references) are)
+
+    naming_some : (named : Element) (m : Mapping) → is_naming t u address elements named m ≡ true
+        → list_any (λ pattern. names_element pattern named) m.regions.patterns ≡ true
+    naming_some named m naming =
+        any_weaker (λ pattern. is_reference elements address pattern && names_element pattern named) (λ pattern. names_element pattern named)
+        (λ pattern both. second_so (is_reference elements address pattern) (names_element pattern named) both) m.regions.patterns
+        (second_so (serves m t u) (list_any (λ pattern. is_reference elements address pattern && names_element pattern named) m.regions.patterns) naming)
+
+    pub covers_named : (ns : List ℕ) (ms : List Mapping) (tables : Tables) (regions : Regions) → IsStore ns ms tables regions
+        → (named : Element) (candidates : List ℕ) → ((n : ℕ) → Contains (holders names_element named regions.references) n → Contains candidates n)
+        → Covers (is_naming t u address elements named) ns ms candidates
+    covers_named ns ms tables regions kept named candidates among =
+        covers_at_element ns ms tables regions kept (is_naming t u address elements named) named candidates
+        (λ m naming. naming_some named m naming) among

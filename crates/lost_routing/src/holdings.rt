@@ -65,14 +65,26 @@ impl Holdings for Routing {
         self.store.of_service(moment, service)
     }
 
-    fn referring(
+    fn is_agreed(
         &self,
         moment: &Moment,
         service: &ServiceUrn,
         address: &CivicAddress,
         elements: &[Element],
-    ) -> Result<Positions, AllocError> {
-        self.store.referring(moment, service, address, elements)
+    ) -> Result<bool, AllocError> {
+        self.store.is_agreed(moment, service, address, elements)
+    }
+
+    fn is_named(
+        &self,
+        moment: &Moment,
+        service: &ServiceUrn,
+        address: &CivicAddress,
+        elements: &[Element],
+        named: Element,
+    ) -> Result<bool, AllocError> {
+        self.store
+            .is_named(moment, service, address, elements, named)
     }
 
     #[tactic(auto, unfolding(lost_spec::specs::Services::all_services))]
