@@ -105,11 +105,18 @@ impl NamedPatterns {
         self.elements.take(number);
     }
 
-    /// The numbers with a pattern that names all required elements, rising.
-    pub(crate) fn naming(&self, required: &RequiredElements) -> Result<Vec<u64>, AllocError>
-        ensures { IfOk result (λ numbers. numbers.items ≡ holders names_all required.now self.now) }
+    /// Numbers whose patterns may name all required elements, rising, each once. Each number with a pattern that names
+    /// them is among them. No pattern is asked.
+    pub(crate) fn near_required(
+        &self,
+        required: &RequiredElements,
+    ) -> Result<Vec<u64>, AllocError>
+        ensures holders { IfOk result (λ near. (number : ℕ)
+            → Contains (holders names_all required.now self.now) number → Contains near.items number) }
+        ensures held { IfOk result (λ near. All (λ number. IsHeld number self.now) near.items) }
+        ensures rising { IfOk result (λ near. IsStrictlyIncreasing near.items) }
     {
-        self.references.holding(required)
+        self.references.near(required)
     }
 
     /// Numbers whose patterns may name the element, rising, each once. Each number with a pattern that names it is among

@@ -218,11 +218,15 @@ impl Regions {
         }
     }
 
-    /// The numbers with a pattern that names all required elements (RFC 5222, section 8.4.2; own policy), rising.
-    pub fn naming(&self, required: &RequiredElements) -> Result<Vec<u64>, AllocError>
-        ensures { IfOk result (λ numbers. numbers.items ≡ holders names_all required.now self.now.references) }
+    /// Numbers with a pattern that may name all required elements, rising, each once. Each number with a pattern that
+    /// names them is among them (RFC 5222, section 8.4.2; own policy). No region is asked.
+    pub fn near_required(&self, required: &RequiredElements) -> Result<Vec<u64>, AllocError>
+        ensures holders { IfOk result (λ near. (number : ℕ)
+            → Contains (holders names_all required.now self.now.references) number → Contains near.items number) }
+        ensures held { IfOk result (λ near. All (λ number. IsHeld number self.now.references) near.items) }
+        ensures rising { IfOk result (λ near. IsStrictlyIncreasing near.items) }
     {
-        self.references.naming(required)
+        self.references.near_required(required)
     }
 
     /// Numbers with a pattern that may name the element, rising, each once. Each number with a pattern that names it is

@@ -184,19 +184,12 @@ module _ (ns : List ℕ) (ms : List Mapping) (tables : Tables) (regions : Region
       (subst (λ r. Among (holders_at l r) number) (sym kept.indexed)
       (place_holder_at l ns ms place number m at_m at_n (tells m h)))))
 
-  pub covers_at_reference : (test : Mapping → Bool) (required : List Key) (candidates : List ℕ)
-      → ((m : Mapping) → test m ≡ true → list_any (λ pattern. names_all pattern required) m.regions.patterns ≡ true)
-      → candidates ≡ holders names_all required regions.references → Covers test ns ms candidates
-  covers_at_reference test required candidates tells is place number m at_m at_n h =
-      subst (λ l. Among l number) (sym (is ∙ ap (λ r. holders names_all required r.references) kept.indexed))
-      (holder_at (λ x. x.regions.patterns) names_all required ns ms place number m at_m at_n (tells m h))
-
-  pub covers_at_element : (test : Mapping → Bool) (element : Element) (candidates : List ℕ)
-      → ((m : Mapping) → test m ≡ true → list_any (λ pattern. names_element pattern element) m.regions.patterns ≡ true)
-      → ((n : ℕ) → Contains (holders names_element element regions.references) n → Contains candidates n) → Covers test ns ms candidates
-  covers_at_element test element candidates tells among place number m at_m at_n h =
+  pub covers_at_reference : {L : Type 0} (test : Mapping → Bool) (names : Pairs → L → Bool) (asked : L) (candidates : List ℕ)
+      → ((m : Mapping) → test m ≡ true → list_any (λ pattern. names pattern asked) m.regions.patterns ≡ true)
+      → ((n : ℕ) → Contains (holders names asked regions.references) n → Contains candidates n) → Covers test ns ms candidates
+  covers_at_reference test names asked candidates tells among place number m at_m at_n h =
       list_any-from_Contains nat_eq_equiv number candidates
       (among number
-      (Contains-from_any same_number number (holders names_element element regions.references)
-      (subst (λ r. Among (holders names_element element r.references) number) (sym kept.indexed)
-      (holder_at (λ x. x.regions.patterns) names_element element ns ms place number m at_m at_n (tells m h)))))
+      (Contains-from_any same_number number (holders names asked regions.references)
+      (subst (λ r. Among (holders names asked r.references) number) (sym kept.indexed)
+      (holder_at (λ x. x.regions.patterns) names asked ns ms place number m at_m at_n (tells m h)))))

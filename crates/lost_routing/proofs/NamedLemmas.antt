@@ -23,7 +23,7 @@ use Rattle.lost_tables.specs.declared.tables.Tables.{Tables}
 use Rattle.lost_tables.specs.Picks.{Covers}
 use Rattle.lost_regions.specs.Regions.{Regions}
 use Rattle.lost_routing.specs.Invariants.{IsStore}
-use Rattle.lost_routing.proofs.CoverLemmas.{covers_at_reference, covers_at_element}
+use Rattle.lost_routing.proofs.CoverLemmas.{covers_at_reference}
 
 apart : (a b : ℕ) → a < b → a ≡ b → ⊥
 apart a b less same = omega (arith, less, same)
@@ -120,11 +120,12 @@ module _ (address : Pairs) where
         none_where_missing ms (subst (λ (l : List Key). length l < length elements) (sym none) some)
 
     pub covers_naming : (ns : List ℕ) (ms : List Mapping) (tables : Tables) (regions : Regions) → IsStore ns ms tables regions
-        → (required : List Key) (candidates : List ℕ) → required ≡ keys_of_all elements → candidates ≡ holders names_all required regions.references
+        → (required : List Key) (candidates : List ℕ) → required ≡ keys_of_all elements
+        → ((n : ℕ) → Contains (holders names_all required regions.references) n → Contains candidates n)
         → Covers (is_referring t u address elements) ns ms candidates
-    covers_naming ns ms tables regions kept required candidates are is =
-        covers_at_reference ns ms tables regions kept (is_referring t u address elements) (keys_of_all elements) candidates
-        (λ m referring. named_by_some m referring) (is ∙ ap (λ keys. holders names_all keys regions.references) are)
+    covers_naming ns ms tables regions kept required candidates are among =
+        covers_at_reference ns ms tables regions kept (is_referring t u address elements) names_all (keys_of_all elements) candidates
+        (λ m referring. named_by_some m referring) (λ n stands. among n (subst (λ keys. Contains (holders names_all keys regions.references) n) (sym are) stands))
 
     naming_some : (named : Element) (m : Mapping) → is_naming t u address elements named m ≡ true
         → list_any (λ pattern. names_element pattern named) m.regions.patterns ≡ true
@@ -137,5 +138,5 @@ module _ (address : Pairs) where
         → (named : Element) (candidates : List ℕ) → ((n : ℕ) → Contains (holders names_element named regions.references) n → Contains candidates n)
         → Covers (is_naming t u address elements named) ns ms candidates
     covers_named ns ms tables regions kept named candidates among =
-        covers_at_element ns ms tables regions kept (is_naming t u address elements named) named candidates
+        covers_at_reference ns ms tables regions kept (is_naming t u address elements named) names_element named candidates
         (λ m naming. naming_some named m naming) among

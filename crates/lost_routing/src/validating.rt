@@ -54,7 +54,7 @@ impl Store {
         ensures { IfOk result (λ agreed.
             agreed ≡ list_any (is_referring moment.now service.now address.now elements.now) self.now.mappings) }
     {
-        let candidates = self.regions.naming(required)?;
+        let candidates = self.regions.near_required(required)?;
         let agreed = picks::any(
             &self.numbers,
             &self.mappings,
