@@ -107,10 +107,7 @@ impl NamedPatterns {
 
     /// Numbers whose patterns may name all required elements, rising, each once. Each number with a pattern that names
     /// them is among them. No pattern is asked.
-    pub(crate) fn near_required(
-        &self,
-        required: &RequiredElements,
-    ) -> Result<Vec<u64>, AllocError>
+    pub(crate) fn near_required(&self, required: &RequiredElements) -> Result<Vec<u64>, AllocError>
         ensures holders { IfOk result (λ near. (number : ℕ)
             → Contains (holders names_all required.now self.now) number → Contains near.items number) }
         ensures held { IfOk result (λ near. All (λ number. IsHeld number self.now) near.items) }

@@ -20,9 +20,6 @@ use Rattle.lost_spec.specs.Services.{has_live_key}
 use Rattle.lost_urn.specs.Order.{same_service_is}
 use Rattle.lost_civic.specs.declared.elements.Element.{Element}
 use Rattle.lost_query.specs.Judged.{is_reference, is_referring}
-use Rattle.lost_civicdex.specs.Keys.{Key}
-use Rattle.lost_civicdex.specs.Covers.{names_all}
-use Rattle.lost_civicdex.specs.NamedElements.{names_element}
 use Rattle.lost_index.specs.Entries.{holders}
 use Rattle.lost_tables.specs.declared.tables.Tables.{Tables}
 use Rattle.lost_tables.specs.Lookup.{ByIdentity, ByKey, ByService, ByDefault, numbers_of, IsListed, IsFullyListed}

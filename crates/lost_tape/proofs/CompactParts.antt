@@ -1,14 +1,15 @@
 -- The parts that a compact line is cut into.
-use Rattle.std.proofs.Common.{◌≡◌, ℕ, ℤ, ◌<◌, ◌≤◌, ◌^◌, List, ◌++◌, true, length, take, drop, get_or, decimal, sym, ap, ◌∙◌, arith, take-append-drop}
-use Rattle.std.specs.Str.Parse.{AllDigits, digits_value}
-use Rattle.std.proofs.lemmas.Str.Parse.{numerals_by_value, tells_digits}
-use Rattle.std.proofs.lemmas.Fmt.{decimal-digits_value}
+use Rattle.std.proofs.Common.{◌≡◌, ℕ, ℤ, ◌≤◌, List, ◌++◌, true, length, take, drop, sym, ap, ◌∙◌, arith, append_assoc, take-append-drop}
 use Rattle.std.proofs.lemmas.List.{get_or-take, length-take-le}
+use Rattle.std.specs.Borrow.{Bor}
 use Rattle.std.specs.Fmt.{signed_decimal}
 use Rattle.json.specs.Run.{is_plain}
 use Rattle.json.specs.Written.{PlainBetween}
 use Rattle.json.proofs.Printed.Plain.{escape_on_plain}
-use Rattle.lost_tape.specs.Compact.{before_id, before_lat, before_lon, before_service, after_service, point_line, IsPlain}
+use Rattle.lost_spec.specs.Text.{Text}
+use Rattle.lost_tape.specs.Compact.{before_id, before_lat, before_lon, after_lon, before_decimal, after_decimal, before_token, after_token, after_service, content_text, place_line, IsPlain}
+use Rattle.lost_tape.specs.declared.compact.Content.{Content}
+use Rattle.lost_tape.specs.declared.compact.Content.TheVariants.{Pair, Decimal, Token}
 
 -- a text that is cut where its front ends
 pub cut_front : (text front begins rest : List ℕ) → begins ≡ take (length front) text → rest ≡ drop (length front) text → begins ≡ front → text ≡ front ++ rest
@@ -25,17 +26,43 @@ plain_front text n within plain =
     let long : length (take n text) ≡ n = length-take-le n text within in
     escape_on_plain true (take n text) (λ k p q. ap is_plain (get_or-take n text k 0 (omega (arith, long))) ∙ plain k p (omega (arith, long)))
 
--- digits with no zero before another digit are those of the number that they spell
-pub number_front : (text : List ℕ) (n value : ℕ) → n ≤ length text → AllDigits 10 (take n text) → value ≡ digits_value 10 (take n text) → value < 2 ^ 64 → 0 < n → (get_or text 0 0 ≡ 48 → n ≡ 1)
-    → text ≡ decimal value ++ drop n text
-number_front text n value within digits is small some lead =
-    let long : length (take n text) ≡ n = length-take-le n text within in
-    let first : get_or (take n text) 0 0 ≡ get_or text 0 0 = get_or-take n text 0 0 some in
-    let same = decimal-digits_value (numerals_by_value _ tells_digits) (take n text) digits (omega (arith, long)) (λ e. long ∙ lead (sym first ∙ e)) (omega (arith, is)) in
-    sym (take-append-drop n text) ∙ ap (λ t. t ++ drop n text) (sym (ap decimal is ∙ same))
+-- a content with what follows it, part by part
+abbrev pub content_before : Content → Text → Text
+content_before (Pair lat lon) rest = before_lat ++ (signed_decimal lat ++ (before_lon ++ (signed_decimal lon ++ (after_lon ++ rest))))
+content_before (Decimal text) rest = before_decimal ++ (text.now ++ (after_decimal ++ rest))
+content_before (Token text) rest = before_token ++ (text.now ++ (after_token ++ rest))
+
+-- what follows a content stands behind its last text
+pub content_then : (content : Content) (rest : Text) → content_text content ++ rest ≡ content_before content rest
+unfolding before_lat before_lon before_decimal before_token
+content_then (Pair lat lon) rest =
+    let la = signed_decimal lat in
+    let lo = signed_decimal lon in
+    ap (λ t. before_lat ++ t) (append_assoc la (before_lon ++ (lo ++ after_lon)) rest ∙ ap (λ t. la ++ (before_lon ++ t)) (append_assoc lo after_lon rest))
+content_then (Decimal text) rest = ap (λ t. before_decimal ++ t) (append_assoc text.now after_decimal rest)
+content_then (Token text) rest = ap (λ t. before_token ++ t) (append_assoc text.now after_token rest)
+
+-- a content is read of its parts
+pub pair_of_parts : (text r1 r2 r3 rest : Text) (lat lon : ℤ) → text ≡ signed_decimal lat ++ r1 → r1 ≡ before_lon ++ r2 → r2 ≡ signed_decimal lon ++ r3 → r3 ≡ after_lon ++ rest
+    → before_lat ++ text ≡ content_text (Pair lat lon) ++ rest
+pair_of_parts text r1 r2 r3 rest lat lon e1 e2 e3 e4 =
+    let is : before_lat ++ text ≡ content_before (Pair lat lon) rest = cc in
+    is ∙ sym (content_then (Pair lat lon) rest)
+
+pub decimal_of_parts : (text named r1 rest : Text) (found : Bor Text) → text ≡ named ++ r1 → r1 ≡ after_decimal ++ rest → found.now ≡ named
+    → before_decimal ++ text ≡ content_text (Decimal found) ++ rest
+decimal_of_parts text named r1 rest found e1 e2 same =
+    let is : before_decimal ++ text ≡ content_before (Decimal found) rest = cc in
+    is ∙ sym (content_then (Decimal found) rest)
+
+pub token_of_parts : (text named r1 rest : Text) (found : Bor Text) → text ≡ named ++ r1 → r1 ≡ after_token ++ rest → found.now ≡ named
+    → before_token ++ text ≡ content_text (Token found) ++ rest
+token_of_parts text named r1 rest found e1 e2 same =
+    let is : before_token ++ text ≡ content_before (Token found) rest = cc in
+    is ∙ sym (content_then (Token found) rest)
 
 -- a line is written of its parts
-pub line_of_parts : (line r1 id r2 r3 r4 r5 r6 r7 service : List ℕ) (lat lon : ℤ) → line ≡ before_id ++ r1 → r1 ≡ id ++ r2 → r2 ≡ before_lat ++ r3 → r3 ≡ signed_decimal lat ++ r4 → r4 ≡ before_lon ++ r5
-    → r5 ≡ signed_decimal lon ++ r6 → r6 ≡ before_service ++ r7 → r7 ≡ service ++ after_service → line ≡ point_line id lat lon service
-unfolding point_line
-line_of_parts line r1 id r2 r3 r4 r5 r6 r7 service lat lon e1 e2 e3 e4 e5 e6 e7 e8 = cc
+pub line_of_parts : (line r1 id r2 r3 service : Text) (content : Content) → line ≡ before_id ++ r1 → r1 ≡ id ++ r2 → r2 ≡ content_text content ++ r3 → r3 ≡ service ++ after_service
+    → line ≡ place_line id content service
+unfolding place_line
+line_of_parts line r1 id r2 r3 service content e1 e2 e3 e4 = cc

@@ -7,3 +7,4 @@ pub mod ByNameLemmas
 pub mod CompactLemmas
 pub mod CompactParts
 pub mod ServiceBytes
+pub mod NumberLemmas

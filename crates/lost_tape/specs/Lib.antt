@@ -1,3 +1,4 @@
 pub mod Tapes
 pub mod ByName
 pub mod Compact
+pub mod Numbers

@@ -1,18 +1,21 @@
-//! The line that is sent most, read in one pass: a `findService` at one point, as compact JSON (RFC 5222, section 8).
-ghost use Rattle.std.specs.Prelude.{◌≡◌, ◌≤◌, ◌<◌, ◌++◌, ◌∷◌, Some, None, IfSome, OnSome, length, take, slice_index, decimal};
-ghost use Rattle.std.specs.Bool.{OnTrue};
-ghost use Rattle.std.specs.Fmt.{signed_decimal};
+//! The lines that are sent most, read in one pass: a `findService` at one point or token, as compact JSON (RFC 5222,
+//! section 8).
+ghost use Rattle.std.specs.Prelude.{◌≡◌, ◌≤◌, ◌++◌, Some, None, IfSome, OnSome, length, option_map};
 ghost use Rattle.std.specs.Str.{IsUtf8};
-ghost use Rattle.std.specs.Str.Parse.{AllDigits, digits_value};
 ghost use Rattle.json.specs.Written.{PlainBetween};
 ghost use Rattle.json.specs.Run.{is_plain};
+ghost use Rattle.lost_spec.specs.Decimal.{decimal};
+ghost use Rattle.lost_spec.specs.Place.{PointBody};
+ghost use Rattle.lost_location.specs.Body.{body_of};
 ghost use Rattle.lost_message.specs.Request.{request_of};
 ghost use Rattle.lost_reading.specs.Desk.{desk_line};
 ghost use Rattle.lost_reading.specs.Requests.{line_request};
-ghost use Rattle.lost_tape.specs.Compact.{point_request, IsNumberBefore, IsPlain, IsPointLine};
+ghost use Rattle.lost_tape.specs.Compact.{before_lat, before_decimal, before_token, content_body, content_profile, place_request, IsContentBefore, IsPlain, IsPlaceLine};
 
+use crate::numbers::read_number;
 use crate::options::parse_service;
-use lost_location::{Body, GEODETIC_2D};
+use lost_geo::GeoPoint;
+use lost_location::{Body, GEODETIC_2D, X_TOKEN};
 use lost_message::{Location, Locations, Request};
 use lost_urn::ServiceUrn;
 use std::alloc::Global;
@@ -21,43 +24,60 @@ use std::borrow::CowStr;
 /// What stands before the id.
 const BEFORE_ID: &[u8; 35] = b"{\"findService\":{\"location\":[{\"id\":\"";
 
-/// What stands between the id and the latitude.
+/// What stands between the id and the latitude of a pair.
 const BEFORE_LAT: &[u8; 9] = b"\",\"pos\":[";
 
 /// What stands between the latitude and the longitude.
 const BEFORE_LON: &[u8; 1] = b",";
 
 /// What stands between the longitude and the service.
-const BEFORE_SERVICE: &[u8; 39] = b"],\"profile\":\"geodetic-2d\"}],\"service\":\"";
+const AFTER_LON: &[u8; 39] = b"],\"profile\":\"geodetic-2d\"}],\"service\":\"";
+
+/// What stands between the id and a position as a text.
+const BEFORE_DECIMAL: &[u8; 9] = b"\",\"pos\":\"";
+
+/// What stands between such a text and the service.
+const AFTER_DECIMAL: &[u8; 39] = b"\",\"profile\":\"geodetic-2d\"}],\"service\":\"";
+
+/// What stands between the id and a token.
+const BEFORE_TOKEN: &[u8; 31] = b"\",\"profile\":\"x-token\",\"token\":\"";
+
+/// What stands between the token and the service.
+const AFTER_TOKEN: &[u8; 15] = b"\"}],\"service\":\"";
 
 /// What stands behind the service, up to the end of the line.
 const AFTER_SERVICE: &[u8; 3] = b"\"}}";
 
-/// More than any number of a position: further digits are left to the other readers.
-const ENOUGH: u64 = 10_000_000_000;
+/// Where such a line asks, as it is written.
+#[derive(Drop)]
+pub(crate) enum Content<'a> {
+    Pair(i64, i64),
+    Decimal(&'a str),
+    Token(&'a str),
+}
 
 /// The parts of such a line.
 #[derive(Drop)]
-pub(crate) struct PointLine<'a> {
+pub(crate) struct PlaceLine<'a> {
     pub(crate) id: &'a [u8],
-    pub(crate) lat: i64,
-    pub(crate) lon: i64,
+    pub(crate) content: Content<'a>,
     pub(crate) service: &'a [u8],
 }
 
-/// Reads a compact line of a `findService` at one point: the members of each object in the order of their names, no
-/// space and no escape (RFC 5222, section 8; own format). `None` says nothing of the line.
+/// Reads a compact line of a `findService` at one point or token: the members of each object in the order of their names,
+/// no space and no escape (RFC 5222, section 8; own format). `None` says nothing of the line.
 pub(crate) fn read_compact<'a>(alloc: Global, line: &'a [u8]) -> Option<Request<'a>>
     ensures request { IfSome result (λ request. line_request line.now ≡ Some (request_of request)) }
     ensures no_desk_line { OnSome result (desk_line line.now ≡ None) }
 {
-    let point = read_point(line)?;
-    let id = text_of(point.id)?;
-    let service = parse_service(alloc, point.service)?;
-    Some(request_at(alloc, id, point.lat, point.lon, service))
+    let place = read_parts(line)?;
+    let id = text_of(place.id)?;
+    let body = body_of(&place.content)?;
+    let service = parse_service(alloc, place.service)?;
+    Some(request_at(alloc, id, profile_of(&place.content), body, service))
 }
 
-/// The text of an id.
+/// The text of bytes, if they are UTF-8.
 fn text_of(bytes: &[u8]) -> Option<&str>
     ensures { IfSome result (λ text. (text.now ≡ bytes.now) × IsUtf8 bytes.now) }
 {
@@ -67,21 +87,51 @@ fn text_of(bytes: &[u8]) -> Option<&str>
     }
 }
 
-/// A `findService` at one point, with no other member.
+/// The body of a location, if a text of decimal degrees is one.
+fn body_of<'a>(content: &Content<'a>) -> Option<Body<'a>>
+    ensures { IfSome result (λ body. content_body content.now ≡ Some (body_of body)) }
+{
+    match content {
+        Content::Pair(lat, lon) => Some(Body::Point(*lat, *lon)),
+        Content::Decimal(text) => decimal_body(text.as_bytes()),
+        Content::Token(text) => Some(Body::Token(CowStr::Borrowed(*text))),
+    }
+}
+
+/// The body of a position that is a text.
+fn decimal_body<'a>(text: &[u8]) -> Option<Body<'a>>
+    ensures { IfSome result (λ body. option_map (λ position. PointBody position.0 position.1) (decimal text.now) ≡ Some (body_of body)) }
+{
+    let (lat, lon) = GeoPoint::decimal(text)?;
+    Some(Body::Point(lat, lon))
+}
+
+/// The profile of a location.
+fn profile_of(content: &Content<'_>) -> &'static str
+    ensures { result.now ≡ content_profile content.now }
+{
+    match content {
+        Content::Pair(_, _) => GEODETIC_2D,
+        Content::Decimal(_) => GEODETIC_2D,
+        Content::Token(_) => X_TOKEN,
+    }
+}
+
+/// A `findService` at one place, with no other member.
 fn request_at<'a>(
     alloc: Global,
     id: &'a str,
-    lat: i64,
-    lon: i64,
+    profile: &'static str,
+    body: Body<'a>,
     service: ServiceUrn,
 ) -> Request<'a>
-    ensures { request_of result ≡ point_request id.now lat lon service }
+    ensures { request_of result ≡ place_request id.now profile.now (body_of body.entry) service }
 {
     let first = Location {
         id: CowStr::Borrowed(id),
-        profile: CowStr::Borrowed(GEODETIC_2D),
+        profile: CowStr::Borrowed(profile),
         srs_known: true,
-        body: Body::Point(lat, lon),
+        body,
     };
     Request::FindService {
         service,
@@ -96,23 +146,65 @@ fn request_at<'a>(
 }
 
 /// The parts of a line, if it is written of such parts.
-fn read_point<'a>(line: &'a [u8]) -> Option<PointLine<'a>>
-    ensures { IfSome result (λ point. IsPointLine line.now point) }
+fn read_parts<'a>(line: &'a [u8]) -> Option<PlaceLine<'a>>
+    ensures { IfSome result (λ place. IsPlaceLine line.now place) }
 {
     let rest = after(line, BEFORE_ID)?;
     let (id, rest) = split_plain(rest);
-    let rest = after(rest, BEFORE_LAT)?;
-    let (lat, rest) = read_number(rest)?;
-    let rest = after(rest, BEFORE_LON)?;
-    let (lon, rest) = read_number(rest)?;
-    let rest = after(rest, BEFORE_SERVICE)?;
+    let (content, rest) = read_content(rest)?;
     let service = before(rest, AFTER_SERVICE)?;
-    Some(PointLine {
+    Some(PlaceLine {
         id,
-        lat,
-        lon,
+        content,
         service,
     })
+}
+
+/// What stands between the id and the service, and what follows it.
+fn read_content<'a>(text: &'a [u8]) -> Option<(Content<'a>, &'a [u8])>
+    ensures { IfSome result (λ found. IsContentBefore text.now found.0 found.1.now) }
+{
+    match after(text, BEFORE_LAT) {
+        Some(rest) => read_pair(rest),
+        None => read_text(text),
+    }
+}
+
+/// A position as a pair of whole numbers.
+fn read_pair<'a>(text: &'a [u8]) -> Option<(Content<'a>, &'a [u8])>
+    ensures { IfSome result (λ found. IsContentBefore (before_lat ++ text.now) found.0 found.1.now) }
+{
+    let (lat, rest) = read_number(text)?;
+    let rest = after(rest, BEFORE_LON)?;
+    let (lon, rest) = read_number(rest)?;
+    let rest = after(rest, AFTER_LON)?;
+    Some((Content::Pair(lat, lon), rest))
+}
+
+/// A position as a text, or a token.
+fn read_text<'a>(text: &'a [u8]) -> Option<(Content<'a>, &'a [u8])>
+    ensures { IfSome result (λ found. IsContentBefore text.now found.0 found.1.now) }
+{
+    match after(text, BEFORE_DECIMAL) {
+        Some(rest) => read_decimal(rest),
+        None => read_token(after(text, BEFORE_TOKEN)?),
+    }
+}
+
+fn read_decimal<'a>(text: &'a [u8]) -> Option<(Content<'a>, &'a [u8])>
+    ensures { IfSome result (λ found. IsContentBefore (before_decimal ++ text.now) found.0 found.1.now) }
+{
+    let (decimal, rest) = split_plain(text);
+    let rest = after(rest, AFTER_DECIMAL)?;
+    Some((Content::Decimal(text_of(decimal)?), rest))
+}
+
+fn read_token<'a>(text: &'a [u8]) -> Option<(Content<'a>, &'a [u8])>
+    ensures { IfSome result (λ found. IsContentBefore (before_token ++ text.now) found.0 found.1.now) }
+{
+    let (token, rest) = split_plain(text);
+    let rest = after(rest, AFTER_TOKEN)?;
+    Some((Content::Token(text_of(token)?), rest))
 }
 
 /// What follows the front of a text.
@@ -162,71 +254,4 @@ fn is_plain(byte: u8) -> bool
     ensures { result ≡ is_plain byte }
 {
     byte != b'"' && byte != b'\\' && byte >= 0x20
-}
-
-/// The whole number that a text begins with, and what follows it.
-#[inline]
-fn read_number(text: &[u8]) -> Option<(i64, &[u8])>
-    ensures { IfSome result (λ found. IsNumberBefore text.now found.0 found.1.now) }
-{
-    match text.split_first() {
-        Some((b'-', digits)) => read_below_zero(digits),
-        _ => read_from_zero(text),
-    }
-}
-
-fn read_from_zero(text: &[u8]) -> Option<(i64, &[u8])>
-    ensures { IfSome result (λ found. IsNumberBefore text.now found.0 found.1.now) }
-{
-    let (value, rest) = read_digits(text)?;
-    Some((value as i64, rest))
-}
-
-/// A number below zero, by what follows its sign: `-0` is no whole number.
-fn read_below_zero(digits: &[u8]) -> Option<(i64, &[u8])>
-    ensures { IfSome result (λ found. IsNumberBefore (45 ∷ digits.now) found.0 found.1.now) }
-{
-    let (value, rest) = read_digits(digits)?;
-    if value == 0 {
-        None
-    } else {
-        Some((-(value as i64), rest))
-    }
-}
-
-/// The digits that a text begins with, as a number, and what follows them.
-fn read_digits(text: &[u8]) -> Option<(u64, &[u8])>
-    ensures text { IfSome result (λ found. text.now ≡ decimal found.0 ++ found.1.now) }
-    ensures small { IfSome result (λ found. found.0 < 100_000_000_000) }
-{
-    let (value, end) = count_digits(text);
-    if is_decimal(text, end) {
-        Some((value, &text[end..]))
-    } else {
-        None
-    }
-}
-
-/// Whether the first digits of a text are a number: one or more, and no zero before another digit.
-fn is_decimal(text: &[u8], end: usize) -> bool
-    requires { end ≤ length text.now }
-    ensures { OnTrue result ((0 < end) × (slice_index text.now 0 ≡ 48 → end ≡ 1)) }
-{
-    end == 1 || (end > 1 && text[0] != b'0')
-}
-
-/// The number that the first digits of a text spell, and how many these are.
-fn count_digits(text: &[u8]) -> (u64, usize)
-    ensures within { result.1 ≤ length text.now }
-    ensures digits { AllDigits 10 (take result.1 text.now) }
-    ensures value { result.0 ≡ digits_value 10 (take result.1 text.now) }
-    ensures small { result.0 < 100_000_000_000 }
-{
-    let mut value = 0;
-    let mut at = 0;
-    while at < text.len() && text[at].is_ascii_digit() && value < ENOUGH {
-        value = value * 10 + u64::from(text[at] - b'0');
-        at += 1;
-    }
-    (value, at)
 }

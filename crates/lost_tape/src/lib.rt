@@ -1,6 +1,6 @@
 //! Lines read by tokens (own format over RFC 5222): a line becomes one flat list of tokens in place of a tree. This
 //! reader takes requests, and desk lines that publish or replace a mapping. It answers only if it is certain, and
-//! leaves every other line to the tree. The line that is sent most needs no list.
+//! leaves every other line to the tree. The lines that are sent most need no list.
 #![tactic(auto)]
 
 mod addresses;

@@ -1,6 +1,6 @@
 use Rattle.std.proofs.Common.{◌≡◌, ◌<◌, ◌++◌, decimal, get_or, arith, ap, ◌∙◌, sym, take_all, length-drop, rules, tests}
-use Rattle.lost_tape.proofs.CompactParts.{number_front}
-use Rattle.lost_tape.proofs.compact.read_digits.Goals as goal
+use Rattle.lost_tape.proofs.NumberLemmas.{number_front}
+use Rattle.lost_tape.proofs.numbers.read_digits.Goals as goal
 
 pub returns-then-is_decimal-clause-text : goal.returns-then-is_decimal-clause-text
 returns-then-is_decimal-clause-text c =
