@@ -6,6 +6,7 @@ import json
 import socket
 import socketserver
 import threading
+from contextlib import suppress
 from typing import Any, Callable, Dict, List, Optional, Tuple
 
 from maptools.addresses import Tcp, Unix
@@ -53,7 +54,8 @@ def serve_once(replier: Replier, path: str = "", host: str = "127.0.0.1") -> Tup
         connection = listener.accept()[0]
         listener.close()
         connection.setsockopt(socket.SOL_SOCKET, socket.SO_SNDBUF, 4096)
-        with connection, connection.makefile("rb") as lines:
+        # A client that was told enough may close its end with replies unread, which resets the connection.
+        with suppress(ConnectionResetError, BrokenPipeError), connection, connection.makefile("rb") as lines:
             for line in lines:
                 got.append(line)
                 reply = replier(line)
