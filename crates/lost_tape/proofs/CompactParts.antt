@@ -8,8 +8,8 @@ use Rattle.json.specs.Written.{PlainBetween}
 use Rattle.json.proofs.Printed.Plain.{escape_on_plain}
 use Rattle.lost_spec.specs.Text.{Text}
 use Rattle.lost_tape.specs.Compact.{before_id, before_lat, before_lon, after_lon, before_decimal, after_decimal, before_token, after_token, after_service, content_text, place_line, IsPlain}
-use Rattle.lost_tape.specs.declared.compact.Content.{Content}
-use Rattle.lost_tape.specs.declared.compact.Content.TheVariants.{Pair, Decimal, Token}
+use Rattle.lost_tape.specs.declared.locations.Content.{Content}
+use Rattle.lost_tape.specs.declared.locations.Content.TheVariants.{Pair, Decimal, Token}
 
 -- a text that is cut where its front ends
 pub cut_front : (text front begins rest : List ℕ) → begins ≡ take (length front) text → rest ≡ drop (length front) text → begins ≡ front → text ≡ front ++ rest

@@ -9,8 +9,8 @@ use Rattle.lost_spec.specs.Decimal.{decimal}
 use Rattle.lost_spec.specs.Service.{Service}
 use Rattle.lost_spec.specs.Place.{Body, PointBody, TokenBody}
 use Rattle.lost_spec.specs.Request.{Request, FindService}
-use Rattle.lost_tape.specs.declared.compact.Content.{Content}
-use Rattle.lost_tape.specs.declared.compact.Content.TheVariants.{Pair, Decimal, Token}
+use Rattle.lost_tape.specs.declared.locations.Content.{Content}
+use Rattle.lost_tape.specs.declared.locations.Content.TheVariants.{Pair, Decimal, Token}
 use Rattle.lost_tape.specs.declared.compact.PlaceLine.{PlaceLine}
 
 -- the texts that stand before, between and after the id, the latitude, the longitude, a text and the service

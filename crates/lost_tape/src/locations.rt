@@ -1,15 +1,21 @@
 //! The locations of a request (RFC 5222, section 12).
-ghost use Rattle.std.specs.Prelude.{◌≡◌, Some, IfSome, option_map, option_and_then};
+ghost use Rattle.std.specs.Prelude.{◌≡◌, ◌++◌, Some, IfSome, option_map, option_and_then};
+ghost use Rattle.lost_spec.specs.Decimal.{decimal};
+ghost use Rattle.lost_spec.specs.Place.{PointBody};
 ghost use Rattle.lost_location.specs.Body.{body_of};
 ghost use Rattle.lost_message.specs.Request.{location_of, locations_of};
 ghost use Rattle.lost_reading.specs.Requests.{point_body, token_body, body_with, is_known_system, is_system_known, location_of_members, location_in, locations_in};
+ghost use Rattle.lost_tape.specs.Compact.{before_lat, before_decimal, before_token, content_body, content_profile, IsContentBefore};
 ghost use Rattle.lost_tape.specs.Tapes.{data_of, members_of};
 
 use crate::addresses::read_address;
+use crate::compact::{after, split_plain, utf8_of};
 use crate::members::LocationMembers;
+use crate::numbers::read_number;
 use crate::part::{Part, read_each, read_position, text_of};
 use crate::tree::Tree;
-use lost_location::{Body, PlaceKind, has_system, kind_of};
+use lost_geo::GeoPoint;
+use lost_location::{Body, GEODETIC_2D, PlaceKind, X_TOKEN, has_system, kind_of};
 use lost_message::{Location, Locations};
 use lost_reading::{KNOWN_SYSTEM, are_locations};
 use std::alloc::Global;
@@ -160,4 +166,110 @@ fn read_token_at<'a>(tree: &Tree<'_, 'a>) -> Option<Body<'a>>
 {
     let text = tree.text()?;
     Some(Body::Token(CowStr::Borrowed(text)))
+}
+
+/// What stands between the id and the latitude of a pair.
+const BEFORE_LAT: &[u8; 9] = b"\",\"pos\":[";
+
+/// What stands between the latitude and the longitude.
+const BEFORE_LON: &[u8; 1] = b",";
+
+/// What stands between the longitude and the service.
+const AFTER_LON: &[u8; 39] = b"],\"profile\":\"geodetic-2d\"}],\"service\":\"";
+
+/// What stands between the id and a position as a text.
+const BEFORE_DECIMAL: &[u8; 9] = b"\",\"pos\":\"";
+
+/// What stands between such a text and the service.
+const AFTER_DECIMAL: &[u8; 39] = b"\",\"profile\":\"geodetic-2d\"}],\"service\":\"";
+
+/// What stands between the id and a token.
+const BEFORE_TOKEN: &[u8; 31] = b"\",\"profile\":\"x-token\",\"token\":\"";
+
+/// What stands between the token and the service.
+const AFTER_TOKEN: &[u8; 15] = b"\"}],\"service\":\"";
+
+/// What a location of a compact line holds, as it is written.
+#[derive(Drop)]
+pub(crate) enum Content<'a> {
+    Pair(i64, i64),
+    Decimal(&'a str),
+    Token(&'a str),
+}
+
+/// The body of a location, if a text of decimal degrees is one.
+pub(crate) fn compact_body<'a>(content: &Content<'a>) -> Option<Body<'a>>
+    ensures { IfSome result (λ body. content_body content.now ≡ Some (body_of body)) }
+{
+    match content {
+        Content::Pair(lat, lon) => Some(Body::Point(*lat, *lon)),
+        Content::Decimal(text) => compact_decimal_body(text.as_bytes()),
+        Content::Token(text) => Some(Body::Token(CowStr::Borrowed(*text))),
+    }
+}
+
+/// The body of a position that is a text.
+fn compact_decimal_body<'a>(text: &[u8]) -> Option<Body<'a>>
+    ensures { IfSome result (λ body. option_map (λ position. PointBody position.0 position.1) (decimal text.now) ≡ Some (body_of body)) }
+{
+    let (lat, lon) = GeoPoint::decimal(text)?;
+    Some(Body::Point(lat, lon))
+}
+
+/// The profile of a location.
+pub(crate) fn compact_profile(content: &Content<'_>) -> &'static str
+    ensures { result.now ≡ content_profile content.now }
+{
+    match content {
+        Content::Pair(_, _) => GEODETIC_2D,
+        Content::Decimal(_) => GEODETIC_2D,
+        Content::Token(_) => X_TOKEN,
+    }
+}
+
+/// What stands between the id and the service, and what follows it.
+pub(crate) fn read_compact_content<'a>(text: &'a [u8]) -> Option<(Content<'a>, &'a [u8])>
+    ensures { IfSome result (λ found. IsContentBefore text.now found.0 found.1.now) }
+{
+    match after(text, BEFORE_LAT) {
+        Some(rest) => read_compact_pair(rest),
+        None => read_compact_text(text),
+    }
+}
+
+/// A position as a pair of whole numbers.
+fn read_compact_pair<'a>(text: &'a [u8]) -> Option<(Content<'a>, &'a [u8])>
+    ensures { IfSome result (λ found. IsContentBefore (before_lat ++ text.now) found.0 found.1.now) }
+{
+    let (lat, rest) = read_number(text)?;
+    let rest = after(rest, BEFORE_LON)?;
+    let (lon, rest) = read_number(rest)?;
+    let rest = after(rest, AFTER_LON)?;
+    Some((Content::Pair(lat, lon), rest))
+}
+
+/// A position as a text, or a token.
+fn read_compact_text<'a>(text: &'a [u8]) -> Option<(Content<'a>, &'a [u8])>
+    ensures { IfSome result (λ found. IsContentBefore text.now found.0 found.1.now) }
+{
+    match after(text, BEFORE_DECIMAL) {
+        Some(rest) => read_compact_decimal(rest),
+        None => read_compact_token(after(text, BEFORE_TOKEN)?),
+    }
+}
+
+fn read_compact_decimal<'a>(text: &'a [u8]) -> Option<(Content<'a>, &'a [u8])>
+    ensures { IfSome result (λ found. IsContentBefore (before_decimal ++ text.now) found.0 found.1.now) }
+{
+    let (decimal, rest) = split_plain(text);
+    let rest = after(rest, AFTER_DECIMAL)?;
+    Some((Content::Decimal(utf8_of(decimal)?), rest))
+}
+
+fn read_compact_token<'a>(text: &'a [u8]) -> Option<(Content<'a>, &'a [u8])>
+    ensures { IfSome result (λ found. IsContentBefore (before_token ++ text.now) found.0 found.1.now) }
+{
+    let (token, rest) = split_plain(text);
+    let rest = after(rest, AFTER_TOKEN)?;
+    Some((Content::Token(utf8_of(token)?), rest))
 }

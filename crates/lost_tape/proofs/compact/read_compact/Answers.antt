@@ -12,7 +12,7 @@ returns-clause-request c =
     let request = (line_is_read c.args.line.now place body service c.in_ok-place.ensures c.in_ok-id.ensures.1 c.in_ok-body.ensures c.in_ok-service.ensures).0 in
     request
     ∙ ap Some (ap (λ id. place_request id (content_profile place.content) body service) (sym c.in_ok-id.ensures.0)
-    ∙ ap (λ profile. place_request c.in_ok-id.id.now profile body service) (sym c.profile_of.ensures)
+    ∙ ap (λ profile. place_request c.in_ok-id.id.now profile body service) (sym c.compact_profile.ensures)
     ∙ sym c.request_at.ensures)
 
 pub returns-clause-no_desk_line : goal.returns-clause-no_desk_line

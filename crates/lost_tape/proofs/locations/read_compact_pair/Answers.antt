@@ -1,7 +1,7 @@
 use Rattle.std.proofs.Common.{SFits, w64, to_z-of_z, rules}
 use Rattle.lost_tape.specs.Compact.{before_lon, after_lon}
 use Rattle.lost_tape.proofs.CompactParts.{pair_of_parts}
-use Rattle.lost_tape.proofs.compact.read_pair.Goals as goal
+use Rattle.lost_tape.proofs.locations.read_compact_pair.Goals as goal
 
 pub returns : goal.returns
 unfolding before_lon after_lon
