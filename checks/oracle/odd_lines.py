@@ -1,13 +1,15 @@
 """Sessions whose lines are spelled in every odd way, each line once more in a spelling that only the reader of trees takes.
 
 Members stand in any order, some of them twice; names and values have escapes; numbers have all spellings; unknown members
-nest deeply or have many items; lines are cut, broken, and filled to the bounds of what is read by tokens.
+nest deeply or have many items; lines are cut, broken, and filled to the bounds of what is read by tokens. Some are the compact
+lines that are read in one pass, or nearly so.
 """
 from drawn_texts import PositionText, broken_text, position_text
 from samples import JUNK, NO_JSON, ODD_JSON
 from sessions import Session
 from spelling import BLANKS, Spelled, broken, nested, spelled_character, with_member
 from spoiling import spoil_line
+from strict_json import write_json
 
 EDITS, LINES = 8, 250
 MOST_BYTES, MOST_TOKENS = 8_192, 254
@@ -36,6 +38,8 @@ class OddSession(Session):
     def line(self, value, with_blanks):
         """The bytes of a line in an odd spelling."""
         dice = self.dice
+        if "findService" in value and dice.chance(0.3):
+            return compact_line(dice, value["findService"])
         if dice.chance(0.1):
             value = spoil_line(self, value)
         line = oddly(dice, value, with_blanks).encode()
@@ -44,6 +48,15 @@ class OddSession(Session):
         if dice.chance(0.03):
             line = line.ljust(MOST_BYTES + dice.choice([-1, 0, 1]))
         return broken(dice, line, NO_JSON + ODD_JSON) if dice.chance(0.06) else line
+
+
+def compact_line(dice, request):
+    """A findService at one place and no more, compact and in the order of names: many are as one reader wants them, the
+    others have a byte or a piece of JSON too many, too few or another."""
+    location = dice.choice(request["location"])
+    wanted = {name: location[name] for name in location if name != "srsName" or dice.chance(0.1)}
+    line = write_json({"findService": {"location": [wanted], "service": request["service"]}}).encode()
+    return broken(dice, line, NO_JSON + ODD_JSON) if dice.chance(0.4) else line
 
 
 def oddly(dice, value, with_blanks):
