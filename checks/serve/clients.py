@@ -1,4 +1,5 @@
 """Clients of a live history: each asks over one connection after another, and keeps what it was told."""
+import glob
 import os
 import pickle
 import random
@@ -59,10 +60,11 @@ class Counted(NamedTuple):
 
 
 class Pool:
-    """The requests of a chapter, twice in a row, so that each run of them is one piece of bytes."""
+    """The requests of a chapter, twice in a row, so that each run of them is one piece of bytes. `users` is how many pieces
+    wait for their replies."""
 
     def __init__(self, number, requests):
-        self.number, self.size = number, len(requests)
+        self.number, self.size, self.users = number, len(requests), 0
         lines = [request + b"\n" for request in requests] * 2
         self.lines, self.text, self.places = lines, b"".join(lines), [0]
         for line in lines:
@@ -74,22 +76,57 @@ class Pool:
         return self.text[self.places[first] : self.places[end]]
 
 
+class Notebook:
+    """What the clients of a process were told: each different reply to each request, chapter by chapter, in a file.
+
+    A chapter is written once a later one has begun and nobody waits for its replies.
+    """
+
+    def __init__(self, number, run):
+        self.run, self.lock, self.pools = run, threading.Lock(), {}
+        self.file = open(f"{run.folder}/replies-{number}", "wb")
+
+    def take_pool(self):
+        """The pool of the chapter that is now, for one piece: it is to be given back."""
+        with self.lock:
+            number = self.run.chapter()
+            if number not in self.pools:
+                self.pools[number] = Pool(number, self.run.chapters[number].requests)
+            self.pools[number].users += 1
+            return self.pools[number]
+
+    def give_back(self, pool):
+        """Ends the use of a pool for one piece."""
+        with self.lock:
+            pool.users -= 1
+            while len(self.pools) > 1 and not self.first().users:
+                self.write_first()
+
+    def first(self):
+        """The pool of the first chapter that is not written."""
+        return next(iter(self.pools.values()))
+
+    def write_first(self):
+        """Writes the first chapter that is not written."""
+        pool = self.first()
+        pickle.dump((pool.number, pool.editions[: pool.size]), self.file)
+        del self.pools[pool.number]
+
+    def end(self):
+        """Writes the chapters that are left."""
+        while self.pools:
+            self.write_first()
+        self.file.close()
+
+
 class Client:
     """Asks the requests of the chapters, and keeps each different reply to each."""
 
-    def __init__(self, number, run):
-        self.number, self.run = number, run
+    def __init__(self, number, run, notebook):
+        self.number, self.run, self.notebook = number, run, notebook
         self.dice = random.Random(run.seed * 1000 + number)
         self.differences = Differences()
         self.replies = self.connections = self.replies_of_ended_well = self.wants_of_memory = self.ended_early = 0
-        self.pool = None
-        self.file = open(f"{run.folder}/{number}", "wb")
-
-    def turn_to(self, chapter):
-        """Keeps what was told in the chapter before, and goes on with this one."""
-        if self.pool:
-            pickle.dump((self.pool.number, self.pool.editions[: self.pool.size]), self.file)
-        self.pool = Pool(chapter, self.run.chapters[chapter].requests) if chapter is not None else None
 
     def ask_all(self):
         """Asks until the time is over."""
@@ -103,12 +140,19 @@ class Client:
                 self.ended_early += 1
                 if not self.run.may_lack_memory:
                     raise
-        self.turn_to(None)
-        self.file.close()
 
     def ask_on_one(self, most):
         """Asks at most so many lines on one connection."""
-        peer, waiting, last, left = Peer(self.run.port), deque(), 0, most
+        waiting = deque()
+        try:
+            self.ask_waiting(Peer(self.run.port), waiting, most)
+        finally:
+            for pool, _, _ in waiting:
+                self.notebook.give_back(pool)
+
+    def ask_waiting(self, peer, waiting, left):
+        """Asks so many lines; `waiting` has what was sent and has no replies yet."""
+        last = 0
         self.connections += 1
         while True:
             while left and len(waiting) < IN_FLIGHT and self.run.passed() < self.run.seconds:
@@ -116,21 +160,24 @@ class Client:
                 left -= len(waiting[-1][1])
             if not waiting:
                 break
-            pool, places, told = waiting.popleft()
+            pool, places, told = waiting[0]
             last = self.look_at(pool, places, peer.take(len(places)), max(last, told))
+            waiting.popleft()
+            self.notebook.give_back(pool)
         if rest := peer.end():
             self.differences.add(f"connection: it got more than its replies: {shown(rest)}")
 
     def put(self, peer, left):
         """Sends some requests in a row; which they are, and the edition that had been told before."""
-        chapter = self.run.chapter()
-        if not self.pool or self.pool.number != chapter:
-            self.turn_to(chapter)
-        pool = self.pool
+        pool = self.notebook.take_pool()
         count = min(left, self.dice.choice(BATCHES), pool.size)
         first = self.dice.randrange(pool.size)
         told = self.run.told.value
-        peer.put(pool.piece(first, first + count))
+        try:
+            peer.put(pool.piece(first, first + count))
+        except BaseException:
+            self.notebook.give_back(pool)
+            raise
         return pool, range(first, first + count), told
 
     def look_at(self, pool, places, replies, last):
@@ -180,20 +227,22 @@ def be_client(client):
 
 def be_clients(numbers, run, line):
     """What the process of some clients does, with a thread for each; `line` is told what they counted."""
-    clients = [Client(number, run) for number in numbers]
+    notebook = Notebook(numbers[0], run)
+    clients = [Client(number, run, notebook) for number in numbers]
     threads = [threading.Thread(target=be_client, args=(client,)) for client in clients]
     for thread in threads:
         thread.start()
     for thread in threads:
         thread.join()
+    notebook.end()
     line.send([client.counted() for client in clients])
     line.close()
     os._exit(0)
 
 
-def replies_kept(folder, clients):
+def replies_kept(folder):
     """What clients kept, chapter by chapter: for each the replies to each request, of all clients together."""
-    files = [open(f"{folder}/{number}", "rb") for number in range(clients)]
+    files = [open(path, "rb") for path in sorted(glob.glob(f"{folder}/replies-*"))]
     heads = [next_kept(file) for file in files]
     while any(heads):
         chapter = min(head[0] for head in heads if head)

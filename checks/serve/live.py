@@ -76,10 +76,10 @@ def counted_by(started):
     return counted
 
 
-def judge(books, chapters, folder, clients):
+def judge(books, chapters, folder):
     """Judges what the clients kept; how many different replies there were."""
     count, editions = 0, set()
-    for number, replies in replies_kept(folder, clients):
+    for number, replies in replies_kept(folder):
         for line, told in zip(chapters[number].requests, replies):
             question = Question(line, books.oracle)
             search.holds = Remembering()
@@ -116,7 +116,7 @@ def tell(books, desk_lines, counted, passed, chapters, folder, may_lack_memory=F
     begun = time.monotonic()
     for line, reply in desk_lines:
         books.add(line, reply, may_lack_memory)
-    different = judge(books, chapters, folder, len(counted))
+    different = judge(books, chapters, folder)
     for one in counted:
         books.differences.include(one.differences)
     replies, connections = sum(one.replies for one in counted), sum(one.connections for one in counted)
