@@ -10,7 +10,7 @@ use std::alloc::{AllocError, Global};
 use std::io;
 use std::rt::Clock;
 use std::time::Instant;
-use test_districts::{Setting, nanoseconds};
+use test_parts::{Setting, nanoseconds};
 
 /// The beginning of a reply that has found a mapping.
 const FOUND: &[u8] = b"{\"findServiceResponse\":";

@@ -11,7 +11,7 @@ use std::alloc::Global;
 use std::io;
 use std::rt::Clock;
 use std::sync::Wait;
-use test_districts::{Spans, share};
+use test_parts::{Spans, share};
 
 /// How many places a cache keeps.
 const PLACES: u32 = 1_024;

@@ -7,7 +7,7 @@ use std::alloc::{AllocError, Global};
 use std::io;
 use std::rt::Clock;
 use std::sync::Wait;
-use test_districts::{Flood, Spans, below, share};
+use test_parts::{Flood, Spans, below, share};
 
 /// The kinds of edits, in the order in which they are made.
 const KINDS: [&str; 3] = ["publish", "replacement", "withdrawal"];

@@ -12,7 +12,7 @@ use std::io;
 use std::rt::Clock;
 use std::sync::{Arc, Wait};
 use std::thread::Threads;
-use test_districts::{Flood, mean, share};
+use test_parts::{Flood, mean, share};
 
 /// The rows and the columns of the map of the counts, of the small map and of the large one: 16, 1,024 and 60,025
 /// districts.

@@ -5,7 +5,7 @@ use lost_book::Edit;
 use lost_json::{DeskLine, read_desk};
 use std::alloc::{AllocError, Global};
 use std::io;
-use test_districts::{edit_line, ring, straight_ring, withdraw_line};
+use test_parts::{edit_line, ring, straight_ring, withdraw_line};
 
 /// The boundaries of a map.
 #[derive(Clone, Copy)]

@@ -27,7 +27,7 @@ use std::process::ExitCode;
 use std::rt::{Clock, Env};
 use std::sync::Wait;
 use std::thread::Threads;
-use test_districts::{mistaken, words};
+use test_parts::{mistaken, words};
 
 /// The words that are allowed.
 const USAGE: &str =

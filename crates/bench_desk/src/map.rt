@@ -9,7 +9,7 @@ use std::io;
 use std::rt::Clock;
 use std::sync::Wait;
 use std::time::Instant;
-use test_districts::nanoseconds;
+use test_parts::nanoseconds;
 
 /// How many readers a map has: one alone, and a crowd of four.
 const READERS: u32 = 5;

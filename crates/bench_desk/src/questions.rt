@@ -3,7 +3,7 @@
 use crate::stacks::Stacks;
 use std::alloc::Global;
 use std::io;
-use test_districts::{SERVICE, SIDE, Setting, below, find_line};
+use test_parts::{SERVICE, SIDE, Setting, below, find_line};
 
 /// Lines that ask for points, with the server's name and the moment of the answers.
 #[derive(Drop)]

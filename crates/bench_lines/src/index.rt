@@ -10,7 +10,7 @@ use std::alloc::Global;
 use std::io;
 use std::rt::Clock;
 use std::time::Instant;
-use test_districts::{Flood, SIDE, STRAY, Spans, below, mean, nanoseconds, share};
+use test_parts::{Flood, SIDE, STRAY, Spans, below, mean, nanoseconds, share};
 
 /// The rows and the columns of the small map and of the large one: 1,024 and 60,025 districts.
 const SMALL: u32 = 32;

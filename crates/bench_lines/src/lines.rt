@@ -5,7 +5,7 @@ use crate::maps::Map;
 use lost_lines::MAX_LINE;
 use std::alloc::{AllocError, Global};
 use std::fmt::Write;
-use test_districts::{SIDE, below, edit_line, find_line, withdraw_line};
+use test_parts::{SIDE, below, edit_line, find_line, withdraw_line};
 
 /// The name of a mapping.
 fn name(alloc: Global, number: u32) -> Result<String, AllocError> {

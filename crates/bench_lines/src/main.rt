@@ -29,7 +29,7 @@ mod tasks;
 use std::io;
 use std::process::ExitCode;
 use std::rt::{Clock, Env};
-use test_districts::{mistaken, words};
+use test_parts::{mistaken, words};
 
 /// The words that are allowed.
 const USAGE: &str =

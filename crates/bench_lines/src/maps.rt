@@ -1,7 +1,7 @@
 //! The maps to replay: so many mappings in a square of rows and columns.
 
 use std::alloc::{AllocError, Global};
-use test_districts::{SIDE, STRAY, below, ring, straight_ring};
+use test_parts::{SIDE, STRAY, below, ring, straight_ring};
 
 /// A map of so many mappings, one at each place of so many rows and columns.
 #[derive(Clone, Copy)]

@@ -5,7 +5,7 @@ use crate::replies::Reply;
 use crate::tasks::Task;
 use std::alloc::{AllocError, Global};
 use std::time::Duration;
-use test_districts::{Spans, mean, nanoseconds};
+use test_parts::{Spans, mean, nanoseconds};
 
 /// A part of a stream.
 #[derive(Drop)]

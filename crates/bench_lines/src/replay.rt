@@ -8,7 +8,7 @@ use crate::tasks::Task;
 use std::alloc::{AllocError, Global};
 use std::io;
 use std::rt::Clock;
-use test_districts::{a_second, share};
+use test_parts::{a_second, share};
 
 /// The numbers of squares.
 const SQUARES: [u32; 3] = [10, 100, 1_000];

@@ -9,7 +9,7 @@ use lost_replay::replay;
 use std::cell::Cell;
 use std::io;
 use std::rt::Clock;
-use test_districts::{Flood, Setting};
+use test_parts::{Flood, Setting};
 
 /// Replays parts over a map, and gives them back with their times and replies. If a reply is wrong, prints the kinds of
 /// its part's replies, and the error is `InvalidData`.

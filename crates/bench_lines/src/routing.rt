@@ -7,7 +7,7 @@ use crate::replaying::{print_replies, replayed};
 use crate::tasks::Task;
 use std::io;
 use std::rt::Clock;
-use test_districts::{nanoseconds, share};
+use test_parts::{nanoseconds, share};
 
 /// The map for a look at the kinds of the replies alone.
 const TINY: Map = Map {

@@ -9,7 +9,7 @@ use std::io;
 use std::io::{Read, Write};
 use std::rt::Clock;
 use std::time::Instant;
-use test_districts::Flood;
+use test_parts::Flood;
 
 /// How many bytes are made at once, up to the end of a line. If each line is answered alone, one line is made.
 const CHUNK: usize = 262_144;

@@ -4,7 +4,7 @@ use crate::lines;
 use crate::maps::Map;
 use crate::replies::Reply;
 use std::alloc::{AllocError, Global};
-use test_districts::{COMMIT, SERVICE};
+use test_parts::{COMMIT, SERVICE};
 
 /// How many defaults are published again, and then withdrawn again.
 const AGAIN: u32 = 10;

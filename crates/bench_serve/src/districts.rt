@@ -2,7 +2,7 @@
 
 use std::alloc::Global;
 use std::io;
-use test_districts::{COMMIT, SERVICE, edit_line, find_line, square};
+use test_parts::{COMMIT, SERVICE, edit_line, find_line, square};
 
 /// The squares of a row.
 const ROW: u32 = 256;

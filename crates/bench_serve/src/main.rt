@@ -20,7 +20,7 @@ use std::random::RandomSource;
 use std::sync::Wait;
 use std::thread::Threads;
 use std::time::Clock;
-use test_districts::{mistaken, words};
+use test_parts::{mistaken, words};
 
 fn main(rt: HostRuntime) -> io::Result<ExitCode> {
     match words(&rt)?.as_str() {

@@ -3,7 +3,7 @@
 use crate::machine::Machine;
 use crate::scenes::{Outcome, Plan, echoed, served};
 use std::io;
-use test_districts::{Setting, Spans, a_second, share};
+use test_parts::{Setting, Spans, a_second, share};
 
 /// The mappings of the small map and of the large one.
 const SMALL: u32 = 1_000;

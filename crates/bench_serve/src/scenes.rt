@@ -12,7 +12,7 @@ use std::net::{SocketAddr, TcpListener};
 use std::sync::atomic::{AtomicBool, Ordering};
 use std::thread::{join, map_indices, sleep};
 use std::time::{Duration, Instant};
-use test_districts::nanoseconds;
+use test_parts::nanoseconds;
 
 /// How many different pieces of lines a client sends in turn.
 const PIECES: u32 = 64;

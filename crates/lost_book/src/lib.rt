@@ -14,7 +14,7 @@ mod traces;
 pub use book::Book;
 pub use held::{has_identity, has_key};
 pub use limits::Limits;
-pub use lost_message::Edit;
+pub use lost_mapping::Edit;
 pub use lost_spec::faults::EditError;
 pub use places::{holds, serves};
 pub use register::{Register, check_edit, check_publish, check_replace, check_withdraw};

@@ -5,12 +5,11 @@ ghost use Rattle.std.specs.Option.{option_copied};
 ghost use Rattle.std.specs.Result.{result_err};
 ghost use Rattle.lost_spec.specs.Book as spec;
 ghost use Rattle.lost_spec.specs.Book.{has_identity, has_key, is_held, held, is_key_held, is_not_newer, is_not_after, is_key_unchanged, identity_of, is_spent, is_full, has_most_traces, withdrawn, publish_refusal, replace_refusal, withdraw_refusal, refusal};
-ghost use Rattle.lost_message.specs.Edit.{edit_of};
+ghost use Rattle.lost_mapping.specs.Edit.{edit_of};
 
 use crate::limits::Limits;
 use crate::regions::{have_same_key, have_same_regions};
-use lost_mapping::{Identity, Mapping, Stamp};
-use lost_message::Edit;
+use lost_mapping::{Edit, Identity, Mapping, Stamp};
 use lost_spec::faults::EditError;
 
 /// A type that holds mappings, however it keeps them, with what a refusal depends on. No call takes memory.

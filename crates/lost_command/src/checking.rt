@@ -4,9 +4,8 @@ use crate::outcome::check_outcome;
 use crate::progress::Progress;
 use crate::replaying::{begun, turns_of};
 use clap::ArgMatches;
-use lost_check::{Findings, check_lines};
 use lost_mapping::{Moment, Source};
-use lost_replay::{Counts, ServeError, Turns, Watched};
+use lost_replay::{Counts, Findings, ServeError, Turns, Watched, check_lines};
 use std::io;
 use std::io::Write;
 

@@ -2,7 +2,7 @@
 use Rattle.std.specs.Prelude.{ℕ, List, map}
 use Rattle.lost_spec.specs.Text.{Text}
 use Rattle.lost_spec.specs.Book.{Limits}
-use Rattle.lost_message.specs.Edit.{edit_of}
+use Rattle.lost_mapping.specs.Edit.{edit_of}
 use Rattle.lost_json.specs.Line.{line_reply}
 use Rattle.lost_core.specs.declared.step.Step.{Step as KeptStep}
 use Rattle.lost_core.specs.declared.step.Step.TheVariants.{Stage as KeptStage, Publish as KeptPublish, Enter as KeptEnter, Tell as KeptTell, Answer as KeptAnswer}

@@ -1,7 +1,7 @@
 //! Books from lists of edits.
 ghost use Rattle.std.specs.Prelude.{◌≡◌, map, take, IfOk, OnOk};
 ghost use Rattle.lost_spec.specs.Book.{after, book_of as book_meant};
-ghost use Rattle.lost_message.specs.Edit.{edit_of};
+ghost use Rattle.lost_mapping.specs.Edit.{edit_of};
 
 use lost_book::{Book, Edit, EditError, Limits};
 use std::alloc::{AllocError, Global};

@@ -1,6 +1,6 @@
 //! The machine that runs the steps of a world.
 ghost use Rattle.std.specs.Prelude.{◌≡◌, ◌-◌, if◌then◌else◌, map, length, max, nat_lt, slice_index, Some, None, IfOk, OnOk};
-ghost use Rattle.lost_message.specs.Edit.{edit_of};
+ghost use Rattle.lost_mapping.specs.Edit.{edit_of};
 ghost use Rattle.lost_core.specs.World.{Replying, Stage, Publish, Enter, Tell, Answer, events};
 ghost use Rattle.lost_core.specs.State.{start, meet, state_after, state_event};
 ghost use Rattle.lost_core.specs.Values.{step_of, event_of, replies_of, world_of};
@@ -26,7 +26,7 @@ pub struct World {
 
 impl Model for World {
     ghost use Rattle.std.specs.Prelude.{map};
-    ghost use Rattle.lost_message.specs.Edit.{edit_of};
+    ghost use Rattle.lost_mapping.specs.Edit.{edit_of};
     ghost use Rattle.lost_core.specs.State as spec;
 
     ghost Value = { spec.State };

@@ -6,8 +6,8 @@ use Rattle.std.proofs.lemmas.Bool.{and_parts}
 use Rattle.lost_spec.specs.Laws.{BeginsWith}
 use Rattle.lost_spec.specs.Book.{Book, Edit, Limits, refusal, after, after_all, accepts, book_of, empty_book, is_accepted}
 use Rattle.lost_spec.proofs.BookLemmas.{accepted_book}
-use Rattle.lost_message.specs.declared.edit.Edit.{Edit as CodeEdit}
-use Rattle.lost_message.specs.Edit.{edit_of}
+use Rattle.lost_mapping.specs.declared.edit.Edit.{Edit as CodeEdit}
+use Rattle.lost_mapping.specs.Edit.{edit_of}
 use Rattle.lost_history.specs.History.{Opening, Beginning, beginning}
 use Rattle.lost_history.proofs.Beginnings.{begins_itself, begins_trans, shorter_begins}
 use Rattle.lost_desk.specs.declared.version.Version.{Version}

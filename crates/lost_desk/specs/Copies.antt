@@ -1,7 +1,7 @@
 -- What a copy is, and how it takes in what is published.
 use Rattle.std.specs.Prelude.{◌≡◌, IsTrue, List, [], ◌∷◌, fold}
 use Rattle.lost_spec.specs.Book.{Limits, Edit, after, book_of, empty_book, is_accepted}
-use Rattle.lost_message.specs.Edit.{edit_of}
+use Rattle.lost_mapping.specs.Edit.{edit_of}
 use Rattle.lost_history.specs.History.{Opening, beginning}
 use Rattle.lost_desk.specs.declared.version.Version.{Version}
 use Rattle.lost_desk.specs.declared.version.Operation.{Operation}

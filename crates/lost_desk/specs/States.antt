@@ -2,8 +2,8 @@
 use Rattle.std.specs.Prelude.{◌≡◌, true, IsTrue, List, [], ◌∷◌, ◌++◌, map, Option, Some, None}
 use Rattle.lost_spec.specs.Laws.{BeginsWith}
 use Rattle.lost_spec.specs.Book.{Book, Edit, book_of, is_accepted}
-use Rattle.lost_message.specs.declared.edit.Edit.{Edit as CodeEdit}
-use Rattle.lost_message.specs.Edit.{edit_of}
+use Rattle.lost_mapping.specs.declared.edit.Edit.{Edit as CodeEdit}
+use Rattle.lost_mapping.specs.Edit.{edit_of}
 use Rattle.lost_history.specs.History.{Opening, Beginning}
 use Rattle.lost_desk.specs.declared.version.Version.{Version}
 use Rattle.lost_desk.specs.declared.version.Operation.{Operation}

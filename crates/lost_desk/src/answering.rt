@@ -2,7 +2,7 @@
 ghost use Rattle.std.specs.Prelude.{◌≡◌, Some, IfOk};
 ghost use Rattle.lost_json.specs.Line.{line_reply};
 ghost use Rattle.lost_spec.specs.Text.{Text};
-ghost use Rattle.lost_message.specs.Request.{request_of};
+ghost use Rattle.lost_mapping.specs.Request.{request_of};
 ghost use Rattle.lost_location.specs.Place.{place_of};
 ghost use Rattle.lost_reading.specs.Requests.{line_request};
 ghost use Rattle.lost_spec.specs.Holders.{holders_of};

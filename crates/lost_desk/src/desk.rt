@@ -2,7 +2,7 @@
 ghost use Rattle.std.specs.Prelude.{◌≡◌, ◌≢◌, ◌<◌, [], None, Some, length, MatchBool, IfOk, IfErr, IsOk, OnOk, OnErr};
 ghost use Rattle.lost_spec.specs.Laws.{BeginsWith};
 ghost use Rattle.lost_spec.specs.Book.{refusal, empty_book};
-ghost use Rattle.lost_message.specs.Edit.{edit_of};
+ghost use Rattle.lost_mapping.specs.Edit.{edit_of};
 ghost use Rattle.lost_history.specs.History.{beginning};
 ghost use Rattle.lost_desk.specs.Seen.{new_desk, published_book, staged_book, with_staged, with_committed, with_none_pending};
 ghost use Rattle.lost_desk.specs.Copies.{first_version};

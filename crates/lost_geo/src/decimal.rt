@@ -5,7 +5,7 @@ ghost use Rattle.lost_spec.specs.Text.{is_digit};
 ghost use Rattle.lost_spec.specs.Decimal.{decimal, is_space, is_word_byte, front, behind, are_decimals, decimals_value, read_decimals, read_unsigned, read_number};
 
 use crate::point::GeoPoint;
-use lost_text::digits_value;
+use lost_spec::digits_value;
 
 /// The most digits of whole degrees.
 const MAX_DEGREE_DIGITS: usize = 3;

@@ -10,7 +10,7 @@ pub struct Change {
 
 impl Model for Change {
     ghost use Rattle.lost_spec.specs.Book as spec;
-    ghost use Rattle.lost_message.specs.Edit.{edit_of};
+    ghost use Rattle.lost_mapping.specs.Edit.{edit_of};
 
     ghost Value = { spec.Edit };
 

@@ -1,7 +1,7 @@
 //! The line that answers a line.
 ghost use Rattle.std.specs.Prelude.{◌≡◌, Some, IfOk};
 ghost use Rattle.lost_spec.specs.Text.{Text};
-ghost use Rattle.lost_message.specs.Request.{request_of};
+ghost use Rattle.lost_mapping.specs.Request.{request_of};
 ghost use Rattle.lost_reading.specs.Requests.{line_request};
 ghost use Rattle.lost_writing.specs.Replies.{reply_text};
 ghost use Rattle.lost_query.specs.Asked.{reply_asked};

@@ -3,7 +3,7 @@ ghost use Rattle.std.specs.Prelude.{◌≡◌};
 ghost use Rattle.lost_lines.specs.Run.{Cut, Whole, TooLong, Unread, Reply};
 ghost use Rattle.lost_lines.specs.Answer.{bytes_of, reply_of};
 
-use lost_text::DeskText;
+use lost_spec::DeskText;
 use std::alloc::Global;
 
 /// Answers lines, one after another, and may change with each.

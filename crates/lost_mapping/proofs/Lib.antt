@@ -8,3 +8,4 @@ pub mod ShapeLemmas
 pub mod SourceLemmas
 pub mod StampLemmas
 mod UriLemmas
+pub mod FoldLemmas

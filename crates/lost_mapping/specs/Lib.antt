@@ -8,3 +8,7 @@ pub mod Source
 pub mod Stamp
 pub mod StampText
 pub mod Texts
+pub mod Edit
+pub mod Path
+pub mod Reply
+pub mod Request

@@ -2,7 +2,7 @@
 ghost use Rattle.std.specs.Prelude.{◌≡◌, ◌+◌, ◌≤◌, length};
 ghost use Rattle.lost_mapping.specs.StampText.{number_in};
 
-use lost_text::digits_value;
+use lost_spec::digits_value;
 
 /// The number that stands in a text from one position up to another.
 pub(crate) fn number_at(text: &[u8], from: usize, to: usize) -> u64

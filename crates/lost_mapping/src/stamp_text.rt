@@ -9,7 +9,7 @@ ghost use Rattle.lost_mapping.specs.StampText.{number_in, has_shape, end_of};
 use crate::calendar::day_number;
 use crate::digits::number_at;
 use crate::moment::Moment;
-use lost_text::digits_value;
+use lost_spec::digits_value;
 
 /// The first 19 bytes of a stamp, in which 0 stands for any digit.
 const SHAPE: &[u8; 19] = b"0000-00-00T00:00:00";

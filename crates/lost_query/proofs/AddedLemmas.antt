@@ -17,7 +17,7 @@ use Rattle.lost_urn.specs.Order.{same_service_is}
 use Rattle.lost_urn.proofs.ReadLemmas.{same_from_text}
 use Rattle.lost_urn.proofs.CutLemmas.{cut_service}
 use Rattle.lost_query.specs.Children.{AreServices, children_to, is_among_services}
-use Rattle.lost_message.proofs.FoldLemmas.{list_any-map}
+use Rattle.lost_mapping.proofs.FoldLemmas.{list_any-map}
 use Rattle.lost_query.proofs.MemberLemmas.{ascending_by-same}
 
 -- ---- services

@@ -5,9 +5,9 @@ use Rattle.lost_spec.specs.Find.{Finding}
 use Rattle.lost_spec.specs.Request as spec
 use Rattle.lost_spec.specs.Answer.{find_reply}
 use Rattle.lost_location.specs.Place.{place_of}
-use Rattle.lost_message.specs.Path.{shown_path}
+use Rattle.lost_mapping.specs.Path.{shown_path}
 use Rattle.lost_query.specs.declared.find_service.Ask.{Ask}
-use Rattle.lost_message.specs.declared.path.Path.{Path}
+use Rattle.lost_mapping.specs.declared.path.Path.{Path}
 
 -- the reply for what was found (RFC 5222, section 8)
 abbrev pub asked_reply : Book → Instant → Ask → Path → Finding → spec.Reply

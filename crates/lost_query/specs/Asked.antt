@@ -9,8 +9,8 @@ use Rattle.lost_spec.specs.Services.{services, all_services, by_key}
 use Rattle.lost_spec.specs.Request as spec
 use Rattle.lost_spec.specs.Answer.{boundary_reply}
 use Rattle.lost_location.specs.Place.{place_of}
-use Rattle.lost_message.specs.declared.path.Path.{Path}
-use Rattle.lost_message.specs.Path.{shown_path}
+use Rattle.lost_mapping.specs.declared.path.Path.{Path}
+use Rattle.lost_mapping.specs.Path.{shown_path}
 use Rattle.lost_query.specs.declared.asked.Asked.{Asked}
 use Rattle.lost_query.specs.declared.asked.Question.{Question}
 use Rattle.lost_query.specs.declared.asked.Question.TheVariants.{FindService, ListServicesByLocation, ListServices, GetServiceBoundary, Refused}

@@ -1,8 +1,8 @@
 //! The answer to a request.
 ghost use Rattle.std.specs.Prelude.{◌≡◌, IfOk};
 ghost use Rattle.lost_spec.specs.Answer.{answer};
-ghost use Rattle.lost_message.specs.Request.{request_of};
-ghost use Rattle.lost_message.specs.Reply.{reply_of};
+ghost use Rattle.lost_mapping.specs.Request.{request_of};
+ghost use Rattle.lost_mapping.specs.Reply.{reply_of};
 ghost use Rattle.lost_query.specs.Asked.{reply_asked};
 
 use crate::asked::{Asked, Question};
@@ -11,8 +11,7 @@ use crate::find_service::find_service;
 use crate::holdings::Holdings;
 use crate::lists::{list_anywhere, list_at};
 use crate::refusals::refusal;
-use lost_mapping::{Moment, Source};
-use lost_message::{Reply, Request};
+use lost_mapping::{Moment, Reply, Request, Source};
 use std::alloc::{AllocError, Global};
 
 /// The answer of the server of this name to a request at an instant, over these holdings (RFC 5222, sections 6 to 13;

@@ -2,13 +2,12 @@
 ghost use Rattle.std.specs.Prelude.{◌≡◌, IfOk};
 ghost use Rattle.lost_spec.specs.Services.{by_key};
 ghost use Rattle.lost_spec.specs.Answer.{boundary_reply};
-ghost use Rattle.lost_message.specs.Reply.{reply_of};
-ghost use Rattle.lost_message.specs.Path.{shown_path};
+ghost use Rattle.lost_mapping.specs.Reply.{reply_of};
+ghost use Rattle.lost_mapping.specs.Path.{shown_path};
 
 use crate::holdings::Holdings;
 use crate::refusals::refusal;
-use lost_mapping::Moment;
-use lost_message::{Path, Reply};
+use lost_mapping::{Moment, Path, Reply};
 use lost_spec::answers::AnswerError;
 use std::alloc::AllocError;
 

@@ -6,7 +6,7 @@ ghost use Rattle.lost_spec.specs.Find.{FoundHolders, FoundDefaults, found, is_im
 ghost use Rattle.lost_spec.specs.Answer.{error_of, validation_for};
 ghost use Rattle.lost_query.specs.Finding.{mappings_of};
 ghost use Rattle.lost_location.specs.Place.{place_of};
-ghost use Rattle.lost_message.specs.Reply.{validation_of, reply_of};
+ghost use Rattle.lost_mapping.specs.Reply.{validation_of, reply_of};
 ghost use Rattle.lost_query.specs.Ask.{asked_reply};
 
 use crate::finding::{Finding, find};
@@ -17,8 +17,7 @@ use crate::shown::show;
 use crate::validation::validate;
 use crate::warnings::{default_warnings, substitution_warnings};
 use lost_location::Place;
-use lost_mapping::Moment;
-use lost_message::{Path, Reply, Validation};
+use lost_mapping::{Moment, Path, Reply, Validation};
 use lost_spec::answers::AnswerError;
 use lost_urn::ServiceUrn;
 use std::alloc::{AllocError, Global};

@@ -25,7 +25,7 @@ pub use answering::{answer, answer_asked};
 pub use asked::{Asked, place_used};
 pub use holdings::{Holdings, Positions};
 pub use lost_location::{Place, law_equal_places_are_one};
-pub use lost_message::{
+pub use lost_mapping::{
     AnswerError, Body, Boundary, FoundMappings, Location, Locations, Path, Reply, Request,
     Validation, Warning,
 };

@@ -4,14 +4,13 @@ ghost use Rattle.std.specs.Option.{option_copied};
 ghost use Rattle.lost_spec.specs.Request.{ListServicesByLocationResponse, ListServicesResponse};
 ghost use Rattle.lost_spec.specs.Services.{services, all_services};
 ghost use Rattle.lost_location.specs.Place.{place_of};
-ghost use Rattle.lost_message.specs.Reply.{reply_of};
-ghost use Rattle.lost_message.specs.Path.{shown_path};
+ghost use Rattle.lost_mapping.specs.Reply.{reply_of};
+ghost use Rattle.lost_mapping.specs.Path.{shown_path};
 
 use crate::holdings::Holdings;
 use crate::services::services_at;
 use lost_location::Place;
-use lost_mapping::Moment;
-use lost_message::{Path, Reply};
+use lost_mapping::{Moment, Path, Reply};
 use lost_urn::ServiceUrn;
 use std::alloc::{AllocError, Global};
 

@@ -5,12 +5,12 @@ ghost use Rattle.lost_spec.specs.Place as spec;
 ghost use Rattle.lost_spec.specs.Request.{Reply};
 ghost use Rattle.lost_spec.specs.Answer.{at_location, location_used};
 ghost use Rattle.lost_spec.specs.Holders.{place_at};
-ghost use Rattle.lost_message.specs.Request.{location_of, locations_of};
+ghost use Rattle.lost_mapping.specs.Request.{location_of, locations_of};
 ghost use Rattle.lost_query.specs.Used.{reply_used, used_place};
 
 use crate::used::location_used;
 use lost_location::{Place, has_system, kind_of, place_in};
-use lost_message::{Location, Locations};
+use lost_mapping::{Location, Locations};
 use lost_spec::answers::AnswerError;
 use std::alloc::{AllocError, Global};
 

@@ -1,10 +1,10 @@
 //! Replies that are errors.
 ghost use Rattle.std.specs.Prelude.{◌≡◌};
 ghost use Rattle.lost_spec.specs.Request.{Errors};
-ghost use Rattle.lost_message.specs.Reply.{reply_of};
+ghost use Rattle.lost_mapping.specs.Reply.{reply_of};
 
 use crate::holdings::Holdings;
-use lost_message::Reply;
+use lost_mapping::Reply;
 use lost_spec::answers::AnswerError;
 
 /// The reply that is this error (RFC 5222, section 13.1).

@@ -3,11 +3,11 @@ ghost use Rattle.std.specs.Prelude.{◌≡◌, map};
 ghost use Rattle.lost_spec.specs.Answer.{shown};
 ghost use Rattle.lost_query.specs.Finding.{mappings_of};
 ghost use Rattle.lost_location.specs.Place.{place_of};
-ghost use Rattle.lost_message.specs.Reply.{shown_with, all_shown_of};
+ghost use Rattle.lost_mapping.specs.Reply.{shown_with, all_shown_of};
 
 use crate::found::Found;
 use lost_location::Place;
-use lost_message::{Boundary, FoundMappings};
+use lost_mapping::{Boundary, FoundMappings};
 
 /// The mappings, each with the boundary that the client prefers (RFC 5222, section 8.3.4).
 pub(crate) fn show(found: Found, place: &Place, by_value: bool) -> FoundMappings

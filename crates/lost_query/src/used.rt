@@ -3,10 +3,10 @@ ghost use Rattle.std.specs.Prelude.{◌≡◌, map, option_map, is_some};
 ghost use Rattle.std.specs.Option.{option_copied};
 ghost use Rattle.lost_spec.specs.Place.{kind_of};
 ghost use Rattle.lost_spec.specs.Answer.{location_used};
-ghost use Rattle.lost_message.specs.Request.{location_of, locations_of};
+ghost use Rattle.lost_mapping.specs.Request.{location_of, locations_of};
 
 use lost_location::kind_of;
-use lost_message::{Location, Locations};
+use lost_mapping::{Location, Locations};
 
 /// Whether the server knows a profile (RFC 5222, section 12.1).
 fn is_known(profile: &str) -> bool

@@ -5,15 +5,14 @@ ghost use Rattle.lost_spec.specs.Validation.{unknown_names, validation};
 ghost use Rattle.lost_civic.specs.Element.{element_name, all_elements};
 ghost use Rattle.lost_query.specs.Finding.{mappings_of};
 ghost use Rattle.lost_query.specs.Judged.{stands_in, is_valid_element, is_contradicted, ValidatesNoOther};
-ghost use Rattle.lost_message.specs.Reply.{validation_of};
+ghost use Rattle.lost_mapping.specs.Reply.{validation_of};
 
 use crate::found::Found;
 use crate::holdings::Holdings;
 use crate::validation::elements::{append, elements_of, names_of, part, unknown_names};
 use crate::validation::patterns::{is_named, matching_patterns};
 use lost_civic::{CivicAddress, Element};
-use lost_mapping::Moment;
-use lost_message::Validation;
+use lost_mapping::{Moment, Validation};
 use lost_urn::ServiceUrn;
 use std::alloc::{AllocError, Global};
 

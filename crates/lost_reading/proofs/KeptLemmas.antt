@@ -22,8 +22,8 @@ use Rattle.lost_reading.specs.Kept.{is_known, HaveSameKnown, AreObjects, HaveSam
 use Rattle.lost_reading.specs.Gives.{Gives}
 use Rattle.lost_reading.specs.Lines.{GivesWhole}
 use Rattle.lost_reading.specs.declared.line.Line.{Line}
-use Rattle.lost_message.specs.Request.{request_of}
-use Rattle.lost_message.specs.declared.request.Request as message
+use Rattle.lost_mapping.specs.Request.{request_of}
+use Rattle.lost_mapping.specs.declared.request.Request as message
 use Rattle.lost_spec.specs.Request.{Request}
 use Rattle.serde_json.specs.View.{view}
 use Rattle.serde_json.specs.declared.value.Value.{Value}

@@ -1,7 +1,7 @@
 -- What a `DeskLine` of the code stands for, and what the readers of desk lines give.
 use Rattle.std.specs.Prelude.{◌≡◌, ◌≢◌, Option, Some, None, Result, Ok, Err}
 use Rattle.lost_spec.specs.declared.faults.MappingError.TheVariants.{Memory as WantOfMemory}
-use Rattle.lost_message.specs.Edit.{edit_of}
+use Rattle.lost_mapping.specs.Edit.{edit_of}
 use Rattle.lost_reading.specs.declared.desk.DeskFault.{DeskFault}
 use Rattle.lost_reading.specs.declared.desk.DeskFault.TheVariants.{BadLine, Mapping as MappingFault}
 use Rattle.lost_reading.specs.declared.desk.DeskLine.{DeskLine}

@@ -2,7 +2,7 @@
 use Rattle.std.specs.Prelude.{◌≡◌, ◌≢◌, Option, Some, None, Result, Ok, Err}
 use Rattle.lost_spec.specs.declared.faults.MappingError.TheVariants.{Memory as WantOfMemory}
 use Rattle.lost_spec.specs.Request as spec
-use Rattle.lost_message.specs.Request.{request_of}
+use Rattle.lost_mapping.specs.Request.{request_of}
 use Rattle.lost_reading.specs.declared.desk.DeskFault.{DeskFault}
 use Rattle.lost_reading.specs.declared.desk.DeskFault.TheVariants.{Mapping as MappingFault}
 use Rattle.lost_reading.specs.declared.line.Line.{Line}

@@ -8,7 +8,7 @@ use crate::desk::{DeskFault, DeskLine, is_desk_name, read_order};
 use crate::kept::read_tree;
 use crate::reading::only_member;
 use crate::request::{ReadError, read_member_request};
-use lost_message::Request;
+use lost_mapping::Request;
 use lost_spec::faults::MappingError;
 use serde_json::Value;
 use std::alloc::Global;

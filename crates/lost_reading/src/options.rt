@@ -1,7 +1,7 @@
 //! The path of a request, and how it wants boundaries.
 ghost use Rattle.std.specs.Prelude.{◌≡◌, option_map};
 ghost use Rattle.serde_json.specs.View.{members_view};
-ghost use Rattle.lost_message.specs.Request.{path_names};
+ghost use Rattle.lost_mapping.specs.Request.{path_names};
 ghost use Rattle.lost_reading.specs.Gives.{Gives};
 ghost use Rattle.lost_reading.specs.Requests.{path_kind, path_in, preference, by_value_kind};
 

@@ -2,7 +2,7 @@
 ghost use Rattle.std.specs.Prelude.{◌≡◌, None, Err, option_and_then, codes};
 ghost use Rattle.serde_json.specs.Find.{as_object};
 ghost use Rattle.serde_json.specs.View.{view, members_view};
-ghost use Rattle.lost_message.specs.Request.{request_of};
+ghost use Rattle.lost_mapping.specs.Request.{request_of};
 ghost use Rattle.lost_reading.specs.Gives.{Gives};
 ghost use Rattle.lost_reading.specs.Members as kinds;
 ghost use Rattle.lost_reading.specs.Requests.{find_service_of, services_at_of, services_of, boundary_of, request_named, request_in, line_request};
@@ -11,7 +11,7 @@ use crate::kept::read_tree;
 use crate::options::{ByValue, read_path};
 use crate::reading::{defaulting, only_member, required};
 use crate::services::{optional_service, required_service};
-use lost_message::{Locations, Request};
+use lost_mapping::{Locations, Request};
 use lost_spec::Coded;
 use serde_json::{Map, Value};
 use std::alloc::Global;

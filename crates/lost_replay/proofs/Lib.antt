@@ -1,3 +1,5 @@
 pub mod BooksLemmas
 mod ReplyLemmas
 pub mod ReplayLemmas
+pub mod RunLemmas
+pub mod CheckLemmas

@@ -3,3 +3,8 @@ pub mod Outcome
 pub mod Pair
 pub mod Replay
 pub mod Replayer
+pub mod Outcomes
+pub mod Said
+pub mod Tally
+pub mod Checker
+pub mod Check

@@ -2,7 +2,7 @@
 ghost use Rattle.std.specs.Prelude.{◌≡◌, ◌≢◌, ◌+◌, ◌-◌, ◌<◌, ◌++◌, ◌∷◌, [], None, Some, Err, IfOk, IfErr, OnOk, OnErr, map, length};
 ghost use Rattle.std.specs.Result.{result_err};
 ghost use Rattle.lost_spec.specs.Book.{empty_book, refusal, after, after_all};
-ghost use Rattle.lost_message.specs.Edit.{edit_of};
+ghost use Rattle.lost_mapping.specs.Edit.{edit_of};
 ghost use Rattle.lost_replay.specs.Pair.{with_staged, with_committed};
 
 use lost_book::{Edit, EditError, Limits};
@@ -27,7 +27,7 @@ pub(crate) struct Pair {
 
 impl Model for Pair {
     ghost use Rattle.std.specs.Prelude.{map};
-    ghost use Rattle.lost_message.specs.Edit.{edit_of};
+    ghost use Rattle.lost_mapping.specs.Edit.{edit_of};
     ghost use Rattle.lost_replay.specs.Pair.{IsPair, pair_seen};
     ghost use Rattle.lost_replay.specs.Books.{Books};
 

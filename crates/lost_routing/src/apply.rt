@@ -1,7 +1,7 @@
 //! Applies edits to the routing.
 ghost use Rattle.std.specs.Prelude.{◌≡◌, ◌≢◌, None, Some, Err, IfErr, OnOk, OnErr};
 ghost use Rattle.lost_spec.specs.Book.{Publish, Replace, Withdraw, refusal, after};
-ghost use Rattle.lost_message.specs.Edit.{edit_of};
+ghost use Rattle.lost_mapping.specs.Edit.{edit_of};
 ghost use Rattle.lost_routing.specs.Applied.{IsApplied};
 
 use crate::routing::Routing;

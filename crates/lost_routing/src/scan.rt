@@ -6,7 +6,7 @@ ghost use Rattle.lost_spec.specs.Positions.{positions};
 
 use lost_mapping::Mapping;
 use lost_query::Positions;
-use lost_tiered::TieredVec;
+use lost_tables::TieredVec;
 use std::alloc::{AllocError, Global};
 
 /// The most mappings for a look at each: to ask the index about a place costs as much as some thirty looks.

@@ -10,8 +10,7 @@ ghost use Rattle.lost_routing.specs.Walk.{is_live_of, live_position};
 use crate::store::Store;
 use lost_mapping::{Mapping, Moment};
 use lost_query::Children;
-use lost_tables::{laws, picks};
-use lost_tiered::TieredVec;
+use lost_tables::{TieredVec, laws, picks};
 use lost_urn::ServiceUrn;
 use std::alloc::AllocError;
 

@@ -6,8 +6,7 @@ ghost use Rattle.lost_routing.specs.Store.{nothing_stored, with_last, with_mappi
 use crate::entering::{enter, exchange, leave};
 use lost_mapping::Mapping;
 use lost_regions::Regions;
-use lost_tables::Tables;
-use lost_tiered::TieredVec;
+use lost_tables::{Tables, TieredVec};
 use std::alloc::{AllocError, Global};
 use std::marker::Model;
 

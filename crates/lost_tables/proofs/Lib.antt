@@ -3,3 +3,4 @@ pub mod TableLemmas
 pub mod PickLemmas
 pub mod RisingLemmas
 pub mod WalkLemmas
+pub mod ChunkLemmas

@@ -1,3 +1,4 @@
 pub mod Lists
 pub mod Lookup
 pub mod Picks
+pub mod Chunks

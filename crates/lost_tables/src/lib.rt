@@ -1,8 +1,9 @@
-//! Tables from a mapping's identity, key and service to its number, and the picking of mappings by their numbers. A
-//! number is the one under which an indexed book holds a mapping.
+//! Tables from a mapping's identity, key and service to its number, a long list in chunks of one size, and the picking of
+//! mappings by their numbers. A number is the one under which an indexed book holds a mapping.
 #![tactic(auto)]
 
 mod cell;
+mod chunks;
 mod defaults;
 mod identities;
 pub mod laws;
@@ -10,5 +11,7 @@ mod lists;
 pub mod picks;
 mod tables;
 mod texts;
+mod tiered;
 
 pub use tables::Tables;
+pub use tiered::TieredVec;

@@ -8,8 +8,8 @@ ghost use Rattle.lost_spec.specs.Mapping as spec;
 ghost use Rattle.lost_spec.specs.Positions.{positions};
 ghost use Rattle.lost_tables.specs.Picks.{Covers, AreBelow, AreAbove, passing, lesser as lesser_of};
 
+use crate::TieredVec;
 use lost_mapping::Mapping;
-use lost_tiered::TieredVec;
 use smallvec::SmallVec;
 use std::alloc::{AllocError, Global};
 

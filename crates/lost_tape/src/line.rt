@@ -4,7 +4,7 @@ ghost use Rattle.std.specs.Bool.{OnTrue};
 ghost use Rattle.std.specs.List.{list_all};
 ghost use Rattle.json.specs.Tape.{node_token};
 ghost use Rattle.serde_json.specs.Read.{read};
-ghost use Rattle.lost_message.specs.Request.{request_of};
+ghost use Rattle.lost_mapping.specs.Request.{request_of};
 ghost use Rattle.lost_reading.specs.Desk.{order_in, desk_line};
 ghost use Rattle.lost_reading.specs.Lines.{GivesWhole};
 ghost use Rattle.lost_reading.specs.Requests.{request_in, line_request};
@@ -16,7 +16,7 @@ use crate::numbers::whole_number;
 use crate::requests::read_root;
 use crate::tree::Tree;
 use json::{Node, Scratch, Tape};
-use lost_message::Request;
+use lost_mapping::Request;
 use lost_reading::Line;
 use std::alloc::Global;
 

@@ -3,7 +3,7 @@ ghost use Rattle.std.specs.Prelude.{◌≡◌, ◌++◌, Some, IfSome, option_ma
 ghost use Rattle.lost_spec.specs.Decimal.{decimal};
 ghost use Rattle.lost_spec.specs.Place.{PointBody};
 ghost use Rattle.lost_location.specs.Body.{body_of};
-ghost use Rattle.lost_message.specs.Request.{location_of, locations_of};
+ghost use Rattle.lost_mapping.specs.Request.{location_of, locations_of};
 ghost use Rattle.lost_reading.specs.Requests.{point_body, token_body, body_with, is_known_system, is_system_known, location_of_members, location_in, locations_in};
 ghost use Rattle.lost_tape.specs.Compact.{before_lat, before_decimal, before_token, content_body, content_profile, IsContentBefore};
 ghost use Rattle.lost_tape.specs.Tapes.{data_of, members_of};
@@ -16,7 +16,7 @@ use crate::part::{Part, read_each, read_position, text_of};
 use crate::tree::Tree;
 use lost_geo::GeoPoint;
 use lost_location::{Body, GEODETIC_2D, PlaceKind, X_TOKEN, has_system, kind_of};
-use lost_message::{Location, Locations};
+use lost_mapping::{Location, Locations};
 use lost_reading::{KNOWN_SYSTEM, are_locations};
 use std::alloc::Global;
 use std::borrow::CowStr;

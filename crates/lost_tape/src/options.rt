@@ -2,7 +2,7 @@
 ghost use Rattle.std.specs.Prelude.{◌≡◌, [], Some, Ok, IfSome, option_map, option_and_then, false};
 ghost use Rattle.serde_json.specs.Find.{as_bool};
 ghost use Rattle.lost_spec.specs.Service.{read_service};
-ghost use Rattle.lost_message.specs.Request.{path_names};
+ghost use Rattle.lost_mapping.specs.Request.{path_names};
 ghost use Rattle.lost_reading.specs.Members.{service_in, optional_value};
 ghost use Rattle.lost_reading.specs.Requests.{path_kind, by_value_kind};
 ghost use Rattle.lost_tape.specs.ByName.{or_default};

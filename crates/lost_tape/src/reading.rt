@@ -1,5 +1,5 @@
 //! Reads lines of a common shape by tokens, and any other by its tree.
-ghost use Rattle.lost_message.specs.Request.{request_of};
+ghost use Rattle.lost_mapping.specs.Request.{request_of};
 ghost use Rattle.lost_reading.specs.Desk.{desk_line};
 ghost use Rattle.lost_reading.specs.Gives.{Gives};
 ghost use Rattle.lost_reading.specs.Lines.{GivesWhole};
@@ -7,7 +7,7 @@ ghost use Rattle.lost_reading.specs.Requests.{line_request};
 
 use crate::line::{read_common, read_common_line};
 use json::Scratch;
-use lost_message::Request;
+use lost_mapping::Request;
 use lost_reading::{DeskFault, Line, ReadError};
 use std::alloc::Global;
 

@@ -12,7 +12,7 @@ use crate::members::RequestMembers;
 use crate::options::{optional_service, read_by_value, read_path, read_validate, required_service};
 use crate::part::required_text;
 use crate::tree::Tree;
-use lost_message::{Edit, Request};
+use lost_mapping::{Edit, Request};
 use lost_reading::{DeskLine, Line};
 use std::alloc::Global;
 use std::borrow::CowStr;

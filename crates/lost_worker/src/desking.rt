@@ -1,7 +1,7 @@
 //! Answers the lines of a desk's connection.
 ghost use Rattle.std.specs.Prelude.{◌≡◌, [], length, Some, Ok};
 ghost use Rattle.lost_spec.specs.Text.{Text as Bytes};
-ghost use Rattle.lost_message.specs.Edit.{edit_of};
+ghost use Rattle.lost_mapping.specs.Edit.{edit_of};
 ghost use Rattle.lost_reading.specs.Desk.{Stage, Commit, desk_line};
 ghost use Rattle.lost_reading.specs.DeskLines.{GivesLine};
 ghost use Rattle.lost_writing.specs.DeskReplies.{IsInTable};

@@ -3,7 +3,7 @@ ghost use Rattle.std.specs.Prelude.{◌≡◌, ◌↔◌, IsTrue};
 ghost use Rattle.lost_writing.specs.DeskReplies.{desk_text, IsCode, IsInTable, refusal_name as refusal_name_of};
 ghost use Rattle.lost_writing.specs.PlainNames.{IsPlainName};
 
-use lost_text::DeskText;
+use lost_spec::DeskText;
 
 /// A reply to a desk line (own format).
 #[derive(Clone, Copy, PartialEq, Eq, Debug)]

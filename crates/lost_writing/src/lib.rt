@@ -8,5 +8,5 @@ mod writing;
 
 pub use constant_lines::{BAD_REQUEST, INTERNAL_ERROR, law_constant_lines};
 pub use desk_reply::{DeskReply, is_code, refusal_name, write_desk};
-pub use lost_text::DeskText;
+pub use lost_spec::DeskText;
 pub use writing::write_reply;

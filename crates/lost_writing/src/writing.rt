@@ -1,6 +1,6 @@
 //! Reply lines.
 ghost use Rattle.std.specs.Prelude.{◌≡◌, IfOk};
-ghost use Rattle.lost_message.specs.Reply.{reply_of};
+ghost use Rattle.lost_mapping.specs.Reply.{reply_of};
 ghost use Rattle.lost_writing.specs.Replies.{reply_text};
 
 mod lists;
@@ -11,7 +11,7 @@ mod regions;
 mod replies;
 
 use crate::token_text::TokenText;
-use lost_message::Reply;
+use lost_mapping::Reply;
 use replies::write_tree;
 use std::alloc::{AllocError, Global};
 

@@ -8,7 +8,7 @@ use lost_json::{DeskLine, read_desk};
 use lost_spec::Coded;
 use std::alloc::{AllocError, Global};
 use std::io;
-use test_rows::limits_of;
+use test_parts::limits_of;
 
 /// Applies the edits of the input to two books. Each line `limits` begins both anew.
 pub(crate) fn edit_books<R: Input + Print + AllocGlobal, A: Kind, B: Kind>(

@@ -35,7 +35,7 @@ use lost_routing::Routing;
 use std::io;
 use std::process::ExitCode;
 use std::rt::{Clock, Files};
-use test_rows::given;
+use test_parts::given;
 
 /// The commands.
 const WORDS: [&str; 7] = [

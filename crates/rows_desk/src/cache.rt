@@ -11,7 +11,7 @@ use std::alloc::AllocError;
 use std::rt::Files;
 use std::sync::Wait;
 use std::{fs, io};
-use test_rows::{Setting, limits};
+use test_parts::{Setting, limits};
 
 /// The line between two sessions of the file.
 const NEXT: &str = "next\n";

@@ -13,7 +13,7 @@ use std::alloc::{AllocError, Global};
 use std::rt::Files;
 use std::sync::Wait;
 use std::{fs, io};
-use test_rows::limits_of;
+use test_parts::limits_of;
 
 /// Makes each desk of the table. If `are_made`, makes the calls too and prints their answers.
 pub(crate) fn run<R: Files + Wait + Print + AllocGlobal>(rt: &R, are_made: bool) -> io::Result<()> {

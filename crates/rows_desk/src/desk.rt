@@ -8,7 +8,7 @@ use lost_spec::Coded;
 use std::rt::Files;
 use std::sync::Wait;
 use std::{fs, io};
-use test_rows::{Setting, limits};
+use test_parts::{Setting, limits};
 
 /// Refuses desks of too few and too many workers, and then runs the lines of `desk.lines`.
 pub(crate) fn run<R: Files + Wait + Print + AllocGlobal>(rt: &R) -> io::Result<()> {

@@ -26,7 +26,7 @@ use std::process::ExitCode;
 use std::rt::Files;
 use std::sync::Wait;
 use std::thread::Threads;
-use test_rows::given;
+use test_parts::given;
 
 /// The commands.
 const WORDS: [&str; 6] = ["desk", "cache", "many", "threads", "calls", "prepared"];

@@ -9,7 +9,7 @@ use lost_worker::{Turns, Watched, serve_desk};
 use std::alloc::{AllocError, Global};
 use std::io;
 use std::sync::Wait;
-use test_rows::Setting;
+use test_parts::Setting;
 
 /// How many mappings there are, and how many edits a commit takes.
 const MAPPINGS: u32 = 2_000;

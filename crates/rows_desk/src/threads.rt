@@ -23,7 +23,7 @@ use std::io;
 use std::marker::Brand;
 use std::sync::Wait;
 use std::thread::{Threads, join_mut};
-use test_rows::Setting;
+use test_parts::Setting;
 
 /// How often the desk commits and the reader answers.
 const ROUNDS: u64 = 1_000;

@@ -1,6 +1,6 @@
 //! A list in chunks, which is edited beside a plain one.
 
-use lost_tiered::TieredVec;
+use lost_tables::TieredVec;
 use std::alloc::{AllocError, Global};
 use std::io;
 

@@ -7,7 +7,7 @@ use crate::rows::{Row, names};
 use checked::check;
 use std::io;
 use std::rt::Files;
-use test_rows::Setting;
+use test_parts::Setting;
 
 /// The folder of the rows.
 const FOLDER: &str = "checks";

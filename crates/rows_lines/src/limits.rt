@@ -2,7 +2,7 @@
 use lost_book::Limits;
 use std::rt::Files;
 use std::{fs, io};
-use test_rows::limits_of;
+use test_parts::limits_of;
 
 /// The limits that the file `NAME.limits` of a folder gives, as [`limits_of`] reads them; `None` where there is no such
 /// file.

@@ -24,7 +24,7 @@ use std::io;
 use std::process::ExitCode;
 use std::rt::Files;
 use std::sync::Wait;
-use test_rows::given;
+use test_parts::given;
 
 fn main(rt: HostRuntime) -> io::Result<ExitCode> {
     let (words, mut end) = given(&rt, "rows_lines", &["sessions", "checks", "worlds"])?;

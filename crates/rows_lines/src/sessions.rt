@@ -9,7 +9,7 @@ use lost_book::Limits;
 use std::io;
 use std::rt::Files;
 use std::sync::Wait;
-use test_rows::Setting;
+use test_parts::Setting;
 
 /// The folder of the sessions.
 const FOLDER: &str = "sessions";

@@ -7,7 +7,7 @@ use lost_book::Limits;
 use lost_core::{Step, World};
 use script::Line;
 use std::io;
-use test_rows::Setting;
+use test_parts::Setting;
 
 /// Runs the worlds of standard input, and prints their events.
 pub(crate) fn print_worlds<R: Input + Print + AllocGlobal>(rt: &R) -> io::Result<()> {

@@ -24,7 +24,7 @@ mod status;
 
 use std::io;
 use std::process::ExitCode;
-use test_rows::given;
+use test_parts::given;
 
 fn main(rt: HostRuntime) -> io::Result<ExitCode> {
     let (words, end) = given(

@@ -1,7 +1,7 @@
 //! The moment of every stream.
 use lost_mapping::Moment;
 use lost_worker::Moments;
-use test_rows::Setting;
+use test_parts::Setting;
 
 /// Gives the same moment each time.
 #[derive(Drop)]

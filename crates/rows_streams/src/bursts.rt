@@ -5,7 +5,7 @@ use lost_connections::{Client, ClientFault, Progress};
 use lost_worker::{NoGate, Replier, Turns, Watched, serve_lines};
 use std::alloc::Global;
 use std::io;
-use test_rows::Setting;
+use test_parts::Setting;
 
 /// The most bytes of a read.
 const CHUNK: usize = 1_024;

@@ -7,7 +7,7 @@ use lost_worker::{Counts, NoGate, ServeError, Turns, Watched, serve_desk, serve_
 use std::alloc::Global;
 use std::io::Read;
 use std::sync::Wait;
-use test_rows::{Setting, Sink};
+use test_parts::{Setting, Sink};
 
 /// The server of a stream.
 #[derive(Clone, Copy, Drop)]

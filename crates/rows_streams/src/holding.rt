@@ -1,7 +1,7 @@
 //! Gates that hold lines back.
 use lost_worker::Gate;
 use std::time::Clock;
-use test_rows::{Answered, Meeting};
+use test_parts::{Answered, Meeting};
 
 /// A gate that holds lines back.
 #[derive(Drop)]

@@ -6,7 +6,7 @@ use crate::sweeps::{Sweep, prefixes, reads, spaces, whole, writes};
 use crate::worker::work;
 use std::io;
 use std::sync::Wait;
-use test_rows::Setting;
+use test_parts::Setting;
 
 /// Runs the script.
 pub(crate) fn run<R: Wait + Print + AllocGlobal>(rt: &R, script: &str) -> io::Result<()> {

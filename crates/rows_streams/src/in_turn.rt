@@ -9,7 +9,7 @@ use std::collections::VecDeque;
 use std::io;
 use std::io::{ErrorKind, Read, Write};
 use std::sync::Wait;
-use test_rows::Setting;
+use test_parts::Setting;
 
 /// How many lines each connection sends.
 const ROUNDS: u64 = 3;

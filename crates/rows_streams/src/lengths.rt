@@ -2,7 +2,7 @@
 ghost use Rattle.lost_lines.specs.Run.{Cut, Reply};
 
 use lost_lines::{Answer, Answerer, Text};
-use lost_text::DeskText;
+use lost_spec::DeskText;
 use std::alloc::{AllocError, Global};
 
 /// Answers a line with its length. Lines that were kept whole get texts of each kind.

@@ -21,7 +21,7 @@ use lost_spec::Coded;
 use std::alloc::{AllocError, Global};
 use std::io;
 use std::io::Read;
-use test_rows::{Diary, Noted, Sink, Spaces};
+use test_parts::{Diary, Noted, Sink, Spaces};
 
 /// How a stream was served, what was written, how many reads were made, and the flags that were left.
 #[derive(Drop)]

@@ -46,7 +46,7 @@ use std::sync::Wait;
 use std::thread::Threads;
 use std::time::Clock;
 use std::{fs, io};
-use test_rows::given;
+use test_parts::given;
 
 fn main(rt: HostRuntime) -> io::Result<ExitCode> {
     let (words, end) = given(&rt, "rows_streams", &["streams", "hostile", "lines"])?;

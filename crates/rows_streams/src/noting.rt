@@ -1,6 +1,6 @@
 //! A gate that notes what it is asked and told.
 use lost_lines::Gate;
-use test_rows::{Diary, Event};
+use test_parts::{Diary, Event};
 
 /// Notes in a diary what it is asked and told, and refuses the line with a number and all after it.
 #[derive(Drop)]

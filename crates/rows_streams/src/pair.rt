@@ -11,7 +11,7 @@ use std::alloc::Global;
 use std::io;
 use std::thread::{Threads, join_mut};
 use std::time::Clock;
-use test_rows::{Answered, Setting};
+use test_parts::{Answered, Setting};
 
 /// The values of a connection's thread, and what it wrote.
 #[derive(Drop)]

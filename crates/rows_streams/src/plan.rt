@@ -1,7 +1,7 @@
 //! How a stream of lines is served.
 use lost_worker::Turns;
 use std::io;
-use test_rows::{Feed, NEVER, Sink};
+use test_parts::{Feed, NEVER, Sink};
 
 /// How a stream of lines is served: the pieces of its input and output, which call fails, how long it is served at
 /// most, and what its gate does.

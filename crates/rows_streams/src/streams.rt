@@ -14,7 +14,7 @@ use std::io;
 use std::sync::Wait;
 use std::thread::Threads;
 use std::time::Clock;
-use test_rows::{Setting, limits};
+use test_parts::{Setting, limits};
 
 /// A desk and two of its readers.
 #[derive(Drop)]

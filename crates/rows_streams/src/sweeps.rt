@@ -6,7 +6,7 @@ use lost_worker::{ServeError, Turns};
 use std::alloc::AllocError;
 use std::io;
 use std::sync::Wait;
-use test_rows::{Feed, NEVER, Setting, Sink, Spaces};
+use test_parts::{Feed, NEVER, Setting, Sink, Spaces};
 
 /// The server of a stream, and the stream's bytes.
 #[derive(Drop)]

@@ -2,7 +2,7 @@
 use lost_spec::Coded;
 use lost_worker::{Counts, ServeError};
 use std::io;
-use test_rows::Event;
+use test_parts::Event;
 
 /// Prints what was written, and how it ended.
 pub(crate) fn tell<R: Print>(

@@ -11,7 +11,7 @@ use std::io;
 use std::io::{Read, Write};
 use std::sync::atomic::{AtomicU64, Ordering};
 use std::sync::{Arc, Wait};
-use test_rows::Setting;
+use test_parts::Setting;
 
 /// Gives bytes, or fails at once.
 #[derive(Drop)]

@@ -15,7 +15,7 @@ use std::io::Write;
 use std::sync::Wait;
 use std::thread::{Threads, join_mut};
 use std::time::Clock;
-use test_rows::{Meeting, Setting};
+use test_parts::{Meeting, Setting};
 
 /// The connections on the channel: a stream in memory, and where its replies go.
 type InMemory = Connection<VecDeque<u8>, Vec<u8>>;

@@ -8,7 +8,7 @@ use lost_grid::Geodetic2d;
 use lost_index::Index;
 use std::alloc::{AllocError, Global};
 use std::io;
-use test_districts::SIDE;
+use test_parts::SIDE;
 
 /// A way to find the boundaries at a point.
 pub(crate) trait Finding {

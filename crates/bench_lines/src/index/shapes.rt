@@ -4,7 +4,7 @@
 use lost_geo::{GeoPoint, Polygon};
 use std::alloc::Global;
 use std::io;
-use test_districts::ring;
+use test_parts::ring;
 
 /// How many steps a sliver takes across the earth: with the way back and the end, 4,096 positions.
 const STEPS: u32 = 2_047;

@@ -2,13 +2,12 @@
 ghost use Rattle.std.specs.Prelude.{◌≡◌, ◌≢◌, false, None, Some, IfErr, OnOk, OnErr};
 ghost use Rattle.lost_spec.specs.Book.{Publish, Replace, Withdraw, refusal, after};
 ghost use Rattle.lost_book.specs.Applied.{IsApplied, is_replacement};
-ghost use Rattle.lost_message.specs.Edit.{edit_of};
+ghost use Rattle.lost_mapping.specs.Edit.{edit_of};
 
 use crate::book::Book;
 use crate::changes;
 use crate::register::{check_publish, check_replace, check_withdraw};
-use lost_mapping::{Identity, Mapping, Stamp};
-use lost_message::Edit;
+use lost_mapping::{Edit, Identity, Mapping, Stamp};
 use lost_spec::faults::EditError;
 
 impl Book {

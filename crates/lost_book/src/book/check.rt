@@ -2,14 +2,13 @@
 ghost use Rattle.std.specs.Prelude.{◌≡◌};
 ghost use Rattle.std.specs.Result.{result_err};
 ghost use Rattle.lost_spec.specs.Book.{refusal};
-ghost use Rattle.lost_message.specs.Edit.{edit_of};
+ghost use Rattle.lost_mapping.specs.Edit.{edit_of};
 
 use crate::book::Book;
 use crate::held;
 use crate::limits::Limits;
 use crate::register::{Register, check_edit};
-use lost_mapping::{Identity, Mapping, Stamp};
-use lost_message::Edit;
+use lost_mapping::{Edit, Identity, Mapping, Stamp};
 use lost_spec::faults::EditError;
 
 impl Book {

@@ -2,12 +2,12 @@
 ghost use Rattle.std.specs.Prelude.{◌≡◌, map, OnOk};
 ghost use Rattle.serde_json.specs.Data.{string};
 ghost use Rattle.lost_mapping.specs.Texts.{texts_of};
-ghost use Rattle.lost_message.specs.Path.{shown_path};
+ghost use Rattle.lost_mapping.specs.Path.{shown_path};
 ghost use Rattle.lost_writing.specs.Replies.{list_data, texts_data};
 ghost use Rattle.lost_writing.specs.Tokens.{then_value, then_values};
 
 use crate::token_text::TokenText;
-use lost_message::Path;
+use lost_mapping::Path;
 use std::alloc::AllocError;
 use std::borrow::CowStr;
 

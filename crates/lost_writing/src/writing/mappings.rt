@@ -6,7 +6,7 @@ ghost use Rattle.lost_spec.specs.Answer.{reference_of};
 ghost use Rattle.lost_spec.specs.Service.{service_text};
 ghost use Rattle.lost_mapping.specs.Expires.{expires_seen};
 ghost use Rattle.lost_mapping.specs.Parts.{display_name_of};
-ghost use Rattle.lost_message.specs.Reply.{boundary_of, shown_with, all_shown_of};
+ghost use Rattle.lost_mapping.specs.Reply.{boundary_of, shown_with, all_shown_of};
 ghost use Rattle.lost_writing.specs.Replies.{display_name_data, display_names_data, expires_text as text_of_expires, value_data, reference_data, list_data, shown_data, texts_data};
 ghost use Rattle.lost_writing.specs.Tokens.{then_member, then_member_if, then_value, then_values};
 ghost use Rattle.lost_writing.specs.Written.{key_data};
@@ -15,8 +15,7 @@ use crate::token_text::TokenText;
 use crate::writing::lists::Written;
 use crate::writing::members::{list_member_if_any, text_member, texts_member};
 use crate::writing::regions::write_regions_of;
-use lost_mapping::{DisplayName, Expires, Mapping};
-use lost_message::{Boundary, FoundMappings};
+use lost_mapping::{Boundary, DisplayName, Expires, FoundMappings, Mapping};
 use std::alloc::AllocError;
 
 impl Written for DisplayName {

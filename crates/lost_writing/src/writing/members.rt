@@ -2,14 +2,14 @@
 ghost use Rattle.std.specs.Prelude.{◌≡◌, OnOk, codes};
 ghost use Rattle.serde_json.specs.Data.{number, string, unsigned};
 ghost use Rattle.lost_mapping.specs.Texts.{texts_of};
-ghost use Rattle.lost_message.specs.Path.{shown_path};
+ghost use Rattle.lost_mapping.specs.Path.{shown_path};
 ghost use Rattle.lost_writing.specs.Replies.{list_data, texts_data};
 ghost use Rattle.lost_writing.specs.Tokens.{then_member, then_member_if};
 ghost use Rattle.lost_writing.specs.Written.{list_if_any};
 
 use crate::token_text::TokenText;
 use crate::writing::lists::{Written, write_list, write_path, write_texts};
-use lost_message::Path;
+use lost_mapping::Path;
 use std::alloc::AllocError;
 
 /// Writes a text under a name.

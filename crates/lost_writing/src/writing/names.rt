@@ -2,7 +2,7 @@
 ghost use Rattle.std.specs.Prelude.{◌≡◌};
 ghost use Rattle.lost_writing.specs.Replies.{error_name as error_text, warning_name as warning_text};
 
-use lost_message::{AnswerError, Warning};
+use lost_mapping::{AnswerError, Warning};
 
 /// The name of an error (RFC 5222, section 13.1).
 pub(crate) fn error_name(error: AnswerError) -> &'static str

@@ -1,8 +1,8 @@
 //! The tokens of replies.
 ghost use Rattle.std.specs.Prelude.{◌≡◌, OnOk, option_map, codes};
 ghost use Rattle.lost_spec.specs.Request as spec;
-ghost use Rattle.lost_message.specs.Path.{shown_path};
-ghost use Rattle.lost_message.specs.Reply.{all_shown_of, validation_of, reply_of};
+ghost use Rattle.lost_mapping.specs.Path.{shown_path};
+ghost use Rattle.lost_mapping.specs.Reply.{all_shown_of, validation_of, reply_of};
 ghost use Rattle.lost_writing.specs.Replies.{list_data, shown_data, validation_data, warnings_data, services_data, warning_name as warning_text, error_data, reply_data};
 ghost use Rattle.lost_writing.specs.Tokens.{then_begun, then_ended, then_member, then_member_if, then_value};
 
@@ -14,8 +14,7 @@ use crate::writing::members::{
 };
 use crate::writing::names::{error_name, warning_name};
 use crate::writing::regions::write_regions;
-use lost_mapping::Mapping;
-use lost_message::{AnswerError, FoundMappings, Path, Reply, Validation, Warning};
+use lost_mapping::{AnswerError, FoundMappings, Mapping, Path, Reply, Validation, Warning};
 use lost_urn::ServiceUrn;
 use std::alloc::AllocError;
 

@@ -8,7 +8,7 @@ use lost_spec::Coded;
 use lost_urn::ServiceUrn;
 use std::alloc::Global;
 use std::io;
-use test_rows::limits_of;
+use test_parts::limits_of;
 
 /// A book is asked at the first moment of this day, in days from 1970-01-01.
 const DAY: i32 = 20_454;

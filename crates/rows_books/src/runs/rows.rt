@@ -4,7 +4,7 @@ use crate::runs::words::unfit;
 use lost_book::Limits;
 use std::rt::Files;
 use std::{fs, io};
-use test_rows::limits_of;
+use test_parts::limits_of;
 
 /// The file of the table, in the folder that the program runs in.
 const TABLE: &'static str = "runs.rows";

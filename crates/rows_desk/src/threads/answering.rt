@@ -11,7 +11,7 @@ use lost_book::Limits;
 use lost_desk::{Reader, Told};
 use std::alloc::Global;
 use std::sync::Wait;
-use test_rows::Setting;
+use test_parts::Setting;
 
 /// The values of the reader's thread.
 #[derive(Drop)]

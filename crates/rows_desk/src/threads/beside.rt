@@ -4,7 +4,7 @@ use crate::orders::QUESTION;
 use lost_book::{Book, Edit, Limits};
 use lost_json::{DeskLine, read_desk, reply_line};
 use std::alloc::Global;
-use test_rows::Setting;
+use test_parts::Setting;
 
 /// The edit of a round, which makes the next edition: an even round publishes the mapping, an odd one withdraws it.
 /// Each edit has a later stamp than the one before.

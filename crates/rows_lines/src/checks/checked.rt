@@ -1,8 +1,7 @@
 //! The check of one row.
-use lost_check::{Findings, check_lines};
-use lost_replay::{Counts, NoGate, Turns, Watched};
+use lost_replay::{Counts, Findings, NoGate, Turns, Watched, check_lines};
 use std::alloc::Global;
-use test_rows::Setting;
+use test_parts::Setting;
 
 /// The result of a check.
 #[derive(Drop)]

@@ -10,7 +10,7 @@ use lost_spec::Coded;
 use lost_worker::CachedReader;
 use std::alloc::Global;
 use std::sync::Wait;
-use test_rows::Setting;
+use test_parts::Setting;
 
 /// Answers the lines of a session: desk lines by the desk, and other lines by the reader.
 #[derive(Drop)]

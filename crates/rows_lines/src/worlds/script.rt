@@ -4,7 +4,7 @@ use lost_core::Step;
 use lost_json::{DeskFault, DeskLine, read_desk};
 use lost_mapping::{MappingError, Moment};
 use std::alloc::{AllocError, Global};
-use test_rows::limits_of;
+use test_parts::limits_of;
 
 /// A line of standard input.
 #[derive(Drop)]

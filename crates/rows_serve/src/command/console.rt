@@ -4,7 +4,7 @@ use std::cell::Cell;
 use std::fmt::Display;
 use std::io;
 use std::io::{BufRead, Lines};
-use test_rows::{Feed, NEVER};
+use test_parts::{Feed, NEVER};
 
 /// Standard input, output and error, with no file or terminal behind them.
 #[derive(Drop)]

@@ -1,7 +1,7 @@
 //! A gate that two workers share.
 use lost_server::Gate;
 use std::time::Clock;
-use test_rows::Meeting;
+use test_parts::Meeting;
 
 /// Holds the first line that it is asked for until another was answered. Refuses it if none is answered in time.
 #[derive(Drop)]

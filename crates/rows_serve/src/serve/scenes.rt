@@ -12,7 +12,7 @@ use std::random::RandomSource;
 use std::sync::Wait;
 use std::thread::{Threads, join};
 use std::time::{Clock, Duration};
-use test_rows::Meeting;
+use test_parts::Meeting;
 
 /// For how long a connection may be idle, in seconds.
 const IDLE: u64 = 30;

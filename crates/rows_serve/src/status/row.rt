@@ -7,7 +7,7 @@ use std::hash::RandomState;
 use std::io;
 use std::random::RandomSource;
 use std::time::Duration;
-use test_rows::{Feed, Sink};
+use test_parts::{Feed, Sink};
 
 /// How many workers the server of a row has.
 const WORKERS: u32 = 2;

@@ -8,7 +8,7 @@ use std::random::RandomSource;
 use std::thread::Threads;
 use std::time::Duration;
 use std::{io, thread};
-use test_rows::{Feed, Sink};
+use test_parts::{Feed, Sink};
 
 /// After how many seconds a connection is cut off.
 const LIMIT: u64 = 10;

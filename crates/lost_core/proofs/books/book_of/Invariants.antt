@@ -1,6 +1,6 @@
 use Rattle.std.proofs.Common.{◌≡◌, map, take}
 use Rattle.lost_spec.specs.Book.{book_of}
-use Rattle.lost_message.specs.Edit.{edit_of}
+use Rattle.lost_mapping.specs.Edit.{edit_of}
 use Rattle.lost_core.proofs.books.book_of.Given as goal
 
 abbrev pub invariant-loop-edit : goal.invariant-loop-edit

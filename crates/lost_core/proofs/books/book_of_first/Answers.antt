@@ -1,5 +1,5 @@
 use Rattle.std.proofs.lemmas.List.{take-map}
-use Rattle.lost_message.specs.Edit.{edit_of}
+use Rattle.lost_mapping.specs.Edit.{edit_of}
 use Rattle.lost_core.proofs.books.book_of_first.Goals as goal
 
 pub returns : goal.returns

@@ -1,6 +1,6 @@
 use Rattle.std.proofs.Common.{◌∙◌, refl, ap, sym}
 use Rattle.lost_spec.specs.Answer.{boundary_reply}
-use Rattle.lost_message.specs.Path.{shown_path}
+use Rattle.lost_mapping.specs.Path.{shown_path}
 use Rattle.lost_query.proofs.BoundaryLemmas.{by_key-none, by_key-some, boundary_reply-some}
 use Rattle.lost_query.proofs.boundaries.get_boundary.Goals as goal
 

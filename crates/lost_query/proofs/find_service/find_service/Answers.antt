@@ -1,5 +1,5 @@
 use Rattle.std.proofs.Common.{◌≡◌, ◌∙◌, ap, sym, subst, IfOk}
-use Rattle.lost_message.specs.Reply.{reply_of}
+use Rattle.lost_mapping.specs.Reply.{reply_of}
 use Rattle.lost_spec.specs.Find.{FoundDefaults}
 use Rattle.lost_query.specs.Finding.{finding_of, mappings_of}
 use Rattle.lost_query.specs.Ask.{asked_reply}

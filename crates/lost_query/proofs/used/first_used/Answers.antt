@@ -5,7 +5,7 @@ use Rattle.std.proofs.lemmas.Iterator.{YieldsList-from_slice}
 use Rattle.std.proofs.lemmas.Iterator.Search.{find_from_yields_List}
 use Rattle.lost_spec.specs.Request as spec
 use Rattle.lost_spec.specs.Place.{kind_of}
-use Rattle.lost_message.specs.Request.{location_of}
+use Rattle.lost_mapping.specs.Request.{location_of}
 use Rattle.lost_query.proofs.FindLemmas.{find-map}
 use Rattle.lost_query.proofs.used.first_used.Goals as goal
 

@@ -1,6 +1,6 @@
 use Rattle.std.proofs.Common.{◌≡◌, length, map}
 use Rattle.lost_spec.specs.Book.{after_all}
-use Rattle.lost_message.specs.Edit.{edit_of}
+use Rattle.lost_mapping.specs.Edit.{edit_of}
 use Rattle.lost_replay.proofs.pair.apply_all.Given as goal
 
 abbrev pub invariant-loop-book : goal.invariant-loop-book

@@ -2,7 +2,7 @@ use Rattle.std.proofs.Common.{◌≡◌, List, ◌∷◌, Option, None, Some, tr
 use Rattle.std.specs.Prelude.{if◌then◌else◌}
 use Rattle.serde_json.specs.Data.{Data, Items, item}
 use Rattle.serde_json.specs.Find.{as_array}
-use Rattle.lost_message.specs.Request.{location_of}
+use Rattle.lost_mapping.specs.Request.{location_of}
 use Rattle.lost_reading.specs.Members.{each_of, list_in}
 use Rattle.lost_reading.specs.Requests.{location_in, are_locations, if_locations}
 use Rattle.lost_tape.specs.Tapes.{data_of}

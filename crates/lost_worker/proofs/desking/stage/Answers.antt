@@ -1,6 +1,6 @@
 use Rattle.std.proofs.Common.{Err, refl, ap, ◌∙◌}
 use Rattle.lost_writing.specs.declared.desk_reply.DeskReply.TheVariants.{Refused}
-use Rattle.lost_message.specs.Edit.{edit_of}
+use Rattle.lost_mapping.specs.Edit.{edit_of}
 use Rattle.lost_worker.specs.Desking.{said}
 use Rattle.lost_worker.proofs.StageLemmas.{staged_step, refused_step}
 use Rattle.lost_worker.proofs.desking.stage.Goals as goal

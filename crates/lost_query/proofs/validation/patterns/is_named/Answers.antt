@@ -5,7 +5,7 @@ use Rattle.std.proofs.lemmas.Iterator.Search.{any_from_yields_List}
 use Rattle.lost_spec.specs.Civic.{Pairs}
 use Rattle.lost_spec.specs.Validation.{names_it}
 use Rattle.lost_civic.specs.Element.{element_name}
-use Rattle.lost_message.proofs.FoldLemmas.{list_any-map}
+use Rattle.lost_mapping.proofs.FoldLemmas.{list_any-map}
 use Rattle.lost_query.proofs.validation.patterns.is_named.Goals as goal
 
 pub returns : goal.returns

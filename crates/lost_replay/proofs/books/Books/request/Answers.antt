@@ -1,5 +1,5 @@
 use Rattle.std.proofs.Common.{refl}
-use Rattle.lost_message.specs.Request.{request_of}
+use Rattle.lost_mapping.specs.Request.{request_of}
 use Rattle.lost_replay.proofs.ReplyLemmas.{answered_differs}
 use Rattle.lost_replay.proofs.books.Books.request.Goals as goal
 

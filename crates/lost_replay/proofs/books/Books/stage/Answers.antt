@@ -1,4 +1,4 @@
-use Rattle.lost_message.specs.Edit.{edit_of}
+use Rattle.lost_mapping.specs.Edit.{edit_of}
 use Rattle.lost_lines.specs.Answer.{reply_of}
 use Rattle.lost_replay.proofs.BooksLemmas.{staged_step}
 use Rattle.lost_replay.proofs.books.Books.stage.Goals as goal

@@ -1,6 +1,6 @@
 use Rattle.std.proofs.Common.{◌∷◌, ◌∙◌, map, ap}
 use Rattle.lost_spec.specs.Mapping.{Mapping}
-use Rattle.lost_message.specs.Reply.{shown_with}
+use Rattle.lost_mapping.specs.Reply.{shown_with}
 use Rattle.lost_writing.specs.Replies.{shown_data}
 use Rattle.lost_writing.specs.Tokens.{then_value}
 use Rattle.lost_writing.proofs.ListLemmas.{list_data-map}

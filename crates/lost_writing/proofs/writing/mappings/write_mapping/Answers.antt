@@ -1,4 +1,4 @@
-use Rattle.lost_message.specs.Reply.{shown_with}
+use Rattle.lost_mapping.specs.Reply.{shown_with}
 use Rattle.lost_writing.proofs.ShapeLemmas.{mapping_written}
 use Rattle.lost_writing.proofs.TokenLemmas.{when_ok}
 use Rattle.lost_writing.proofs.writing.mappings.write_mapping.Goals as goal

@@ -1,7 +1,7 @@
 use Rattle.std.proofs.Common.{◌∙◌, sym, ap}
 use Rattle.serde_json.specs.Data.{Data}
 use Rattle.lost_spec.specs.Mapping.{Mapping}
-use Rattle.lost_message.specs.Reply.{shown_with}
+use Rattle.lost_mapping.specs.Reply.{shown_with}
 use Rattle.lost_writing.specs.Replies.{shown_data}
 use Rattle.lost_writing.specs.Tokens.{then_value}
 use Rattle.lost_writing.proofs.TokenLemmas.{values_more}

@@ -1,5 +1,5 @@
 use Rattle.std.proofs.Common.{◌≡◌, map, take}
-use Rattle.lost_message.specs.Reply.{shown_with}
+use Rattle.lost_mapping.specs.Reply.{shown_with}
 use Rattle.lost_writing.specs.Replies.{shown_data}
 use Rattle.lost_writing.specs.Tokens.{then_values}
 use Rattle.lost_writing.proofs.writing.mappings.write_mappings.Given as goal

@@ -1,6 +1,6 @@
 use Rattle.std.proofs.Common.{codes}
 use Rattle.serde_json.specs.Data.{number, unsigned}
-use Rattle.lost_message.specs.Path.{shown_path}
+use Rattle.lost_mapping.specs.Path.{shown_path}
 use Rattle.lost_writing.specs.Replies.{regions_data, texts_data}
 use Rattle.lost_writing.proofs.ShapeLemmas.{inner_three}
 use Rattle.lost_writing.proofs.TokenLemmas.{when_ok}

@@ -1,6 +1,6 @@
 use Rattle.std.proofs.Common.{option_map}
-use Rattle.lost_message.specs.Path.{shown_path}
-use Rattle.lost_message.specs.Reply.{all_shown_of, validation_of}
+use Rattle.lost_mapping.specs.Path.{shown_path}
+use Rattle.lost_mapping.specs.Reply.{all_shown_of, validation_of}
 use Rattle.lost_writing.specs.Replies.{list_data, shown_data, texts_data, validation_data, warnings_data}
 use Rattle.lost_writing.proofs.ShapeLemmas.{found_written}
 use Rattle.lost_writing.proofs.TokenLemmas.{when_ok}

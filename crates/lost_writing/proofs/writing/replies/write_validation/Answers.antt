@@ -1,5 +1,5 @@
 use Rattle.std.proofs.Common.{codes}
-use Rattle.lost_message.specs.Reply.{validation_of}
+use Rattle.lost_mapping.specs.Reply.{validation_of}
 use Rattle.lost_writing.specs.Replies.{texts_data}
 use Rattle.lost_writing.proofs.ShapeLemmas.{three_written}
 use Rattle.lost_writing.proofs.TokenLemmas.{when_ok}

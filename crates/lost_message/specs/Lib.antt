@@ -1,4 +1,0 @@
-pub mod Edit
-pub mod Path
-pub mod Reply
-pub mod Request
