@@ -1,14 +1,11 @@
 -- How deep a value nests, by a walk over its tokens.
-use Rattle.std.proofs.Common.{◌≡◌, ℕ, ◌+◌, ◌-◌, ◌≤◌, List, [], ◌∷◌, ◌++◌, append_assoc, append-nil, length, map, true, nat_le, refl, sym, ap, ◌∙◌, subst, arith}
-use Rattle.std.proofs.lemmas.List.{length-map}
+use Rattle.std.proofs.Common.{◌≡◌, ℕ, ◌+◌, ◌-◌, ◌≤◌, List, [], ◌∷◌, ◌++◌, append_assoc, append-nil, true, nat_le, sym, ap, ◌∙◌, subst, arith}
 use Rattle.std.proofs.lemmas.Bool.{and_parts}
-use Rattle.json.specs.declared.tape.Node.{Node}
-use Rattle.json.specs.Tape.{node_token}
 use Rattle.json.specs.Token.{Token}
 use Rattle.json.specs.Json as json
 use Rattle.json.specs.Json.{Json}
 use Rattle.json.specs.Tree.{json_tokens, items_tokens, members_tokens, depth, items_depth, members_depth}
-use Rattle.lost_tape.specs.Tapes.{level_after, nests_within}
+use Rattle.lost_tape.specs.Tapes.{nests_within}
 
 at_most : (level : ℕ) → nat_le level 127 ≡ true → level ≤ 127
 at_most level h = grind arith
@@ -26,33 +23,6 @@ closed level rest h =
     let back : level + 1 - 1 ≡ level = omega arith in
     let p = and_parts (nat_le (level + 1 - 1) 127) (nests_within (level + 1 - 1) rest) h in
     subst (λ l. nests_within l rest ≡ true) back p.1
-
--- no token leads more than one level deeper, so few tokens lead to no level above 127
-step_at_most : (level : ℕ) (t : Token) → level_after level t ≤ level + 1
-step_at_most level Token.begin_object = omega arith
-step_at_most level Token.end_object = omega arith
-step_at_most level Token.begin_array = omega arith
-step_at_most level Token.end_array = omega arith
-step_at_most level (Token.key s) = omega arith
-step_at_most level (Token.string s) = omega arith
-step_at_most level (Token.number s) = omega arith
-step_at_most level (Token.boolean b) = omega arith
-step_at_most level Token.null = omega arith
-step_at_most level Token.bad = omega arith
-
-few_from : (ts : List Token) (level : ℕ) → level + length ts ≤ 127 → nests_within level ts ≡ true
-few_from [] level few = refl
-few_from (t ∷ ts) level few =
-    let next = step_at_most level t in
-    let within : level_after level t ≤ 127 = omega (arith, next, few) in
-    let rest : level_after level t + length ts ≤ 127 = omega (arith, next, few) in
-    let first : nat_le (level_after level t) 127 ≡ true = search (arith, within) in
-    rw (first, few_from ts (level_after level t) rest) refl
-
-pub few_nest_within : (nodes : List Node) → length nodes ≤ 127 → nests_within 0 (map node_token nodes) ≡ true
-few_nest_within nodes few =
-    let same = length-map nodes node_token in
-    few_from (map node_token nodes) 0 (omega (arith, same, few))
 
 -- where the tokens of a value and what follows lead to no level above 127, the value nests no deeper from there
 mutual

@@ -1,21 +1,17 @@
 //! A line as one list of tokens.
-ghost use Rattle.std.specs.Prelude.{◌≡◌, ℕ, List, true, Some, None, Ok, IfSome, OnSome, option_and_then, map};
-ghost use Rattle.std.specs.Bool.{OnTrue};
-ghost use Rattle.std.specs.List.{list_all};
-ghost use Rattle.json.specs.Tape.{node_token};
+ghost use Rattle.std.specs.Prelude.{◌≡◌, ℕ, List, Some, None, Ok, IfSome, OnSome, option_and_then};
 ghost use Rattle.serde_json.specs.Read.{read};
 ghost use Rattle.lost_mapping.specs.Request.{request_of};
 ghost use Rattle.lost_reading.specs.Desk.{order_in, desk_line};
 ghost use Rattle.lost_reading.specs.Lines.{GivesWhole};
 ghost use Rattle.lost_reading.specs.Requests.{request_in, line_request};
-ghost use Rattle.lost_tape.specs.Tapes.{data_of, is_sure, IsTapeOf};
+ghost use Rattle.lost_tape.specs.Tapes.{data_of, IsTapeOf};
 
 use crate::compact::read_compact;
-use crate::nesting::nests_within;
-use crate::numbers::whole_number;
+use crate::nesting::are_sure;
 use crate::requests::read_root;
 use crate::tree::Tree;
-use json::{Node, Scratch, Tape};
+use json::{Scratch, Tape};
 use lost_mapping::Request;
 use lost_reading::Line;
 use std::alloc::Global;
@@ -94,31 +90,10 @@ fn root_of<'t, 'a>(tape: &'t Tape<'a>) -> Option<Tree<'t, 'a>>
     ensures { (text : List ℕ) → IsTapeOf text tape.now → IfSome result (λ root. read text ≡ Some (data_of root)) }
 {
     let nodes = tape.nodes();
-    if !nests_within(nodes) || !are_sure(nodes) {
+    if !are_sure(nodes) {
         return None;
     }
     Some(Tree {
         element: tape.root(),
     })
-}
-
-/// Whether each number is whole and fits in 64 bits.
-fn are_sure(nodes: &[Node<'_>]) -> bool
-    ensures { OnTrue result (list_all is_sure (map node_token nodes.now) ≡ true) }
-{
-    for node in nodes {
-        if !is_sure(node) {
-            return false;
-        }
-    }
-    true
-}
-
-fn is_sure(node: &Node<'_>) -> bool
-    ensures { OnTrue result (is_sure (node_token node.now) ≡ true) }
-{
-    match node {
-        Node::Number(text) => whole_number(text).is_some(),
-        _ => true,
-    }
 }
