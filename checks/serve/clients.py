@@ -240,19 +240,22 @@ def be_clients(numbers, run, line):
     os._exit(0)
 
 
-def replies_kept(folder):
-    """What clients kept, chapter by chapter: for each the replies to each request, of all clients together."""
+def replies_kept(folder, share=0, shares=1):
+    """What clients kept, one chapter of so many: for each the replies to each request, of all clients together."""
     files = [open(path, "rb") for path in sorted(glob.glob(f"{folder}/replies-*"))]
     heads = [next_kept(file) for file in files]
     while any(heads):
         chapter = min(head[0] for head in heads if head)
+        is_of_share = chapter % shares == share
         together = None
         for number, head in enumerate(heads):
             if head and head[0] == chapter:
-                kept = [set(editions) for editions in head[1]]
-                together = kept if together is None else [one | other for one, other in zip(together, kept)]
+                if is_of_share:
+                    kept = [set(editions) for editions in head[1]]
+                    together = kept if together is None else [one | other for one, other in zip(together, kept)]
                 heads[number] = next_kept(files[number])
-        yield chapter, together
+        if is_of_share:
+            yield chapter, together
 
 
 def next_kept(file):

@@ -1,5 +1,6 @@
 """A live history: a desk edits while clients ask, and afterwards the oracle judges every reply."""
 import multiprocessing
+import os
 import tempfile
 import time
 
@@ -8,7 +9,7 @@ from clients import CHAPTER_SECONDS, LIVES, Run, be_clients, replies_kept
 from drawing import history
 from mappings import holds
 from server import Server
-from verdicts import Books, Question
+from verdicts import Books, Differences, Question
 
 WORKERS = 4
 REQUESTS = 150
@@ -77,17 +78,36 @@ def counted_by(started):
 
 
 def judge(books, chapters, folder):
-    """Judges what the clients kept; how many different replies there were."""
-    count, editions = 0, set()
-    for number, replies in replies_kept(folder):
-        for line, told in zip(chapters[number].requests, replies):
-            question = Question(line, books.oracle)
+    """Judges what the clients kept, on all processors; how many different replies there were."""
+    shares, judges, count = os.cpu_count() or 1, [], 0
+    for share in range(shares):
+        line, other = FORK.Pipe(duplex=False)
+        process = FORK.Process(target=be_judge, args=(books, chapters, folder, share, shares, other), daemon=True)
+        process.start()
+        other.close()
+        judges.append((process, line))
+    for process, line in judges:
+        judged, differences = line.recv()
+        count += judged
+        books.differences.include(differences)
+        process.join()
+    return count
+
+
+def be_judge(books, chapters, folder, share, shares, line):
+    """What the process of a judge does: it judges one chapter of so many, and tells what it counted."""
+    books.differences = Differences()
+    count = 0
+    for number, replies in replies_kept(folder, share, shares):
+        for request, told in zip(chapters[number].requests, replies):
+            question = Question(request, books.oracle)
             search.holds = Remembering()
             for reply in told:
                 count += 1
                 books.differences.compare_reply(question, reply, books)
-            search.holds = holds
-    return count
+    line.send((count, books.differences))
+    line.close()
+    os._exit(0)
 
 
 def run_live(program, seconds, clients, seed):
