@@ -15,21 +15,65 @@ const CLIENTS: u32 = 200;
 /// The request that asks whether a server is up.
 const HEALTH: &[u8] = b"GET /health HTTP/1.1\r\nHost: lost.example\r\n\r\n";
 
-/// The result of the guests, after the server was told to end.
-pub(crate) fn then_end<R: Net<Listener = TcpListener, Stream = TcpStream> + Clock, T: Drop>(
-    rt: &R,
-    alloc: Global,
-    ports: &Ports,
-    given: io::Result<T>,
-) -> io::Result<T> {
-    ports.is_over.store(true, Ordering::SeqCst);
-    // The server sees that when the next connection comes.
-    drop(Line::to(rt, alloc, ports.queries(rt)?)?);
-    given
+/// Who comes to a server.
+#[derive(Clone, Copy)]
+pub(crate) enum Guests {
+    /// A client that asks once.
+    Client,
+    /// Many clients, one after another.
+    Clients,
+    /// Three desks one after another, and then a client.
+    Desks,
+    /// Two that ask whether the server is up: before it reads its map, and once it is ready.
+    Probes,
+}
+
+impl Guests {
+    /// Visits a server, and tells it to end: what they were told, a line each.
+    pub(crate) fn visit<R: Net<Listener = TcpListener, Stream = TcpStream> + Clock>(
+        self,
+        rt: &R,
+        alloc: Global,
+        ports: &Ports,
+    ) -> io::Result<Vec<String>> {
+        let told = self.told(rt, alloc, ports);
+        ports.is_over.store(true, Ordering::SeqCst);
+        // The server sees that when the next connection comes.
+        drop(Line::to(rt, alloc, ports.queries(rt)?)?);
+        told
+    }
+
+    /// What they are told, a line each.
+    fn told<R: Net<Listener = TcpListener, Stream = TcpStream> + Clock>(
+        self,
+        rt: &R,
+        alloc: Global,
+        ports: &Ports,
+    ) -> io::Result<Vec<String>> {
+        match self {
+            Guests::Client => one_line(alloc, one_client(rt, alloc, ports)?),
+            Guests::Clients => {
+                let count = many_clients(rt, alloc, ports)?;
+                one_line(
+                    alloc,
+                    format!(in alloc; "clients that were told of the mapping {count}")?,
+                )
+            }
+            Guests::Desks => three_desks(rt, alloc, ports),
+            Guests::Probes => two_probes(rt, alloc, ports),
+        }
+    }
+}
+
+/// A list of one line.
+fn one_line(alloc: Global, line: String) -> io::Result<Vec<String>> {
+    let mut lines = Vec::new(alloc);
+    lines.push(line)?;
+    Ok(lines)
 }
 
 /// The reply to a client that asks once.
-pub(crate) fn one_client<R: Net<Listener = TcpListener, Stream = TcpStream> + Clock>(
+fn one_client<R: Net<Listener = TcpListener, Stream = TcpStream> + Clock>(
     rt: &R,
     alloc: Global,
     ports: &Ports,
@@ -39,7 +83,7 @@ pub(crate) fn one_client<R: Net<Listener = TcpListener, Stream = TcpStream> + Cl
 }
 
 /// How many of many clients, one after another, found the mapping.
-pub(crate) fn many_clients<R: Net<Listener = TcpListener, Stream = TcpStream> + Clock>(
+fn many_clients<R: Net<Listener = TcpListener, Stream = TcpStream> + Clock>(
     rt: &R,
     alloc: Global,
     ports: &Ports,
@@ -55,7 +99,7 @@ pub(crate) fn many_clients<R: Net<Listener = TcpListener, Stream = TcpStream> + 
 
 /// The replies to three desks and then to a client. The first desk publishes and commits, the second withdraws and
 /// leaves without a commit, and the third withdraws and commits.
-pub(crate) fn three_desks<R: Net<Listener = TcpListener, Stream = TcpStream> + Clock>(
+fn three_desks<R: Net<Listener = TcpListener, Stream = TcpStream> + Clock>(
     rt: &R,
     alloc: Global,
     ports: &Ports,
@@ -86,16 +130,18 @@ fn one_desk<R: Net<Listener = TcpListener, Stream = TcpStream> + Clock>(
 }
 
 /// The first lines of a server's health answers, before it reads its map and once it is ready.
-pub(crate) fn two_probes<R: Net<Listener = TcpListener, Stream = TcpStream> + Clock>(
+fn two_probes<R: Net<Listener = TcpListener, Stream = TcpStream> + Clock>(
     rt: &R,
     alloc: Global,
     ports: &Ports,
-) -> io::Result<(String, String)> {
+) -> io::Result<Vec<String>> {
     let before = health(rt, alloc, ports);
     ports.was_asked.store(true, Ordering::SeqCst);
     ports.queries(rt)?;
     let after = health(rt, alloc, ports)?;
-    Ok((before?, after))
+    let mut lines = one_line(alloc, before?)?;
+    lines.push(after)?;
+    Ok(lines)
 }
 
 /// The first line of a server's health answer.

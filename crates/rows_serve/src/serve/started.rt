@@ -1,5 +1,5 @@
 //! Servers that start as ordered.
-use super::guests::{many_clients, one_client, then_end, three_desks, two_probes};
+use super::guests::Guests;
 use super::ports::{Ports, Teller};
 use lost_mapping::Source;
 use lost_server::{
@@ -99,93 +99,46 @@ impl<
 
     /// A client of a server that has a map and no desk.
     pub(crate) fn map_alone(&self) -> io::Result<()> {
-        let (rt, order, ports) = (self.rt, self.order(Some(MAP)), Ports::new());
-        let (order, ports) = (&order, &ports);
-        let (served, reply) = thread::scope(
-            thread::scope_env(),
-            rt,
-            |scope| -> io::Result<(Result<Counts, ServerFault>, io::Result<String>)> {
-                let Ok(guests) = scope.spawn(move || {
-                    then_end(rt, rt.alloc(), ports, one_client(rt, rt.alloc(), ports))
-                }) else {
-                    return Err(AllocError.into());
-                };
-                let served = serve_told(rt, order, ports);
-                Ok((served, guests.join(rt)))
-            },
-        )?;
-        println!(rt; "{}", reply?)?;
-        self.tell(served)
+        self.play(&self.order(Some(MAP)), Guests::Client)
     }
 
     /// Three desks one after another, of which the second leaves without a commit.
     pub(crate) fn desks(&self) -> io::Result<()> {
-        let (rt, ports) = (self.rt, Ports::new());
         let mut order = self.order(None);
         order.desk = Some(ANY_PORT);
-        let (order, ports) = (&order, &ports);
-        let (served, replies) = thread::scope(
-            thread::scope_env(),
-            rt,
-            |scope| -> io::Result<(Result<Counts, ServerFault>, io::Result<Vec<String>>)> {
-                let Ok(guests) = scope.spawn(move || {
-                    then_end(rt, rt.alloc(), ports, three_desks(rt, rt.alloc(), ports))
-                }) else {
-                    return Err(AllocError.into());
-                };
-                let served = serve_told(rt, order, ports);
-                Ok((served, guests.join(rt)))
-            },
-        )?;
-        for reply in replies?.iter() {
-            println!(rt; "{reply}")?;
-        }
-        self.tell(served)
+        self.play(&order, Guests::Desks)
     }
 
     /// Two hundred clients, one after another.
     pub(crate) fn clients(&self) -> io::Result<()> {
-        let (rt, order, ports) = (self.rt, self.order(Some(MAP)), Ports::new());
-        let (order, ports) = (&order, &ports);
-        let (served, count) = thread::scope(
-            thread::scope_env(),
-            rt,
-            |scope| -> io::Result<(Result<Counts, ServerFault>, io::Result<u32>)> {
-                let Ok(guests) = scope.spawn(move || {
-                    then_end(rt, rt.alloc(), ports, many_clients(rt, rt.alloc(), ports))
-                }) else {
-                    return Err(AllocError.into());
-                };
-                let served = serve_told(rt, order, ports);
-                Ok((served, guests.join(rt)))
-            },
-        )?;
-        println!(rt; "clients that were told of the mapping {}", count?)?;
-        self.tell(served)
+        self.play(&self.order(Some(MAP)), Guests::Clients)
     }
 
     /// The health answers of a server, before it reads its map and once it is ready.
     pub(crate) fn health(&self) -> io::Result<()> {
-        let (rt, ports) = (self.rt, Ports::new());
         let mut order = self.order(Some(MAP));
         order.status = Some(ANY_PORT);
-        let (order, ports) = (&order, &ports);
-        let (served, lines) = thread::scope(
+        self.play(&order, Guests::Probes)
+    }
+
+    /// Runs a server while guests come, and prints what these were told, and then the counts.
+    fn play(&self, order: &ServerOrder<'_>, guests: Guests) -> io::Result<()> {
+        let (rt, ports) = (self.rt, Ports::new());
+        let ports = &ports;
+        let (served, told) = thread::scope(
             thread::scope_env(),
             rt,
-            |scope| -> io::Result<(Result<Counts, ServerFault>, io::Result<(String, String)>)> {
-                let Ok(guests) = scope.spawn(move || {
-                    then_end(rt, rt.alloc(), ports, two_probes(rt, rt.alloc(), ports))
-                }) else {
+            |scope| -> io::Result<(Result<Counts, ServerFault>, io::Result<Vec<String>>)> {
+                let Ok(guests) = scope.spawn(move || guests.visit(rt, rt.alloc(), ports)) else {
                     return Err(AllocError.into());
                 };
                 let served = serve_told(rt, order, ports);
                 Ok((served, guests.join(rt)))
             },
         )?;
-        let (before, after) = lines?;
-        println!(rt; "{}", before.as_str().trim_end())?;
-        println!(rt; "{}", after.as_str().trim_end())?;
+        for line in told?.iter() {
+            println!(rt; "{}", line.as_str().trim_end())?;
+        }
         self.tell(served)
     }
 
