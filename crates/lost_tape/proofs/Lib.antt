@@ -8,3 +8,5 @@ pub mod CompactLemmas
 pub mod CompactParts
 pub mod ServiceBytes
 pub mod NumberLemmas
+pub mod PrintLemmas
+pub mod ValueLemmas

@@ -1,7 +1,7 @@
 -- Whole numbers in decimal, and the numbers that they are read as.
 use Rattle.std.proofs.Common.{◌≡◌, ◌≢◌, ℕ, ℤ, pos, negsuc, ◌<◌, ◌≤◌, ◌^◌, List, [], ◌++◌, Some, length, take, drop, get_or, decimal, option_and_then, sym, ap, subst, refl, ◌∙◌, arith, take-append-drop, append-nil, lt-ltb}
-use Rattle.std.specs.Str.Parse.{AllDigits, IsNumeral, digits_value, without_leading_plus}
-use Rattle.std.proofs.lemmas.Str.Parse.{numerals_by_value, tells_digits, without_leading_plus_none}
+use Rattle.std.specs.Str.Parse.{AllDigits, digits_value}
+use Rattle.std.proofs.lemmas.Str.Parse.{numerals_by_value, tells_digits}
 use Rattle.std.proofs.lemmas.Fmt.{decimal-digits_value}
 use Rattle.std.proofs.lemmas.List.{get_or-take, length-take-le}
 use Rattle.std.specs.Fmt.{signed_decimal}
@@ -24,14 +24,6 @@ number_front text n value within digits is small some lead =
     let same = decimal-digits_value (numerals_by_value _ tells_digits) (take n text) digits (omega (arith, long)) (λ e. long ∙ lead (sym first ∙ e)) (omega (arith, is)) in
     sym (take-append-drop n text) ∙ ap (λ t. t ++ drop n text) (sym (ap decimal is ∙ same))
 
--- so is a text of digits with no sign before them
-pub plain_decimal : (text : List ℕ) (value : ℕ) → IsNumeral 10 (without_leading_plus text) → value ≡ digits_value 10 (without_leading_plus text) → value < 2 ^ 64
-    → 0 < length text → get_or text 0 0 ≢ 43 → (get_or text 0 0 ≡ 48 → length text ≡ 1) → text ≡ decimal value
-plain_decimal text value numeral is small some plus lead =
-    let plain = without_leading_plus_none text plus in
-    let numbers : AllDigits 10 text × (value ≡ digits_value 10 text) = subst (λ t. AllDigits 10 t × (value ≡ digits_value 10 t)) plain (numeral.1, is) in
-    sym (ap decimal numbers.1 ∙ decimal-digits_value (numerals_by_value _ tells_digits) text numbers.0 some lead (omega (arith, numbers.1, small)))
-
 -- a number's text, and the number that it is read as
 pub record Spells (text : Text) (value : ℤ) : Type 0 where
   pub held : Num
@@ -42,10 +34,3 @@ pub record Spells (text : Text) (value : ℤ) : Type 0 where
 pub spells : (z : ℤ) → mag z < 2 ^ 63 → Spells (signed_decimal z) z
 spells (pos n) h = record { held = unsigned n; is_number = IsNumber-signed_decimal (pos n) h; reads = number_of-decimal n (omega arith); whole = rw (lt-ltb n _ h) }
 spells (negsuc n) h = record { held = negative (negsuc n); is_number = IsNumber-signed_decimal (negsuc n) h; reads = number_of-negative n (omega arith); whole = refl }
-
--- a text that is a whole number, with nothing behind it
-pub whole_of : (text : Text) (z : ℤ) → IsNumberBefore text z [] → option_and_then as_i64 (number_of text) ≡ Some z
-whole_of text z before =
-    let p = spells z before.small in
-    let is : text ≡ signed_decimal z = before.begins ∙ append-nil (signed_decimal z) in
-    ap (λ t. option_and_then as_i64 (number_of t)) is ∙ ap (option_and_then as_i64) p.reads ∙ p.whole

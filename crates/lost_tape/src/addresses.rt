@@ -54,7 +54,11 @@ fn by_name<'a>(alloc: Global, members: Named<'_, 'a>) -> Option<BTreeMap<&'a str
 }
 
 /// Puts a text under its name. It replaces one that stands there.
-fn put<'a>(named: &mut BTreeMap<&'a str, &'a str>, name: &'a str, text: &'a str) -> Option<()>
+pub(crate) fn put<'a>(
+    named: &mut BTreeMap<&'a str, &'a str>,
+    name: &'a str,
+    text: &'a str,
+) -> Option<()>
     ensures { OnSome result (text_members named.new.entries ≡ put name.now (string text.now) (text_members named.old.entries)) }
 {
     match named.insert(name, text) {
@@ -64,7 +68,10 @@ fn put<'a>(named: &mut BTreeMap<&'a str, &'a str>, name: &'a str, text: &'a str)
 }
 
 /// Copies of the names and texts.
-fn copy_pairs(alloc: Global, named: &BTreeMap<&str, &str>) -> Option<Vec<(String, String)>>
+pub(crate) fn copy_pairs(
+    alloc: Global,
+    named: &BTreeMap<&str, &str>,
+) -> Option<Vec<(String, String)>>
     ensures { IfSome result (λ pairs. pairs_of (text_members named.now.entries) ≡ Some (seen_pairs pairs.items)) }
 {
     let mut pairs = Vec::new(alloc);

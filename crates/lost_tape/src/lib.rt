@@ -5,6 +5,9 @@
 
 mod addresses;
 mod compact;
+mod compact_desk;
+mod compact_part;
+mod compact_region;
 mod line;
 mod locations;
 mod mappings;

@@ -8,6 +8,7 @@ ghost use Rattle.lost_reading.specs.Requests.{request_in, line_request};
 ghost use Rattle.lost_tape.specs.Tapes.{data_of, IsTapeOf};
 
 use crate::compact::read_compact;
+use crate::compact_desk::read_compact_desk;
 use crate::nesting::are_sure;
 use crate::requests::read_root;
 use crate::tree::Tree;
@@ -48,8 +49,11 @@ pub(crate) fn read_common_line<'a>(
     if line.len() > MAX_TAPE_BYTES {
         return None;
     }
-    match read_compact(alloc, line) {
-        Some(request) => Some(Line::Request(request)),
+    if let Some(request) = read_compact(alloc, line) {
+        return Some(Line::Request(request));
+    }
+    match read_compact_desk(alloc, line) {
+        Some(order) => Some(Line::Desk(order)),
         None => read_by_tokens(alloc, line, scratch),
     }
 }

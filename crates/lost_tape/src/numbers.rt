@@ -7,85 +7,13 @@ ghost use Rattle.serde_json.specs.Find.{as_i64};
 ghost use Rattle.serde_json.specs.Read.{number_of, number_from};
 ghost use Rattle.lost_tape.specs.Numbers.{IsNumberBefore};
 
-use fast_float::{Numeral, parse_u64};
+use fast_float::Numeral;
 
 /// More than any number of a position: the digits behind such a number are not read.
 const ENOUGH: u64 = 10_000_000_000;
 
 /// The whole number of a token's text, if it fits in 64 bits. `None` says nothing about the text.
 pub(crate) fn whole_number(text: &str) -> Option<i64>
-    ensures { IfSome result (λ number. option_and_then as_i64 (number_of text.now) ≡ Some number) }
-{
-    match short_number(text) {
-        Some(number) => Some(number),
-        None => scanned_number(text),
-    }
-}
-
-/// A whole number that fits in 63 bits, of which eight digits are read at once: nearly all are such.
-fn short_number(text: &str) -> Option<i64>
-    ensures { IfSome result (λ number. option_and_then as_i64 (number_of text.now) ≡ Some number) }
-{
-    let number = plain_number(text.as_bytes())?;
-    Some(number)
-}
-
-/// The whole number that a text is.
-fn plain_number(text: &[u8]) -> Option<i64>
-    ensures { IfSome result (λ number. IsNumberBefore text.now number []) }
-{
-    match text.split_first() {
-        Some((b'-', digits)) => plain_below_zero(digits),
-        _ => plain_from_zero(text),
-    }
-}
-
-fn plain_from_zero(text: &[u8]) -> Option<i64>
-    ensures { IfSome result (λ number. IsNumberBefore text.now number []) }
-{
-    let value = plain_value(text)?;
-    Some(value as i64)
-}
-
-/// A number below zero, by what follows its sign: `-0` is no whole number.
-fn plain_below_zero(digits: &[u8]) -> Option<i64>
-    ensures { IfSome result (λ number. IsNumberBefore (45 ∷ digits.now) number []) }
-{
-    let value = plain_value(digits)?;
-    if value == 0 {
-        None
-    } else {
-        Some(-(value as i64))
-    }
-}
-
-/// The number that a text of digits is.
-fn plain_value(text: &[u8]) -> Option<u64>
-    ensures text { IfSome result (λ value. text.now ≡ decimal value) }
-    ensures small { IfSome result (λ value. value < 2 ^ 63) }
-{
-    if !begins_plainly(text) {
-        return None;
-    }
-    match parse_u64(text) {
-        Ok(value) if value < 1 << 63 => Some(value),
-        _ => None,
-    }
-}
-
-/// Whether a text begins with a digit, which is no zero before something else.
-fn begins_plainly(text: &[u8]) -> bool
-    ensures { OnTrue result ((0 < length text.now) × (slice_index text.now 0 ≢ 43) × (slice_index text.now 0 ≡ 48 → length text.now ≡ 1)) }
-{
-    match text {
-        [] => false,
-        [first] => *first >= b'0',
-        [first, ..] => *first > b'0',
-    }
-}
-
-/// A whole number of any number of digits, by its parts.
-fn scanned_number(text: &str) -> Option<i64>
     ensures { IfSome result (λ number. option_and_then as_i64 (number_of text.now) ≡ Some number) }
 {
     let bytes = text.as_bytes();

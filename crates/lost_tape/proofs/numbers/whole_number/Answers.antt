@@ -2,7 +2,7 @@ use Rattle.std.proofs.Common.{◌≡◌, ◌==◌, true, false, Some, IfSome, dr
 use Rattle.fast_float.specs.Text.{scan}
 use Rattle.serde_json.specs.Find.{as_i64}
 use Rattle.serde_json.specs.Read.{number_of, number_from}
-use Rattle.lost_tape.proofs.numbers.scanned_number.Goals as goal
+use Rattle.lost_tape.proofs.numbers.whole_number.Goals as goal
 
 pub returns-then-has_minus : goal.returns-then-has_minus
 unfolding number_of
