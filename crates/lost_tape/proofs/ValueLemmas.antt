@@ -2,6 +2,7 @@
 use Rattle.std.proofs.Common.{◌≡◌, Ok, false, ℕ, ℤ, suc, ◌<◌, ◌≤◌, ◌^◌, List, [], ◌∷◌, ◌++◌, length, Option, Some, None, option_map, option_and_then, refl, sym, ap, ◌∙◌, subst, arith, append_assoc, append-nil}
 use Rattle.std.specs.Prelude.{IfSome, map, codes}
 use Rattle.std.specs.Fmt.{signed_decimal}
+use Rattle.std.specs.Option.{option_copied}
 use Rattle.std.specs.Str.{IsUtf8}
 use lib.Signed.{mag}
 use Rattle.std.proofs.lemmas.Grind.{flat_map-append}
@@ -24,7 +25,7 @@ use Rattle.lost_reading.specs.Members.{each_of, list_in, position_in, pairs_of}
 use Rattle.lost_reading.specs.Desk.{Stage, parts_of_members, mapping_order, order_in, desk_line}
 use Rattle.lost_tape.specs.Compact.{IsPlain}
 use Rattle.lost_tape.specs.Numbers.{IsNumberBefore}
-use Rattle.lost_tape.specs.Values.{HasTree, IsValueBefore, IsPartBefore, IsListBefore, AreNamedBefore, named_texts, before_polygon, after_polygon, before_pattern, after_pattern, region_kind, with_head, with_tail, AreMembersBehind, AreMembersFirst, compact_parts, IsMappingOf, IsMappingText}
+use Rattle.lost_tape.specs.Values.{HasTree, IsValueBefore, IsPartBefore, IsListBefore, AreNamedBefore, named_texts, before_polygon, after_polygon, before_pattern, after_pattern, region_kind, with_head, with_number, with_tail, AreMembersBehind, AreMembersFirst, compact_parts, IsMappingOf, IsMappingText}
 use Rattle.lost_tape.specs.declared.compact_desk.Head.{Head}
 use Rattle.lost_tape.specs.declared.compact_desk.Tail.{Tail}
 use Rattle.lost_tape.proofs.NumberLemmas.{Spells, spells}
@@ -247,33 +248,77 @@ head_members head text t₁ r₁ t₂ r₂ t₃ r₃ t₄ rest a₁ b₁ p₁ a�
     (later_of (codes "lastUpdated") r₂ t₃ r₃ end (json.string head.last_updated.now) m₄ a₃ (b₃ ∙ text_value head.last_updated.now r₃ p₃)
     (later_of (codes "service") r₃ t₄ rest end (json.string head.service.now) members a₄ (b₄ ∙ text_value head.service.now rest p₄) behind)))
 
-pub tail_members : (tail : Tail) (text t₁ r₁ t₂ rest : Text) → text ≡ codes ",\"source\":" ++ t₁ → t₁ ≡ 34 ∷ (tail.source.now ++ (34 ∷ r₁)) → IsPlain tail.source.now
+pub number_member : (dialled text t₁ rest : Text) → text ≡ codes ",\"serviceNumber\":" ++ t₁ → t₁ ≡ 34 ∷ (dialled ++ (34 ∷ rest)) → IsPlain dialled
+    → (members : json.Members) (end : Text) → AreMembersBehind rest members end → AreMembersBehind text (with_number (Some dialled) members) end
+unfolding escape_byte
+number_member dialled text t₁ rest a b plain members end behind =
+    later_of (codes "serviceNumber") text t₁ rest end (json.string dialled) members a (b ∙ text_value dialled rest plain) behind
+
+pub tail_members : (tail : Tail) (text r₀ t₁ r₁ t₂ rest : Text)
+    → ((members : json.Members) (end : Text) → AreMembersBehind r₀ members end → AreMembersBehind text (with_number (option_copied tail.number) members) end)
+    → r₀ ≡ codes ",\"source\":" ++ t₁ → t₁ ≡ 34 ∷ (tail.source.now ++ (34 ∷ r₁)) → IsPlain tail.source.now
     → r₁ ≡ codes ",\"sourceId\":" ++ t₂ → t₂ ≡ 34 ∷ (tail.source_id.now ++ (34 ∷ rest)) → IsPlain tail.source_id.now
     → (members : json.Members) (end : Text) → AreMembersBehind rest members end → AreMembersBehind text (with_tail tail members) end
 unfolding escape_byte
-tail_members tail text t₁ r₁ t₂ rest a₁ b₁ p₁ a₂ b₂ p₂ members end behind =
-    later_of (codes "source") text t₁ r₁ end (json.string tail.source.now) (json.member (codes "sourceId") (json.string tail.source_id.now) members) a₁ (b₁ ∙ text_value tail.source.now r₁ p₁)
-    (later_of (codes "sourceId") r₁ t₂ rest end (json.string tail.source_id.now) members a₂ (b₂ ∙ text_value tail.source_id.now rest p₂) behind)
+tail_members tail text r₀ t₁ r₁ t₂ rest dialled a₁ b₁ p₁ a₂ b₂ p₂ members end behind =
+    let last = json.member (codes "sourceId") (json.string tail.source_id.now) members in
+    dialled (json.member (codes "source") (json.string tail.source.now) last) end
+    (later_of (codes "source") r₀ t₁ r₁ end (json.string tail.source.now) last a₁ (b₁ ∙ text_value tail.source.now r₁ p₁)
+    (later_of (codes "sourceId") r₁ t₂ rest end (json.string tail.source_id.now) members a₂ (b₂ ∙ text_value tail.source_id.now rest p₂) behind))
 
-abbrev mapping_tree : Head → Items → Tail → Items → Members
-mapping_tree head regions tail uris =
+abbrev number_tree : Option Text → Members → Members
+number_tree None rest = rest
+number_tree (Some dialled) rest = member (codes "serviceNumber") (string dialled) rest
+
+abbrev mapping_tree : Head → Items → Option Text → Tail → Items → Members
+mapping_tree head regions dialled tail uris =
     member (codes "expires") (string head.expires.now) (
     member (codes "key") (string head.key.now) (
     member (codes "lastUpdated") (string head.last_updated.now) (
     member (codes "service") (string head.service.now) (
-    member (codes "serviceBoundary") (array regions) (
+    member (codes "serviceBoundary") (array regions) (number_tree dialled (
     member (codes "source") (string tail.source.now) (
     member (codes "sourceId") (string tail.source_id.now) (
-    member (codes "uri") (array uris) no_members)))))))
+    member (codes "uri") (array uris) no_members))))))))
 
-mapping_reads : (head : Head) (tail : Tail) (r u : Json) (regions uris : Items) → of_json r ≡ Some (array regions) → of_json u ≡ Some (array uris)
-    → of_members (with_head head (json.member (codes "serviceBoundary") r (with_tail tail (json.member (codes "uri") u json.no_members)))) no_members ≡ Some (mapping_tree head regions tail uris)
-mapping_reads head tail r u regions uris a b = rw (a, b) refl
+abbrev source_members : Tail → json.Members → json.Members
+source_members tail rest = json.member (codes "source") (json.string tail.source.now) (json.member (codes "sourceId") (json.string tail.source_id.now) rest)
 
-mapping_parts : (head : Head) (tail : Tail) (regions uris : Items) (areas : List Region) (texts : List Text) → each_of region_kind regions ≡ Some areas → each_of as_str uris ≡ Some texts
-    → parts_of_members (mapping_tree head regions tail uris) ≡ Some (compact_parts head areas tail texts)
-mapping_parts head tail regions uris areas texts a b =
-    parts_made (mapping_tree head regions tail uris) _ _ _ _ _ texts None areas false [] (Some head.key.now) refl refl refl refl refl b refl (rw a refl) refl refl refl
+mapping_reads : (head : Head) (dialled : Option Text) (tail : Tail) (r u : Json) (regions uris : Items) → of_json r ≡ Some (array regions) → of_json u ≡ Some (array uris)
+    → of_members (with_head head (json.member (codes "serviceBoundary") r (with_number dialled (source_members tail (json.member (codes "uri") u json.no_members))))) no_members
+    ≡ Some (mapping_tree head regions dialled tail uris)
+mapping_reads head None tail r u regions uris a b = rw (a, b) refl
+mapping_reads head (Some dialled) tail r u regions uris a b = rw (a, b) refl
+
+parts_numbered : Head → List Region → Tail → List Text → Option Text → Parts
+parts_numbered head regions tail uris dialled = record {
+  source = tail.source.now;
+  source_id = tail.source_id.now;
+  last_updated = head.last_updated.now;
+  expires = head.expires.now;
+  service = head.service.now;
+  uris = uris;
+  number = dialled;
+  regions = regions;
+  is_default = false;
+  display_names = [];
+  key = Some head.key.now;
+}
+
+with_the_number : (head : Head) (areas : List Region) (tail : Tail) (texts : List Text) (dialled : Option Text) → option_copied tail.number ≡ dialled
+    → Some (parts_numbered head areas tail texts dialled) ≡ Some (compact_parts head areas tail texts)
+unfolding parts_numbered
+with_the_number head areas tail texts dialled same = ap (λ n. Some (parts_numbered head areas tail texts n)) (sym same)
+
+mapping_parts : (head : Head) (dialled : Option Text) (tail : Tail) (regions uris : Items) (areas : List Region) (texts : List Text) → each_of region_kind regions ≡ Some areas → each_of as_str uris ≡ Some texts
+    → option_copied tail.number ≡ dialled → parts_of_members (mapping_tree head regions dialled tail uris) ≡ Some (compact_parts head areas tail texts)
+unfolding parts_numbered
+mapping_parts head None tail regions uris areas texts a b same =
+    parts_made (mapping_tree head regions None tail uris) _ _ _ _ _ texts None areas false [] (Some head.key.now) refl refl refl refl refl b refl (rw a refl) refl refl refl
+    ∙ with_the_number head areas tail texts None same
+mapping_parts head (Some dialled) tail regions uris areas texts a b same =
+    parts_made (mapping_tree head regions (Some dialled) tail uris) _ _ _ _ _ texts (Some dialled) areas false [] (Some head.key.now) refl refl refl refl refl b refl (rw a refl) refl refl refl
+    ∙ with_the_number head areas tail texts (Some dialled) same
 
 pub mapping_text : (head : Head) (tail : Tail) (areas : List Region) (texts : List Text) (mapping : Mapping) (text r₁ t₁ r₂ r₃ t₃ r₄ : Text)
     → ((members : json.Members) (end : Text) → AreMembersBehind r₁ members end → AreMembersFirst text (with_head head members) end)
@@ -283,6 +328,7 @@ pub mapping_text : (head : Head) (tail : Tail) (areas : List Region) (texts : Li
     → IsMappingOf (compact_parts head areas tail texts) mapping → IsMappingText text mapping
 unfolding escape_byte print_from
 mapping_text head tail areas texts mapping text r₁ t₁ r₂ r₃ t₃ r₄ first a regions behind b uris ends is =
+    let dialled = option_copied tail.number in
     let r = regions.before.value in
     let u = uris.before.value in
     let last = json.member (codes "uri") u json.no_members in
@@ -291,14 +337,24 @@ mapping_text head tail areas texts mapping text r₁ t₁ r₂ r₃ t₃ r₄ fi
       begins = first (json.member (codes "serviceBoundary") r (with_tail tail last)) (125 ∷ [])
           (later_of (codes "serviceBoundary") r₁ t₁ r₂ (125 ∷ []) r (with_tail tail last) a regions.before.begins
           (behind last (125 ∷ []) (later_of (codes "uri") r₃ t₃ r₄ (125 ∷ []) u json.no_members b uris.before.begins ends)));
-      numbers = (tt, (tt, (tt, (tt, (regions.before.has.numbers, (tt, (tt, (uris.before.has.numbers, tt))))))));
-      shallow = omega (arith, regions.before.has.shallow, uris.before.has.shallow);
-      tree = mapping_tree head regions.items tail uris.items;
-      reads = mapping_reads head tail r u regions.items uris.items regions.before.has.reads uris.before.has.reads;
+      numbers = (tt, (tt, (tt, (tt, (regions.before.has.numbers, number_numbers dialled (source_members tail last) (tt, (tt, (uris.before.has.numbers, tt))))))));
+      shallow =
+        let behind_it = number_shallow dialled (source_members tail last) 4 (omega (arith, uris.before.has.shallow)) in
+        omega (arith, regions.before.has.shallow, behind_it);
+      tree = mapping_tree head regions.items dialled tail uris.items;
+      reads = mapping_reads head dialled tail r u regions.items uris.items regions.before.has.reads uris.before.has.reads;
       parts = compact_parts head areas tail texts;
-      means = mapping_parts head tail regions.items uris.items areas texts regions.means uris.means;
+      means = mapping_parts head dialled tail regions.items uris.items areas texts regions.means uris.means refl;
       is_mapping = is;
     }
+  where
+    number_numbers : (dialled : Option Text) (rest : json.Members) → MembersHaveNumbers rest → MembersHaveNumbers (with_number dialled rest)
+    number_numbers None rest h = h
+    number_numbers (Some n) rest h = (tt, h)
+
+    number_shallow : (dialled : Option Text) (rest : json.Members) (deep : ℕ) → members_depth rest ≤ deep → members_depth (with_number dialled rest) ≤ deep
+    number_shallow None rest deep h = h
+    number_shallow (Some n) rest deep h = omega (arith, h)
 
 -- ---- the line
 

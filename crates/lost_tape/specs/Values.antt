@@ -1,5 +1,6 @@
 -- A value at the front of a text, as compact JSON, and what it is read as. (Own.)
 use Rattle.std.specs.Prelude.{◌≡◌, ℕ, suc, ◌≤◌, ◌++◌, List, [], ◌∷◌, true, false, Option, None, Some, codes}
+use Rattle.std.specs.Option.{option_copied}
 use Rattle.json.specs.Json as json
 use Rattle.json.specs.Json.{Json}
 use Rattle.json.specs.Print.{print, print_from}
@@ -78,10 +79,16 @@ with_head head rest =
     json.member (codes "lastUpdated") (json.string head.last_updated.now) (
     json.member (codes "service") (json.string head.service.now) rest)))
 
+-- the number to dial, where there is one
+abbrev pub with_number : Option Text → json.Members → json.Members
+with_number None rest = rest
+with_number (Some number) rest = json.member (codes "serviceNumber") (json.string number) rest
+
 abbrev pub with_tail : Tail → json.Members → json.Members
 with_tail tail rest =
+    with_number (option_copied tail.number) (
     json.member (codes "source") (json.string tail.source.now) (
-    json.member (codes "sourceId") (json.string tail.source_id.now) rest)
+    json.member (codes "sourceId") (json.string tail.source_id.now) rest))
 
 -- a text is these members behind others, and the bracket that closes their object, and goes on with the rest
 abbrev pub AreMembersBehind : Text → json.Members → Text → Type 0
@@ -100,7 +107,7 @@ compact_parts head regions tail uris = record {
   expires = head.expires.now;
   service = head.service.now;
   uris = uris;
-  number = None;
+  number = option_copied tail.number;
   regions = regions;
   is_default = false;
   display_names = [];

@@ -1,6 +1,7 @@
-//! The desk lines that are sent most, read in one pass: a mapping with a key, regions, and no member that only some
-//! have, as compact JSON (RFC 5222, section 5; own format).
-ghost use Rattle.std.specs.Prelude.{◌≡◌, Some, Ok, IfSome};
+//! The desk lines that are sent most, read in one pass: a mapping with a key and regions, perhaps with a number, as
+//! compact JSON (RFC 5222, section 5; own format).
+ghost use Rattle.std.specs.Prelude.{◌≡◌, Some, Ok, IfSome, option_map, string_bytes};
+ghost use Rattle.std.specs.Option.{option_copied};
 ghost use Rattle.json.specs.Json as json;
 ghost use Rattle.lost_spec.specs.Text.{Text};
 ghost use Rattle.lost_mapping.specs.Parts.{parts_of};
@@ -8,7 +9,7 @@ ghost use Rattle.lost_mapping.specs.Texts.{texts_of};
 ghost use Rattle.lost_location.specs.Region.{regions_of};
 ghost use Rattle.lost_reading.specs.Desk.{desk_line};
 ghost use Rattle.lost_reading.specs.DeskLines.{order_of};
-ghost use Rattle.lost_tape.specs.Values.{AreMembersBehind, AreMembersFirst, with_head, with_tail, compact_parts, IsMappingOf, IsMappingText};
+ghost use Rattle.lost_tape.specs.Values.{AreMembersBehind, AreMembersFirst, with_head, with_number, with_tail, compact_parts, IsMappingOf, IsMappingText};
 
 use crate::compact::{after, utf8_of};
 use crate::compact_part::{read_front_list, read_text};
@@ -36,6 +37,7 @@ pub(crate) struct Head<'a> {
 /// The texts of a mapping between its regions and its URIs.
 #[derive(Drop)]
 pub(crate) struct Tail<'a> {
+    pub(crate) number: Option<&'a str>,
     pub(crate) source: &'a str,
     pub(crate) source_id: &'a str,
 }
@@ -94,9 +96,29 @@ fn read_tail(text: &[u8]) -> Option<(Tail<'_>, &[u8])>
     ensures { IfSome result (λ found. (members : json.Members) (end : Text)
         → AreMembersBehind found.1.now members end → AreMembersBehind text.now (with_tail found.0 members) end) }
 {
-    let (source, rest) = read_text(after(text, b",\"source\":")?)?;
+    let (number, rest) = read_number(text)?;
+    let (source, rest) = read_text(after(rest, b",\"source\":")?)?;
     let (source_id, rest) = read_text(after(rest, b",\"sourceId\":")?)?;
-    Some((Tail { source, source_id }, rest))
+    let tail = Tail {
+        number,
+        source,
+        source_id,
+    };
+    Some((tail, rest))
+}
+
+/// The number to dial, if the text begins with it, and what follows it.
+fn read_number(text: &[u8]) -> Option<(Option<&str>, &[u8])>
+    ensures { IfSome result (λ found. (members : json.Members) (end : Text)
+        → AreMembersBehind found.1.now members end → AreMembersBehind text.now (with_number (option_copied found.0) members) end) }
+{
+    match after(text, b",\"serviceNumber\":") {
+        Some(rest) => {
+            let (number, rest) = read_text(rest)?;
+            Some((Some(number), rest))
+        }
+        None => Some((None, text)),
+    }
 }
 
 /// The mapping of these texts, if no part is refused.
@@ -133,10 +155,20 @@ fn parts_with(
         expires: owned(alloc, head.expires)?,
         service: owned(alloc, head.service)?,
         uris,
-        number: None,
+        number: number_of(alloc, tail.number)?,
         regions,
         is_default: false,
         display_names: Vec::<DisplayName>::new(alloc),
         key: Some(owned(alloc, head.key)?),
     })
+}
+
+/// A copy of the number to dial, if there is one.
+fn number_of(alloc: Global, number: Option<&str>) -> Option<Option<String>>
+    ensures { IfSome result (λ copy. option_map string_bytes copy ≡ option_copied number.entry) }
+{
+    match number {
+        Some(number) => Some(Some(owned(alloc, number)?)),
+        None => Some(None),
+    }
 }
