@@ -4,6 +4,7 @@ pub mod Fields
 pub mod Identity
 pub mod Parts
 pub mod Shape
+pub mod Shown
 pub mod Source
 pub mod Stamp
 pub mod StampText

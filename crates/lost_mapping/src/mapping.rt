@@ -8,6 +8,7 @@ ghost use Rattle.lost_mapping.specs.Expires.{expires_seen};
 ghost use Rattle.lost_location.specs.Refusals.{Refuses};
 ghost use Rattle.lost_mapping.specs.Parts.{parts_of, borrowed_parts_of, display_names_of};
 ghost use Rattle.lost_mapping.specs.Shape.{IsShaped};
+ghost use Rattle.lost_mapping.specs.Shown.{reference_text};
 ghost use Rattle.lost_mapping.specs.Texts.{texts_of};
 
 use crate::checks::{check_areas, check_contact};
@@ -47,23 +48,23 @@ struct Fields {
     is_default: bool,
     display_names: Vec<DisplayName>,
     key: Option<String>,
+    reference_text: Option<Vec<u8>>,
 }
 
 impl Model for Mapping {
     ghost use Rattle.std.specs.Arc.{arc_value};
     ghost use Rattle.lost_spec.specs.Mapping as spec;
-    ghost use Rattle.lost_mapping.specs.Fields.{mapping_with};
-    ghost use Rattle.lost_mapping.specs.Shape.{IsShaped};
+    ghost use Rattle.lost_mapping.specs.Fields.{mapping_with, IsKept};
 
     ghost Value = { spec.Mapping };
 
     ghost view = { λ m. mapping_with (arc_value m.inner) };
 
-    ghost invariant = { λ m. IsShaped (mapping_with (arc_value m.inner)) };
+    ghost invariant = { λ m. IsKept (arc_value m.inner) };
 }
 
 impl Mapping {
-    ghost use Rattle.lost_mapping.specs.Fields.{mapping_with};
+    ghost use Rattle.lost_mapping.specs.Fields.{mapping_with, IsKept};
 
     /// The mapping of these parts.
     ///
@@ -100,6 +101,7 @@ impl Mapping {
                 is_default: parts.is_default,
                 display_names: parts.display_names,
                 key: parts.key,
+                reference_text: None,
             },
         )
     }
@@ -128,7 +130,7 @@ impl Mapping {
 
     /// The mapping with these fields.
     fn share(alloc: Global, fields: Fields) -> Result<Mapping, MappingError>
-        requires { IsShaped (mapping_with fields) }
+        requires { IsKept fields }
         ensures mapping { IfOk result (λ mapping. mapping ≡ mapping_with fields) }
         ensures refuses { Refuses result None }
     {
@@ -237,6 +239,25 @@ impl Mapping {
         ensures { result ≡ is_live self.now moment.now }
     {
         self.inner.expires.is_live_at(moment)
+    }
+
+    /// The text of the mapping as a reply shows it by reference, if it is kept (RFC 5222, section 8.4.1; own format).
+    pub fn reference_text(&self) -> Option<&[u8]>
+        ensures { IfSome result (λ text. text.now ≡ reference_text self.now) }
+    {
+        self.inner.reference_text.as_deref()
+    }
+
+    /// The mapping, with its text by reference kept beside it. A mapping that has another owner keeps no text.
+    pub fn with_reference_text(self, text: Vec<u8>) -> Mapping
+        requires { text.items ≡ reference_text self }
+        ensures { result ≡ self }
+    {
+        let mut mapping = self;
+        if let Some(fields) = Arc::get_mut(&mut mapping.inner) {
+            fields.reference_text = Some(text);
+        }
+        mapping
     }
 
     /// A copy. It costs a pointer.

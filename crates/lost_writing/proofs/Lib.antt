@@ -3,3 +3,5 @@ pub mod ShapeLemmas
 pub mod ListLemmas
 pub mod NamedLemmas
 pub mod RegionLemmas
+pub mod PlainLemmas
+pub mod FoundLemmas

@@ -1,4 +1,5 @@
 pub mod Replies
+pub mod FoundLine
 pub mod DeskReplies
 pub mod PlainNames
 pub mod Tokens

@@ -9,4 +9,4 @@ mod writing;
 pub use constant_lines::{BAD_REQUEST, INTERNAL_ERROR, law_constant_lines};
 pub use desk_reply::{DeskReply, is_code, refusal_name, write_desk};
 pub use lost_spec::DeskText;
-pub use writing::write_reply;
+pub use writing::{prepare, write_reply};

@@ -47,12 +47,19 @@ impl TokenText {
         self.alloc
     }
 
+    /// The text: its tokens in print.
+    pub(crate) fn into_text(self) -> Vec<u8>
+        ensures { result.items ≡ print self }
+    {
+        let TokenText { out, .. } = self;
+        out.into_inner()
+    }
+
     /// The line of the text: its tokens in print, and byte 10.
     pub(crate) fn into_line(self) -> Result<Vec<u8>, AllocError>
         ensures { IfOk result (λ line. line.items ≡ print self ++ 10 ∷ []) }
     {
-        let TokenText { out, .. } = self;
-        let mut line = out.into_inner();
+        let mut line = self.into_text();
         line.push(b'\n')?;
         Ok(line)
     }

@@ -183,7 +183,7 @@ fn shown_members(
 }
 
 /// Writes a mapping with the boundary of this kind, and none for a default (RFC 5222, section 8.4.1).
-fn write_mapping(
+pub(crate) fn write_mapping(
     text: &mut TokenText,
     mapping: &Mapping,
     boundary: Boundary,

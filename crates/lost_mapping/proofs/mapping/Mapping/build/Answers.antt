@@ -20,7 +20,10 @@ returns-in_err-regions-clause-refused c =
     rw (seen.1, seen.2) (refused_by_none (regions_fault parts.regions) (parts_fault parts) _ (no_regions_fault parts (c.in_ok-check.ensures ∙ ap parts_fault c.borrowed.ensures)) c.in_err-regions.ensures.refuses)
 
 pub share-requires : goal.share-requires
-share-requires c = shaped_where_accepted _ (parts_of c.args.parts) (c.in_ok-check.ensures ∙ ap parts_fault c.borrowed.ensures) refl refl c.in_ok-regions.ensures.regions
+share-requires c = record {
+  shaped = shaped_where_accepted _ (parts_of c.args.parts) (c.in_ok-check.ensures ∙ ap parts_fault c.borrowed.ensures) refl refl c.in_ok-regions.ensures.regions;
+  own_text = tt;
+}
 
 pub returns-clause-accepted : goal.returns-clause-accepted
 returns-clause-accepted c = on_ok_always _ (sym (c.in_ok-check.ensures ∙ ap parts_fault c.borrowed.ensures))
