@@ -339,8 +339,8 @@ mapping_text head tail areas texts mapping text r₁ t₁ r₂ r₃ t₃ r₄ fi
           (behind last (125 ∷ []) (later_of (codes "uri") r₃ t₃ r₄ (125 ∷ []) u json.no_members b uris.before.begins ends)));
       numbers = (tt, (tt, (tt, (tt, (regions.before.has.numbers, number_numbers dialled (source_members tail last) (tt, (tt, (uris.before.has.numbers, tt))))))));
       shallow =
-        let behind_it = number_shallow dialled (source_members tail last) 4 (omega (arith, uris.before.has.shallow)) in
-        omega (arith, regions.before.has.shallow, behind_it);
+          let behind_it = number_shallow dialled (source_members tail last) 4 (omega (arith, uris.before.has.shallow)) in
+          omega (arith, regions.before.has.shallow, behind_it);
       tree = mapping_tree head regions.items dialled tail uris.items;
       reads = mapping_reads head dialled tail r u regions.items uris.items regions.before.has.reads uris.before.has.reads;
       parts = compact_parts head areas tail texts;

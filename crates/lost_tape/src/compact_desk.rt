@@ -9,10 +9,11 @@ ghost use Rattle.lost_mapping.specs.Texts.{texts_of};
 ghost use Rattle.lost_location.specs.Region.{regions_of};
 ghost use Rattle.lost_reading.specs.Desk.{desk_line};
 ghost use Rattle.lost_reading.specs.DeskLines.{order_of};
-ghost use Rattle.lost_tape.specs.Values.{AreMembersBehind, AreMembersFirst, with_head, with_number, with_tail, compact_parts, IsMappingOf, IsMappingText};
+ghost use Rattle.lost_tape.specs.Values.{AreMembersBehind, AreMembersFirst, with_head, with_number, with_tail, compact_parts, IsMappingText};
 
 use crate::compact::{after, utf8_of};
 use crate::compact_part::{read_front_list, read_text};
+use crate::mappings::build;
 use crate::part::owned;
 use lost_location::Region;
 use lost_mapping::{DisplayName, Edit, Mapping, Parts};
@@ -70,7 +71,8 @@ fn read_members(alloc: Global, text: &[u8]) -> Option<Mapping>
     if rest != b"}}".as_slice() {
         return None;
     }
-    build(alloc, &head, regions, &tail, uris)
+    let parts = parts_with(alloc, &head, regions, &tail, uris)?;
+    build(alloc, parts)
 }
 
 /// The members before the regions, and what follows them.
@@ -118,23 +120,6 @@ fn read_number(text: &[u8]) -> Option<(Option<&str>, &[u8])>
             Some((Some(number), rest))
         }
         None => Some((None, text)),
-    }
-}
-
-/// The mapping of these texts, if no part is refused.
-fn build(
-    alloc: Global,
-    head: &Head<'_>,
-    regions: Vec<Region>,
-    tail: &Tail<'_>,
-    uris: Vec<String>,
-) -> Option<Mapping>
-    ensures { IfSome result (λ mapping. IsMappingOf (compact_parts head.now (regions_of regions.items) tail.now (texts_of uris.items)) mapping) }
-{
-    let parts = parts_with(alloc, head, regions, tail, uris)?;
-    match Mapping::build(alloc, parts) {
-        Ok(mapping) => Some(mapping),
-        Err(_) => None,
     }
 }
 

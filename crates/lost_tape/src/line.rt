@@ -46,9 +46,6 @@ pub(crate) fn read_common_line<'a>(
 ) -> Option<Line<'a>>
     ensures { IfSome result (λ found. GivesWhole (Ok found) (desk_line line.now) (line_request line.now)) }
 {
-    if line.len() > MAX_TAPE_BYTES {
-        return None;
-    }
     if let Some(request) = read_compact(alloc, line) {
         return Some(Line::Request(request));
     }
@@ -62,6 +59,9 @@ pub(crate) fn read_common_line<'a>(
 fn read_by_tokens<'a>(alloc: Global, line: &'a [u8], scratch: &'a mut Scratch) -> Option<Line<'a>>
     ensures { IfSome result (λ found. GivesWhole (Ok found) (desk_line line.now) (line_request line.now)) }
 {
+    if line.len() > MAX_TAPE_BYTES {
+        return None;
+    }
     match std::str::from_utf8(line) {
         Ok(text) => read_text(alloc, text, scratch),
         Err(_) => None,

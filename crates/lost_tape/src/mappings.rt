@@ -5,10 +5,12 @@ ghost use Rattle.lost_spec.specs.Mapping as spec;
 ghost use Rattle.lost_mapping.specs.Parts.{display_name_of, parts_of};
 ghost use Rattle.lost_reading.specs.Desk.{Stage, display_name_of_members, parts_of_members, mapping_order};
 ghost use Rattle.lost_tape.specs.Tapes.{data_of, members_of};
+ghost use Rattle.lost_tape.specs.Values.{IsMappingOf};
 
 use crate::part::{Part, defaulting, optional, required};
 use crate::tree::Tree;
 use lost_mapping::{DisplayName, Mapping, Parts, Region};
+use lost_writing::prepare;
 use std::alloc::Global;
 
 /// The mapping of an object, if no part is refused.
@@ -17,8 +19,25 @@ pub(crate) fn read_mapping(alloc: Global, object: &Tree<'_, '_>) -> Option<Mappi
         → mapping_order edit (parts_of_members (members_of object.now)) ≡ Ok (Stage (edit mapping))) }
 {
     let parts = read_parts(alloc, object)?;
+    build(alloc, parts)
+}
+
+/// The mapping of parts, if none is refused. It keeps the text that replies show of it.
+pub(crate) fn build(alloc: Global, parts: Parts) -> Option<Mapping>
+    ensures { IfSome result (λ mapping. IsMappingOf (parts_of parts) mapping) }
+{
     match Mapping::build(alloc, parts) {
-        Ok(mapping) => Some(mapping),
+        Ok(mapping) => prepared(alloc, mapping),
+        Err(_) => None,
+    }
+}
+
+/// The same mapping, with its text.
+fn prepared(alloc: Global, mapping: Mapping) -> Option<Mapping>
+    ensures { IfSome result (λ prepared. prepared ≡ mapping) }
+{
+    match prepare(alloc, mapping) {
+        Ok(prepared) => Some(prepared),
         Err(_) => None,
     }
 }
