@@ -1,5 +1,6 @@
 //! The profile of civic addresses.
 
+ghost use Rattle.std.specs.Prelude.{refl};
 ghost use Rattle.lost_spec.specs.Civic.{matches};
 ghost use Rattle.lost_civicdex.specs.Keys.{keys_of};
 ghost use Rattle.lost_civicdex.specs.Covers.{civic_cover, signature, may_match, IsPattern, IsAddress};
@@ -48,6 +49,8 @@ impl Profile for Civic {
 
     ghost may_hold = { may_match };
 
+    ghost kind_of = { λ _. 0 };
+
     /// Whether each element of the pattern stands in the address with an equal comparison text (RFC 5222, section
     /// 12.3; the comparison is an own rule).
     fn contains(region: &CivicPattern, location: &CivicAddress) -> bool {
@@ -82,6 +85,11 @@ impl Profile for Civic {
         outline.is_within(&location.signature())
     }
 
+    /// All keys are of one kind.
+    fn key_kind(_key: &ElementKey) -> usize {
+        0
+    }
+
     ghost cover_meets_probes = { λ region location lawful _ holds. civic_shares region location lawful holds };
 
     ghost cover_is_distinct = { λ region _. one_distinct _ };
@@ -91,4 +99,6 @@ impl Profile for Civic {
     ghost holder_is_near = { λ region location _ _ holds. match_is_near region location holds };
 
     ghost equal_outlines_agree = { equal_signatures_agree };
+
+    ghost equal_keys_are_of_one_kind = { λ _ _ _. refl };
 }

@@ -66,6 +66,8 @@ impl Profile for Named {
 
     ghost may_hold = { λ _ _. true };
 
+    ghost kind_of = { λ _. 0 };
+
     /// Whether the pattern names the element.
     fn contains(region: &CivicPattern, location: &Element) -> bool {
         names(region, *location)
@@ -89,6 +91,11 @@ impl Profile for Named {
         true
     }
 
+    /// All keys are of one kind.
+    fn key_kind(_key: &Element) -> usize {
+        0
+    }
+
     ghost cover_meets_probes = { λ region location _ _ holds. named_shares region location holds };
 
     ghost cover_is_distinct = { λ region _. named_distinct _ refl region };
@@ -98,4 +105,6 @@ impl Profile for Named {
     ghost holder_is_near = { λ _ _ _ _ _. refl };
 
     ghost equal_outlines_agree = { λ _ _ _ _. refl };
+
+    ghost equal_keys_are_of_one_kind = { λ _ _ _. refl };
 }

@@ -1,6 +1,6 @@
 //! The profile of elements that a pattern must name.
 
-ghost use Rattle.std.specs.Prelude.{◌≡◌};
+ghost use Rattle.std.specs.Prelude.{◌≡◌, refl};
 ghost use Rattle.lost_spec.specs.Civic.{has_value};
 ghost use Rattle.lost_civic.specs.Element.{element_name};
 ghost use Rattle.lost_civicdex.specs.Keys.{keys_of};
@@ -61,6 +61,8 @@ impl Profile for References {
 
     ghost may_hold = { may_name };
 
+    ghost kind_of = { λ _. 0 };
+
     /// Whether the pattern names each required element with its comparison text.
     fn contains(region: &CivicPattern, location: &RequiredElements) -> bool {
         location.keys().iter().all(|key| names_key(region, key))
@@ -93,6 +95,11 @@ impl Profile for References {
         location.signature().is_within(outline)
     }
 
+    /// All keys are of one kind.
+    fn key_kind(_key: &ElementKey) -> usize {
+        0
+    }
+
     ghost cover_meets_probes = { λ region location _ some holds. required_shares region location some holds };
 
     ghost cover_is_distinct = { λ region _. keys_distinct region };
@@ -102,4 +109,6 @@ impl Profile for References {
     ghost holder_is_near = { λ region location _ _ holds. named_is_near region location holds };
 
     ghost equal_outlines_agree = { equal_signatures_agree_on_keys };
+
+    ghost equal_keys_are_of_one_kind = { λ _ _ _. refl };
 }

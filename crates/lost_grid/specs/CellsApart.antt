@@ -1,5 +1,5 @@
 -- No cell stands twice among those of different rows and columns.
-use Rattle.std.proofs.Common.{◌≡◌, sym, ap, ◌∙◌, ℕ, Bool, false, ◌&&◌, eqb, List, [], ◌∷◌, ◌++◌, get_or, ℤ, pos, ◌+ℤ◌, All, arith}
+use Rattle.std.proofs.Common.{◌≡◌, sym, ap, ◌∙◌, ℕ, Bool, true, false, ◌&&◌, ◌%◌, eqb, List, [], ◌∷◌, ◌++◌, get_or, ℤ, pos, ◌+ℤ◌, All, arith}
 use Rattle.std.specs.List.{IsDistinct, flat_map}
 use Rattle.std.specs.Ordering.{int_eq}
 use Rattle.std.proofs.lemmas.Bool.{false_from_ne_true, false≢true, and_parts}
@@ -9,7 +9,7 @@ use Rattle.std.proofs.lemmas.List.Elements.{All-append, All-map, All-nil, All-he
 use Rattle.std.proofs.lemmas.Map.Keys.{IsDistinct-head, IsDistinct-tail, IsDistinct-cons, IsDistinct-from_apart}
 use Rattle.lost_grid.specs.declared.cell.Cell.{Cell}
 use Rattle.lost_grid.specs.Lines.{up_to}
-use Rattle.lost_grid.specs.Grid.{cells_in_row}
+use Rattle.lost_grid.specs.Grid.{cells_in_row, kind_of}
 use Rattle.lost_grid.specs.Runs.{get_or-up_to}
 
 -- a test that tells cells apart
@@ -33,6 +33,11 @@ same_cell_tells a b apart =
     let rest = and_parts (int_eq a.row b.row) (int_eq a.column b.column) first.1 in
     apart (equal_parts a.level b.level a.row b.row a.column b.column
     ((Decides-eqb a.level b.level).0 first.0) ((Decides-int_eq a.row b.row).0 rest.0) ((Decides-int_eq a.column b.column).0 rest.1)))
+
+-- equal cells are of one kind
+pub equal_cells_are_of_one_kind : (a b : Cell) → same_cell a b ≡ true → kind_of a ≡ kind_of b
+equal_cells_are_of_one_kind a b same =
+    ap (λ level. level % 8) ((Decides-eqb a.level b.level).0 (and_parts (eqb a.level b.level) (int_eq a.row b.row && int_eq a.column b.column) same).0)
 
 -- ---- lists of whole numbers that rise
 

@@ -1,5 +1,5 @@
 -- Cells of seven sizes over the plane of latitudes and longitudes: which cells a ring and a point are noted under (own).
-use Rattle.std.specs.Prelude.{ℕ, ◌*◌, Bool, List, map, length, ℤ, nat_le}
+use Rattle.std.specs.Prelude.{ℕ, ◌*◌, ◌%◌, Bool, List, map, length, ℤ, nat_le}
 use Rattle.std.specs.List.{find, flat_map, range_with_len}
 use Rattle.std.specs.Option.{unwrap_or}
 use Rattle.lost_spec.specs.Ring.{Point, normal}
@@ -41,3 +41,9 @@ cover_of ring = let bounds = bounds_of ring in cells_within (level_of bounds) bo
 -- the cells of its normal form, at each level
 abbrev pub probes_of : Point → List Cell
 probes_of point = map (λ level. cell_of level (normal point)) levels
+
+-- ---- the kind of a cell
+
+-- its level, since levels are below 8
+abbrev pub kind_of : Cell → ℕ
+kind_of cell = cell.level % 8

@@ -5,16 +5,16 @@ ghost use Rattle.lost_spec.specs.Ring.{inside};
 ghost use Rattle.lost_geo.specs.Bounds.{bounds_of, is_within_bounds, is_from_to as is_in_order};
 ghost use Rattle.lost_geo.specs.Ranges.{IsInRange};
 ghost use Rattle.lost_grid.specs.Areas.{IsArea, may_hold};
-ghost use Rattle.lost_grid.specs.Grid.{cover_of, probes_of};
+ghost use Rattle.lost_grid.specs.Grid.{cover_of, probes_of, kind_of};
 ghost use Rattle.lost_grid.specs.BoundsAlike.{equal_bounds_agree};
-ghost use Rattle.lost_grid.specs.CellsApart.{same_cell, same_cell_tells};
+ghost use Rattle.lost_grid.specs.CellsApart.{same_cell, same_cell_tells, equal_cells_are_of_one_kind};
 ghost use Rattle.lost_grid.specs.CoverLaws.{cover_meets_probes, cover_is_distinct, cover_is_bounded, holder_is_near};
 
 use crate::cell::Cell;
 use crate::cover::{MAX_CELLS, cells_of};
 use crate::probe::cells_at;
 use lost_geo::{Bounds, GeoPoint, Polygon};
-use lost_profile::Profile;
+use lost_profile::{KINDS, Profile};
 use std::alloc::{AllocError, Global};
 
 /// Points among rings (RFC 5222, section 12.2). A ring is kept under the cells that its bounds meet, at the least level
@@ -53,6 +53,8 @@ impl Profile for Geodetic2d {
 
     ghost may_hold = { may_hold };
 
+    ghost kind_of = { kind_of };
+
     /// Whether the point is inside the ring.
     fn contains(region: &Polygon, location: &GeoPoint) -> bool {
         region.inside(location)
@@ -78,6 +80,11 @@ impl Profile for Geodetic2d {
         is_within(outline, &location.normal())
     }
 
+    /// The level of the cell.
+    fn key_kind(key: &Cell) -> usize {
+        usize::from(key.level) % KINDS
+    }
+
     ghost cover_meets_probes = { cover_meets_probes };
 
     ghost cover_is_distinct = { λ region _. cover_is_distinct same_cell same_cell_tells region };
@@ -87,6 +94,8 @@ impl Profile for Geodetic2d {
     ghost holder_is_near = { holder_is_near };
 
     ghost equal_outlines_agree = { equal_bounds_agree };
+
+    ghost equal_keys_are_of_one_kind = { equal_cells_are_of_one_kind };
 }
 
 /// Whether the position is within the bounds, all four included.

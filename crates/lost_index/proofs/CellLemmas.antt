@@ -10,7 +10,7 @@ use Rattle.lost_index.specs.Notes.{notes_of, is_note, has_note, HasNote, HasNoEm
 use Rattle.lost_index.proofs.NoteLemmas.{is_itself}
 
 -- a note is found by its own number and outline
-first_noted : {O : Type 0} (same : O → O → Bool) → ((o : O) → same o o ≡ true) → (note : Note O) (notes : List (Note O))
+pub first_noted : {O : Type 0} (same : O → O → Bool) → ((o : O) → same o o ≡ true) → (note : Note O) (notes : List (Note O))
     → has_note same note.number note.outline (note ∷ notes) ≡ true
 first_noted same itself note notes = rw (is_itself same itself note) refl
 

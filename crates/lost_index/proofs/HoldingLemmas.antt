@@ -133,7 +133,7 @@ same_rising xs ys rising rising' same =
     exact_unsigned
 
 -- what passes is there
-there_if : {X : Type 0} (f : X → Bool) (o : Option X) → option_map_or f o false ≡ true → (x : X) × (o ≡ Some x) × (f x ≡ true)
+pub there_if : {X : Type 0} (f : X → Bool) (o : Option X) → option_map_or f o false ≡ true → (x : X) × (o ≡ Some x) × (f x ≡ true)
 there_if f None h = absurd (false≢true h)
 there_if f (Some x) h = (x, refl, h)
 

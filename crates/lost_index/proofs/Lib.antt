@@ -10,3 +10,4 @@ pub mod EntryLemmas
 pub mod IndexLemmas
 pub mod FilterLemmas
 pub mod HoldingLemmas
+pub mod KindLemmas

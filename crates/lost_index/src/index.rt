@@ -7,30 +7,34 @@ ghost use Rattle.lost_index.specs.Entries.{numbers, IsHeld, IsAbove, HasRegions,
 use crate::cell::Cell;
 use crate::entry::Entry;
 use crate::indexed_region::IndexedRegion;
-use crate::{entries, notes, search};
+use crate::kinds::Kinds;
+use crate::{entries, kinds, notes, search};
 use lost_profile::Profile;
 use std::alloc::{AllocError, Global};
 use std::collections::{BTreeMap, HashMap};
 use std::marker::Model;
 
 /// Numbers with their regions, to find the numbers of a location. Contracts see it as the list of (number, regions), in
-/// rising order of the numbers. Invariant: each region is noted in the cells of its cover's keys, and nothing else is.
+/// rising order of the numbers. Invariant: each region is noted in the cells of its cover's keys, and nothing else is;
+/// the kinds of these keys are marked.
 #[derive(Drop)]
 pub struct Index<P: Profile> {
     alloc: Global,
     held: BTreeMap<u64, Entry<P>>,
     cells: HashMap<P::Key, Cell<P>>,
+    kinds: Kinds,
 }
 
 impl<P: Profile> Model for Index<P> {
     ghost use Rattle.std.specs.Prelude.{ℕ, List};
+    ghost use Rattle.lost_index.specs.Kinds.{IsMarked};
     ghost use Rattle.lost_index.specs.Notes.{IsIndexed};
 
     ghost Value = { List (ℕ × List P.Region) };
 
     ghost view = { λ a. a.held.entries };
 
-    ghost invariant = { λ a. IsIndexed P.is_region P.cover_of P.outline_of P.Key.eq P.Outline.eq a.held a.cells };
+    ghost invariant = { λ a. IsIndexed (IsMarked P.is_region P.cover_of P.kind_of a.kinds) P.cover_of P.outline_of P.Key.eq P.Outline.eq a.held a.cells };
 }
 
 impl<P: Profile> Index<P> {
@@ -42,6 +46,7 @@ impl<P: Profile> Index<P> {
             alloc,
             held: BTreeMap::new(alloc),
             cells: HashMap::new(alloc),
+            kinds: Kinds::none(),
         }
     }
 
@@ -60,6 +65,7 @@ impl<P: Profile> Index<P> {
             entry.kept(),
             none(entry.kept()),
         )?;
+        kinds::mark_covers(&mut self.kinds, entry.kept());
         if let Err(entry) = entries::put(&mut self.held, number, entry) {
             notes::remove_notes(&mut self.cells, number, entry.kept(), none(entry.kept()));
             return Err(AllocError);
@@ -76,6 +82,7 @@ impl<P: Profile> Index<P> {
         let mut entry = Entry::new(self.alloc, regions)?;
         let remaining = entries::kept_of(&self.held, number);
         notes::add_notes(&mut self.cells, self.alloc, number, entry.kept(), remaining)?;
+        kinds::mark_covers(&mut self.kinds, entry.kept());
         if let Err(refused) = entries::append(&mut self.held, number, &mut entry) {
             let remaining = entries::kept_of(&self.held, number);
             notes::remove_notes(&mut self.cells, number, entry.kept(), remaining);
@@ -119,7 +126,7 @@ impl<P: Profile> Index<P> {
     {
         // Shows to the proof that the numbers rise.
         let _count = self.held.len();
-        let mut near = search::found(&self.cells, self.alloc, location)?;
+        let mut near = search::found(&self.cells, &self.kinds, self.alloc, location)?;
         near.sort_unstable();
         near.dedup();
         Ok(near)

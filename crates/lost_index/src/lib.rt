@@ -7,6 +7,7 @@ mod entries;
 mod entry;
 mod index;
 mod indexed_region;
+mod kinds;
 mod note;
 mod notes;
 mod search;

@@ -8,7 +8,7 @@ mod token_set;
 mod tokens;
 
 pub use lost_spec::faults::TokenError;
-pub use profile::Profile;
+pub use profile::{KINDS, Profile};
 pub use token::{MAX_ID_BYTES, Token, is_id};
 pub use token_set::{TokenSet, TokenTexts, is_token_set, is_token_set_of};
 pub use tokens::Tokens;

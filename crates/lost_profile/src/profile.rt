@@ -1,11 +1,14 @@
 //! The trait of a kind of location, with its laws.
-ghost use Rattle.std.specs.Prelude.{◌≡◌, ℕ, ◌≤◌, Bool, List, length, IsTrue, IfOk};
+ghost use Rattle.std.specs.Prelude.{◌≡◌, ℕ, ◌<◌, ◌≤◌, Bool, List, length, IsTrue, IfOk};
 ghost use Rattle.std.specs.List.{IsDistinct};
 ghost use Rattle.lost_profile.specs.Keys.{SharesKey};
 
 use std::alloc::{AllocError, Global};
 use std::convert::AsSlice;
 use std::hash::Hash;
+
+/// The greatest number of kinds of keys of a profile.
+pub const KINDS: usize = 8;
 
 /// A kind of location, and of the regions that contain such locations (RFC 5222, section 12). A region is kept under
 /// the keys of its cover, and a location is looked up under its probes. An outline rules out regions cheaply.
@@ -56,6 +59,9 @@ pub trait Profile {
     /// Whether a region with this outline may contain the location.
     ghost may_hold: { Self.Outline → Self.Location → Bool };
 
+    /// The kind of a key.
+    ghost kind_of: { Self.Key → ℕ };
+
     /// Whether the region contains the location. It takes no memory.
     fn contains(region: &Self::Region, location: &Self::Location) -> bool
         ensures { result ≡ holds region.now location.now };
@@ -78,6 +84,12 @@ pub trait Profile {
     fn is_near(outline: &Self::Outline, location: &Self::Location) -> bool
         ensures { result ≡ may_hold outline.now location.now };
 
+    /// The kind of the key: a number below [`KINDS`]. An index passes over keys of the kinds under which it never kept a
+    /// region. It takes no memory.
+    fn key_kind(key: &Self::Key) -> usize
+        ensures kind { result ≡ kind_of key.now }
+        ensures in_range { result < KINDS };
+
     /// COVER: where a region contains a location, some key is both in the cover and in the probes.
     ghost cover_meets_probes: { (region : Self.Region) (location : Self.Location) → is_region region → is_location location
         → IsTrue (holds region location) → SharesKey (cover_of region) (probes_of location) };
@@ -95,4 +107,7 @@ pub trait Profile {
     /// ALIKE: equal outlines say the same of each location.
     ghost equal_outlines_agree: { (outline other : Self.Outline) (location : Self.Location)
         → IsTrue (Self.Outline.eq outline other) → may_hold outline location ≡ may_hold other location };
+
+    /// KIND: equal keys are of one kind.
+    ghost equal_keys_are_of_one_kind: { (key other : Self.Key) → IsTrue (Self.Key.eq key other) → kind_of key ≡ kind_of other };
 }

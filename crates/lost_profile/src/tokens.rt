@@ -41,6 +41,8 @@ impl Profile for Tokens {
 
     ghost may_hold = { λ _ _. true };
 
+    ghost kind_of = { λ _. 0 };
+
     /// Whether the token is one of the set's, byte for byte.
     fn contains(region: &TokenSet, location: &Token) -> bool {
         region.contains(location)
@@ -62,6 +64,11 @@ impl Profile for Tokens {
         true
     }
 
+    /// All tokens are of one kind.
+    fn key_kind(_key: &Token) -> usize {
+        0
+    }
+
     ghost cover_meets_probes = { λ region location _ _ holds. token_shares region location holds };
 
     ghost cover_is_distinct = { token_distinct };
@@ -71,4 +78,6 @@ impl Profile for Tokens {
     ghost holder_is_near = { λ _ _ _ _ _. refl };
 
     ghost equal_outlines_agree = { λ _ _ _ _. refl };
+
+    ghost equal_keys_are_of_one_kind = { λ _ _ _. refl };
 }

@@ -1,6 +1,7 @@
 -- The notes of the other numbers, and of the regions that stay, stay.
 use Rattle.std.proofs.Common.{Contains, subst}
 use Rattle.std.specs.List.{slice_range}
+use Rattle.lost_index.specs.Kinds.{IsMarked}
 use Rattle.lost_index.proofs.CutLemmas.{Contains-slice_range}
 use Rattle.lost_index.proofs.EntryLemmas.{contains_found}
 use Rattle.lost_index.proofs.IndexLemmas.{IsIndexed-kept}
@@ -9,7 +10,7 @@ use Rattle.lost_index.proofs.index.Index.cut.Goals as goal
 pub invariant_of-self : goal.invariant_of-self
 invariant_of-self g c =
     let regions = c.kept_of-kept.result.now in
-    IsIndexed-kept g.P.Profile.is_region g.P.Profile.cover_of g.P.Profile.outline_of g.P.Key.PartialEq.eq g.P.Outline.PartialEq.eq c.self.inside.held c.cut.new.held
+    IsIndexed-kept (IsMarked g.P.Profile.is_region g.P.Profile.cover_of g.P.Profile.kind_of c.self.inside.kinds) g.P.Profile.cover_of g.P.Profile.outline_of g.P.Key.PartialEq.eq g.P.Outline.PartialEq.eq c.self.inside.held c.cut.new.held
     c.self.inside.cells c.remove_rest_notes.new.cells c.args.number regions (slice_range regions c.args.from c.args.to) c.self.invariant
     c.kept_of-kept.ensures (Contains-slice_range regions c.args.from c.args.to) (c.cut.ensures.updates regions c.kept_of-kept.ensures)
     c.remove_rest_notes.ensures.others c.remove_rest_notes.ensures.remaining c.remove_rest_notes.ensures.fewer c.remove_rest_notes.ensures.gone

@@ -1,5 +1,6 @@
 -- The notes of the other numbers stay, and those of the number go.
 use Rattle.std.proofs.Common.{sym, subst, ◌∙◌}
+use Rattle.lost_index.specs.Kinds.{IsMarked}
 use Rattle.lost_index.specs.Entries.{IsHeld}
 use Rattle.lost_index.specs.Notes.{covers, IsNotedOnlyFor}
 use Rattle.lost_index.proofs.EntryLemmas.{held_found}
@@ -13,7 +14,7 @@ unreachable-requires g c =
 
 pub invariant_of-self : goal.invariant_of-self
 invariant_of-self g c =
-    IsIndexed-taken g.P.Profile.is_region g.P.Profile.cover_of g.P.Profile.outline_of g.P.Key.PartialEq.eq g.P.Outline.PartialEq.eq c.self.inside.held c.remove.new.self
+    IsIndexed-taken (IsMarked g.P.Profile.is_region g.P.Profile.cover_of g.P.Profile.kind_of c.self.inside.kinds) g.P.Profile.cover_of g.P.Profile.outline_of g.P.Key.PartialEq.eq g.P.Outline.PartialEq.eq c.self.inside.held c.remove.new.self
     c.self.inside.cells c.remove_notes.new.cells c.args.number c.in-Some.entry c.self.invariant
     (sym c.in-Some.ensures.value) c.remove.ensures.updates.0 c.remove_notes.ensures.others c.remove_notes.ensures.fewer
     (subst (λ remaining. IsNotedOnlyFor g.P.Key.PartialEq.eq g.P.Outline.PartialEq.eq g.P.Profile.cover_of g.P.Profile.outline_of c.args.number remaining
