@@ -5,126 +5,92 @@ Each reader gives the section's Markdown, and the figures in it that README show
 import re
 from typing import Callable, Dict, List, NamedTuple, Tuple
 
-from figures import Unexpected, count, megabytes, micro, milli, parts, rows, seconds, table, times
+from figures import Unexpected, count, megabytes, micro, milli, rows, seconds, table
 
 FIND = "`findService` at a point, over 60,000 boundaries"
 VALIDATE = "Validation of an address, over 60,000 mappings"
 LOAD = "Loading 60,000 boundaries of 20 to 400 positions"
-REPLIES = "Replies over TCP, four workers, four connections"
+REPLIES = "Replies over TCP, one worker, 64 connections"
 COMMIT = "A commit over TCP at 60,000 mappings, 99 of 100 within"
 README_ROWS = [FIND, VALIDATE, LOAD, REPLIES, COMMIT]
 
 Read = Tuple[str, Dict[str, str]]
 
-TWO_SIZES = r"(.+): (\d+) and (\d+) nanoseconds a line at 1,000 and 60,000, (\d+) of a hundred"
 LINES = {
-    "hits": "`findService`, found",
-    "misses": "not found",
-    "unheld service": "service not served",
-    "default": "answered by a default",
+    "findService, found": "`findService`, found",
+    "not found": "not found",
+    "service not served": "service not served",
+    "answered by a default": "answered by a default",
     "listServices": "`listServices`",
     "listServicesByLocation": "`listServicesByLocation`",
     "getServiceBoundary": "`getServiceBoundary`",
-    "validation": "validation of an address",
-    "first replace and commit": "first replacement after loading, commit",
-    "replace and commit": "replacement, commit",
-    "publish, commit, withdraw, commit": "publish, commit, withdrawal, commit",
+    "validation of an address": "validation of an address",
 }
+EDITS = ["publish", "replacement", "withdrawal"]
+
+
+def grown(names: Dict[str, str], figures: Dict[Tuple[str, str, str], str], sizes: List[str]) -> List[List[str]]:
+    """Rows of a table: what each name takes at both sizes, and the ratio of the two where the caches are emptied."""
+    few, many = sizes
+    return [
+        [said, *(micro(figures[size, name, "warm"]) for size in sizes), f"{int(figures[many, name, 'cold']) / int(figures[few, name, 'cold']):.2f}"]
+        for name, said in names.items()
+    ]
 
 
 def read_lines(text: str) -> Read:
-    """What lines cost through `replay`."""
-    (few, many, _, speed), = rows(
-        r"load: (\d+) and (\d+) microseconds for 1,000 and 60,000 boundaries, (\d+) of a hundred;"
-        r" the large one at (\d+) million bytes a second", text, 1)
-    warm, cold, traces = parts(
-        text, "one line after another:", "the caches emptied before each line:", "one line after another, of the same ten identities:")
-    emptied = {name: share for name, _, _, share in rows(TWO_SIZES, cold, len(LINES))}
-    lines, shown = [], {LOAD: f"{seconds(many)} s"}
-    for name, small, large, _ in rows(TWO_SIZES, warm, len(LINES)):
-        lines.append([LINES[name], micro(small), micro(large), times(emptied[name])])
-        shown.update({FIND: f"{micro(large)} µs"} if name == "hits" else {VALIDATE: f"{micro(large)} µs"} if name == "validation" else {})
-    (publish, ), (withdraw, ) = rows(r"10 .+ and commit: \d+ and \d+ nanoseconds a line at 10 and 65,536 withdrawn, (\d+) of a hundred", traces, 2)
+    """What a line of each kind, an edit and a map cost at two sizes."""
+    loads = rows(r"(\d+) mappings loaded: (\d+) nanoseconds for (\d+) bytes", text, 4)
+    sizes = [size for size, _, _ in loads[:2]]
+    figures: Dict[Tuple[str, str, str], str] = {}
+    for size, name, warm, cold in rows(r"(\d+) mappings, (.+): (\d+) nanoseconds a line, (\d+) with the caches emptied", text, 2 * len(LINES)):
+        figures.update({(size, name, "warm"): warm, (size, name, "cold"): cold})
+    for size, name, spent, how in rows(r"(\d+) mappings, (.+) and commit: (\d+) nanoseconds (.+)", text, 4 * len(EDITS)):
+        figures[size, name, "warm" if how == "one after another" else "cold"] = spent
+    wanted = [(size, name, how) for size in sizes for name in (*LINES, *EDITS) for how in ("warm", "cold")]
+    if set(figures) != set(wanted):
+        raise Unexpected("a kind of line is measured at one size alone")
+    heads = [f"{int(size):,}" for size in sizes]
+    (_, few, _), (_, many, size) = loads[:2]
     said = (
-        f"Loading 1,000 boundaries takes {seconds(few)} s, and 60,000 {seconds(many)} s, at {speed} MB a second."
-        f" With 65,536 withdrawals remembered, and not ten, publishing takes {times(publish)} times as long and withdrawing {times(withdraw)}."
+        f"Loading {heads[0]} boundaries takes {seconds(int(few) // 1_000)} s, and {heads[1]} {seconds(int(many) // 1_000)} s,"
+        f" at {int(size) * 1_000 // int(many)} MB a second."
     )
-    head = ["Microseconds a line", "1,000", "60,000", "Cold ratio"]
-    return f"One thread, boundaries of 20 to 400 positions.\n\n{table(head, lines)}\n\n{said}", shown
-
-
-def read_speeds(text: str) -> Read:
-    """How many lines a second there are; those of the longest lines are not shown."""
-    plain = rows(r"(\d+) mappings: (\d+) lines a second, \d+ of a hundred of the time at 10", text, 3)
-    return f"One thread, squares. {'; '.join(f'{count(squares)} mappings: {count(speed)}' for squares, speed in plain)}.", {}
-
-
-def read_index(text: str) -> Read:
-    """What a question costs in the index alone: of several rounds the middle one."""
-    asked = r"(.+): (\d+) and (\d+) nanoseconds at 1,024 and 60,025 for (.+) points, (\d+) of a hundred"
-    rounds: Dict[Tuple[str, str], List[Tuple[int, str, str]]] = {}
-    for how, small, large, which, share in rows(asked, text, 11):
-        rounds.setdefault((how, which), []).append((int(share), small, large))
-    cold = "holding, the caches emptied before each question"
-    names = {
-        ("one ring alone", "all over"): "one ring walked, no index",
-        ("holding", "all over"): "points all over each map",
-        ("holding", "the same"): "the same points",
-        (cold, "all over"): "cold, points all over",
-        (cold, "the same"): "cold, the same points",
+    lines = table(["Microseconds a line", *heads, "Cold ratio"], grown(LINES, figures, sizes))
+    edits = table(["Microseconds an edit and its commit", *heads, "Cold ratio"], grown({name: name for name in EDITS}, figures, sizes))
+    shown = {
+        FIND: f"{micro(figures[sizes[1], 'findService, found', 'warm'])} µs",
+        VALIDATE: f"{micro(figures[sizes[1], 'validation of an address', 'warm'])} µs",
+        LOAD: f"{seconds(int(many) // 1_000)} s",
     }
-    lines = []
-    for key, name in names.items():
-        share, small, large = sorted(rounds[key])[len(rounds[key]) // 2]
-        lines.append([name, micro(small), micro(large), times(share)])
-    return table(["Microseconds a question", "1,024", "60,025", "Ratio"], lines), {}
+    return f"One reader of a desk, boundaries of 20 to 400 positions.\n\n{lines}\n\n{edits}\n\n{said}", shown
 
 
-def read_desk(text: str) -> Read:
-    """What readers and edits cost at the desk."""
-    (reader, book, share), = rows(
-        r"one thread: (\d+) nanoseconds a reply by a reader, (\d+) by tokens over the book alone, (\d+) of a hundred;.*", text, 1)
-    (four, beside), = rows(
-        r"four readers: (\d+) of a hundred of the replies of one; while the desk commits 100 times a second, (\d+) of a hundred;.*", text, 1)
-    warm, cold = parts(text, "one edit after another:", "the caches emptied before each edit:")
-    edit = (
-        r"a (.+), with its commit: (\d+) and (\d+) nanoseconds at 1,024 and 60,025 mappings,"
-        r" (\d+) of a hundred \(\d+ to \d+\), the middle of the rounds")
-    emptied = {kind: share for kind, _, _, share in rows(edit, cold, 3)}
-    lines = [[kind, micro(small), micro(large), times(emptied[kind])] for kind, small, large, _ in rows(edit, warm, 3)]
-    said = (
-        f"A reader takes {micro(reader)} µs for a reply, {times(share)} times what the book alone takes."
-        f" Four readers on four cores answer {times(four)} times what one does, and {times(beside)} times beside 100 commits a second."
-    )
-    return f"{said}\n\n{table(['Microseconds an edit and its commit', '1,024', '60,025', 'Cold ratio'], lines)}", {}
+def read_readers(text: str) -> Read:
+    """How much more four readers answer than one."""
+    (one, four, beside), = rows(
+        r"(\d+) nanoseconds a reply by one reader, (\d+) by each of four, (\d+) while the desk commits 100 times a second", text, 1)
+    return (
+        f"Four readers on four cores answer {4 * int(one) / int(four):.2f} times what one does,"
+        f" and {4 * int(one) / int(beside):.2f} times beside 100 commits a second."
+    ), {}
 
 
 def read_cache(text: str) -> Read:
     """What a cache saves and costs."""
-    found = rows(r"(.+): (\d+) nanoseconds a reply by a reader, (\d+) with a cache, \d+ of a hundred", text, 4)
-    names = ["asked again, 10 boundaries of 400 positions", "asked again, 10 boundaries of 4,096", "asked once, a boundary of 200", "asked once, a square"]
-    lines = [[name, micro(plain), micro(kept)] for name, (_, plain, kept) in zip(names, found)]
-    return table(["Microseconds a reply, at a location", "No cache", "Cache"], lines), {}
+    found = rows(r"(.+): (\d+) nanoseconds a reply by a reader, (\d+) with a cache", text, 2)
+    lines = [[what, micro(plain), micro(kept)] for what, plain, kept in found]
+    return table(["Microseconds a reply, 10 boundaries over each place", "No cache", "Cache"], lines), {}
 
 
-def read_serve(text: str) -> Read:
-    """What connections cost."""
-    found = rows(
-        r"(\d+) lines at a time: (\d+) replies a second over one connection, a server that sends lines back (\d+), \d+ of a hundred;"
-        r" four workers and four connections (\d+), \d+ of a hundred of one", text, 3)
-    lines = [[depth, count(one), count(echo), count(four)] for depth, one, echo, four in found]
-    spans = rows(
-        r"(\d+) mappings, one line at a time: half within \d+ nanoseconds, 99 of a hundred within (\d+);"
-        r" while the desk commits 100 times a second \d+ and (\d+), \d+ of a hundred", text, 2)
-    commits = rows(
-        r"(\d+) mappings: half of the commits answered within \d+ nanoseconds, 99 of a hundred within (\d+), all within \d+", text, 2)
-    late = [
-        [count(mappings), micro(alone), micro(beside), micro(commit)] for (mappings, alone, beside), (_, commit) in zip(spans, commits)
-    ]
-    first = table(["Replies a second, by lines sent at a time", "One connection", "One, echo server", "Four"], lines)
-    second = table(["99 of 100 within microseconds, at mappings", "Reply", "Reply beside commits", "Commit"], late)
-    shown = {REPLIES: f"{max((four for _, _, _, four in lines), key=lambda text: int(text.replace(',', '')))} a second"}
-    return f"{first}\n\n{second}", {**shown, COMMIT: f"{milli(commits[1][1])} ms"}
+def read_connections(text: str) -> Read:
+    """How long a line and a commit take over a connection."""
+    late = rows(
+        r"(\d+) mappings, nanoseconds within which half and 99 of a hundred come:"
+        r" a reply \d+ and (\d+), beside commits \d+ and (\d+), a commit \d+ and (\d+)", text, 2)
+    lines = [[f"{int(mappings):,}", *map(micro, spans)] for mappings, *spans in late]
+    said = table(["99 of 100 within microseconds, at mappings", "Reply", "Reply beside commits", "Commit"], lines)
+    return f"One line at a time, beside 100 commits a second.\n\n{said}", {COMMIT: f"{milli(late[1][3])} ms"}
 
 
 def read_memory(text: str) -> Read:
@@ -173,7 +139,7 @@ def read_redis(text: str) -> Read:
         f"One worker and redis {version}, each on one core; {count(questions)} points all over {count(mappings)} mappings."
         " A GET has as many bytes as a request, and a value as a reply.\n\n"
         f"{first}\n\n{count(idle)} idle connections beside {busy} leave {share} of the replies.{more}"
-    ), {}
+    ), {REPLIES: f"{count(beside[-1][2])} a second"}
 
 
 PLAIN_ROW = r" *([\d,]+)  (\S.*\S) {2,}(\S+) +(\S+) +(\d+\.\d\d)"
@@ -209,15 +175,13 @@ class Section(NamedTuple):
 
 
 SECTIONS = [
-    Section("Lines", "bench_lines", ["routing", "measure"], read_lines),
-    Section("Lines a second", "bench_lines", ["replay", "measure"], read_speeds),
-    Section("Index", "bench_lines", ["index", "measure"], read_index),
-    Section("Desk", "bench_desk", ["measure"], read_desk),
-    Section("Cache", "bench_desk", ["cache", "measure"], read_cache),
-    Section("Connections", "bench_serve", ["measure"], read_serve),
+    Section("Lines", "bench_serve", ["lines"], read_lines),
+    Section("Readers", "bench_serve", ["readers"], read_readers),
+    Section("Cache", "bench_serve", ["cache"], read_cache),
+    Section("Connections", "bench_serve", ["connections"], read_connections),
     Section("Beside redis", "checks/redis/run", [], read_redis, "lostd"),
     Section("Beside a plain server", "checks/plain-server/run", [], read_plain, "lostd"),
-    Section("Memory", "checks/resident-memory/run", [], read_memory, "bench_lines"),
+    Section("Memory", "checks/resident-memory/run", [], read_memory, "lostd"),
     Section("A large map", "checks/benchmarks/loaded-server", [], read_loaded, "lostd"),
     Section("Gateway", "checks/gateway/run", ["--speed"], read_gateway, "lostd"),
 ]

@@ -14,17 +14,6 @@ def rows(pattern, text, count):
     return found
 
 
-def parts(text, *heads):
-    """What stands behind each of these lines, up to the next one."""
-    found = []
-    for head in heads:
-        before, line, text = text.partition(f"{head}\n")
-        if not line:
-            raise Unexpected(f"it has no line {head!r}")
-        found.append(before)
-    return [*found[1:], text]
-
-
 def micro(nanoseconds):
     """Nanoseconds in microseconds."""
     value = int(nanoseconds) / 1e3
@@ -41,11 +30,6 @@ def seconds(microseconds):
     """Microseconds in seconds."""
     value = int(microseconds) / 1e6
     return f"{value:.2f}" if value < 1 else f"{value:.1f}"
-
-
-def times(hundredths):
-    """A share of a hundred as a factor."""
-    return f"{int(hundredths) / 100:.2f}"
 
 
 def count(number):

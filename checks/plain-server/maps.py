@@ -1,6 +1,6 @@
 """Maps of districts: three services tile the same land, each with districts of its own.
 
-A district is drawn as the benches draw it (crates/test_parts): two neighbours share each position of the side between
+A district is drawn as bench_serve draws it (crates/test_parts): two neighbours share each position of the side between
 them, and a ring has 21 to 393 positions, mostly some 200.
 """
 import json

@@ -1,5 +1,5 @@
-"""checks/benchmarks: what the benches print becomes docs/BENCHMARKS.md and five rows of README, with programs that print figures
-of no meaning in the place of the benches."""
+"""checks/benchmarks: what the bench and the checks print becomes docs/BENCHMARKS.md and five rows of README, with programs in
+their place that print figures of no meaning."""
 from __future__ import annotations
 
 import os
@@ -12,68 +12,34 @@ from typing import Dict, List, Tuple
 from tests.running import TOP
 
 LINES = [
-    "hits", "misses", "unheld service", "default", "listServices", "listServicesByLocation", "getServiceBoundary",
-    "first replace and commit", "replace and commit", "publish, commit, withdraw, commit", "validation",
+    "findService, found", "not found", "service not served", "answered by a default", "listServices", "listServicesByLocation", "getServiceBoundary",
 ]
-EDITS = [f"a {kind}, {what}" for kind in ("publish", "replacement", "withdrawal") for what in ("with its commit", "its commit alone")]
-LONG = ["lines of 1 MiB", "1 MiB of URIs", "1 MiB of locations"]
+ROADS = ["validation of an address"]
+EDITS = ["publish", "replacement", "withdrawal"]
 
 
-def costs(many: int, share: int) -> List[str]:
-    """What lines cost at two sizes."""
-    return [f"{name}: 3412 and {many} nanoseconds a line at 1,000 and 60,000, {share} of a hundred" for name in LINES]
-
-
-def asked(how: str, which: str, shares: List[int]) -> List[str]:
-    """What questions cost in an index."""
-    return [f"{how}: 700 and {7 * share} nanoseconds at 1,024 and 60,025 for {which} points, {share} of a hundred" for share in shares]
-
-
-def edited(share: int) -> List[str]:
-    """What edits cost at the desk."""
-    rounds = f"{share} of a hundred ({share - 1} to {share + 1}), the middle of the rounds"
-    return [f"{edit}: 8000 and 9600 nanoseconds at 1,024 and 60,025 mappings, {rounds}" for edit in EDITS]
+def measured(size: int, load: int, lines: List[str], edits: List[str], warm: int, cold: int) -> List[str]:
+    """What a map costs."""
+    return [
+        f"{size} mappings loaded: {load} nanoseconds for 260000000 bytes",
+        *[f"{size} mappings, {name}: {warm} nanoseconds a line, {cold} with the caches emptied" for name in lines],
+        *[f"{size} mappings, {name} and commit: {2 * warm} nanoseconds one after another" for name in edits],
+        *[f"{size} mappings, {name} and commit: {2 * cold} nanoseconds with the caches emptied" for name in edits],
+    ]
 
 
 CORES = "each on a core that it shares with the load, since there are 4"
-EMPTIED = "holding, the caches emptied before each question"
 PRINTED: Dict[str, Dict[str, List[str]]] = {
-    "bench_lines": {
-        "routing measure": [
-            "load: 61000 and 3412345 microseconds for 1,000 and 60,000 boundaries, 5594 of a hundred; the large one at 76 million bytes a second",
-            "one line after another:", *costs(11_800, 346), "the caches emptied before each line:", *costs(3_500, 103),
-            "one line after another, of the same ten identities:",
-            *[f"10 {what} and commit: 1000 and 1020 nanoseconds a line at 10 and 65,536 withdrawn, 102 of a hundred" for what in ("publishes", "withdrawals")],
-        ],
-        "replay measure": [
-            *[f"{squares} mappings: 701234 lines a second, 100 of a hundred of the time at 10" for squares in (10, 100, 1000)],
-            *[f"{name}: 412 lines a second, 100 of a hundred of the time of lines of 1 MiB that are filled with spaces" for name in LONG],
-        ],
-        "index measure": [
-            *asked("one ring alone", "all over", [380, 370, 390]), *asked("holding", "the same", [123, 125, 127]),
-            *asked("holding", "all over", [360, 370, 380]), *asked(EMPTIED, "the same", [114]), *asked(EMPTIED, "all over", [126]),
-        ],
-    },
-    "bench_desk": {
-        "measure": [
-            "one thread: 1060 nanoseconds a reply by a reader, 1000 by tokens over the book alone, 106 of a hundred; 2000 by trees, 53 of a hundred; the least of 5 rounds",
-            "four readers: 390 of a hundred of the replies of one; while the desk commits 100 times a second, 381 of a hundred; the least of 5 rounds",
-            "one edit after another:", *edited(120), "the caches emptied before each edit:", *edited(122),
-        ],
-        "cache measure": [f"plan {number}: 11600 nanoseconds a reply by a reader, 1700 with a cache, 15 of a hundred" for number in range(4)],
-    },
     "bench_serve": {
-        "measure": [
-            *[
-                f"{depth} lines at a time: 58012 replies a second over one connection, a server that sends lines back 65999, 88 of a hundred;"
-                f" four workers and four connections {total}, 380 of a hundred of one" for depth, total in ((1, 220_000), (16, 1_512_345), (64, 1_400_000))
-            ],
-            *[
-                f"{mappings} mappings{text}" for mappings in (1000, 60000) for text in (
-                    ", one line at a time: half within 17000 nanoseconds, 99 of a hundred within 21000; while the desk commits 100 times a second 18000 and 27000, 128 of a hundred",
-                    ": half of the commits answered within 90000 nanoseconds, 99 of a hundred within 290000, all within 400000",
-                )
-            ],
+        "lines": [
+            *measured(1024, 61_000_000, LINES, EDITS, 3412, 8000), *measured(60025, 3_412_345_000, LINES, EDITS, 11_800, 8240),
+            *measured(1024, 5_000_000, ROADS, [], 3412, 8000), *measured(60025, 700_000_000, ROADS, [], 11_800, 8240),
+        ],
+        "readers": ["2100 nanoseconds a reply by one reader, 2200 by each of four, 2300 while the desk commits 100 times a second"],
+        "cache": [f"{what}: 11600 nanoseconds a reply by a reader, 1700 with a cache" for what in ("1,000 places asked again and again", "places asked once")],
+        "connections": [
+            f"{mappings} mappings, nanoseconds within which half and 99 of a hundred come: a reply 17000 and 21000, beside commits 18000 and 27000,"
+            " a commit 90000 and 290000" for mappings in (1024, 60025)
         ],
     },
     "redis": {
@@ -164,34 +130,36 @@ class Benchmarks(unittest.TestCase):
     def test_all_sections_and_the_rows_of_readme(self) -> None:
         self.assertEqual(self.run_check(), (0, ""))
         page = self.read("docs/BENCHMARKS.md")
-        self.assertEqual(re.findall("^## (.*)$", page, re.M), ["Lines", "Lines a second", "Index", "Desk", "Cache", "Connections", "Beside redis", "Beside a plain server", "Memory", "A large map", "Gateway"])
+        self.assertEqual(re.findall("^## (.*)$", page, re.M), ["Lines", "Readers", "Cache", "Connections", "Beside redis", "Beside a plain server", "Memory", "A large map", "Gateway"])
         for row in (
-            "| `findService`, found | 3.4 | 12 | 1.03 |", "One thread, squares. 10 mappings: 701,000; 100 mappings: 701,000; 1,000 mappings: 701,000.", "| the same points | 0.7 | 0.9 | 1.25 |",
-            "| withdrawal | 8.0 | 9.6 | 1.22 |", "| 16 | 58,000 | 66,000 | 1,510,000 |", "| 60,000 | 21 | 27 | 290 |",
+            "| `findService`, found | 3.4 | 12 | 1.03 |", "| validation of an address | 3.4 | 12 | 1.03 |", "| withdrawal | 6.8 | 24 | 1.03 |",
+            "Loading 1,024 boundaries takes 0.06 s, and 60,025 3.4 s, at 76 MB a second.",
+            "Four readers on four cores answer 3.82 times what one does, and 3.65 times beside 100 commits a second.",
+            "| places asked once | 12 | 1.7 |", "| 60,025 | 21 | 27 | 290 |",
             "| Mappings | 30 | 60,000 |", "| loading | 0.61 | 1.52 |", "| most memory | 0.61 | 1.52 |", "| points all over the map | 0.61 | 1.52 |",
             "| one | 3,360 | 0.55 | 15.0 |", "| 1 | 16 | 45,700 | 54,300 | 0.84 | 0.81 |", "| 64 | 1 | 45,700 | 54,300 | 0.84 | 0.81 |",
             f"10,000 idle connections beside 64 leave 0.98 of the replies. Four workers, {CORES}, answer 64 connections 3.01 times (1 at a time) and 3.16 times (16 at a time) as fast as one.",
         ):
             self.assertIn(f"\n{row}\n", page)
-        self.assertEqual([row.rsplit("|", 2)[1].strip() for row in self.rows()], ["12 µs", "12 µs", "3.4 s", "1,510,000 a second", "0.29 ms"])
+        self.assertEqual([row.rsplit("|", 2)[1].strip() for row in self.rows()], ["12 µs", "12 µs", "3.4 s", "45,700 a second", "0.29 ms"])
 
     def test_a_section_that_fails_stays_as_it_was(self) -> None:
         self.assertEqual(self.run_check(), (0, ""))
         before = self.read("docs/BENCHMARKS.md")
-        with_programs(self.folder, {"bench_serve": {"measure": ["nothing that is known"]}, "bench_desk": {}})
+        with_programs(self.folder, {"bench_serve": {**PRINTED["bench_serve"], "connections": ["nothing that is known"], "cache": []}})
         os.remove(f"{self.folder}/resident-memory")
         status, said = self.run_check()
-        self.assertEqual((status, len(said.splitlines())), (1, 4), said)
+        self.assertEqual((status, len(said.splitlines())), (1, 3), said)
         after = self.read("docs/BENCHMARKS.md")
-        self.assertRegex(after, r"(?m)^`bench_serve measure`, \S+, commit .+\.$")
+        self.assertRegex(after, r"(?m)^`bench_serve connections`, \S+, commit .+\.$")
         self.assertEqual(re.sub(r"(?m)^(`[^`]*`), \S+, commit .+\.$", r"\1.", after), before)
 
     def test_figures_of_another_machine_are_left_out(self) -> None:
-        self.write("docs/BENCHMARKS.md", "# Benchmarks\n\nMeasured on 2026-01-01 at commit 1234567, on another one.\n\n## Lines\n\nof a 286\n\n## Index\n\nof a 286\n")
-        self.assertEqual(self.run_check("--only", "index"), (0, ""))
+        self.write("docs/BENCHMARKS.md", "# Benchmarks\n\nMeasured on 2026-01-01 at commit 1234567, on another one.\n\n## Lines\n\nof a 286\n\n## Cache\n\nof a 286\n")
+        self.assertEqual(self.run_check("--only", "cache"), (0, ""))
         page = self.read("docs/BENCHMARKS.md")
         self.assertNotIn("of a 286", page)
-        self.assertEqual(re.findall("^## (.*)$", page, re.M), ["Index"])
+        self.assertEqual(re.findall("^## (.*)$", page, re.M), ["Cache"])
 
     def test_redis_on_few_cores(self) -> None:
         lines = [line for line in PRINTED["redis"][""] if not line.startswith("four workers")]
@@ -203,8 +171,8 @@ class Benchmarks(unittest.TestCase):
         self.assertEqual((status, len(said.splitlines())), (1, 1), said)
 
     def test_a_section_that_was_never_measured_is_left_out(self) -> None:
-        self.assertEqual(self.run_check("--only", "index"), (0, ""))
-        self.assertEqual(re.findall("^## (.*)$", self.read("docs/BENCHMARKS.md"), re.M), ["Index"])
+        self.assertEqual(self.run_check("--only", "cache"), (0, ""))
+        self.assertEqual(re.findall("^## (.*)$", self.read("docs/BENCHMARKS.md"), re.M), ["Cache"])
 
     def test_mistakes(self) -> None:
         self.assertEqual(self.run_check("--only", "no such section")[0], 2)

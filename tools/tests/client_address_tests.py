@@ -10,18 +10,9 @@ import unittest
 
 from maptools.addresses import Tcp, Unix, server_of, tcp_of
 from tests.fake_servers import line_of, serve_once, unix_listener
-from tests.running import run_tool, start_tool
+from tests.running import has_ipv6, run_tool, start_tool
 
 SERVICES = {"listServicesResponse": {"edition": 5, "path": ["lost.example"], "serviceList": ["urn:service:sos"]}}
-
-
-def has_ipv6() -> bool:
-    """Whether this machine has the loopback address of IPv6."""
-    try:
-        socket.create_server(("::1", 0), family=socket.AF_INET6).close()
-    except OSError:
-        return False
-    return True
 
 
 class Addresses(unittest.TestCase):

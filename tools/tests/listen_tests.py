@@ -12,20 +12,11 @@ import threading
 import unittest
 from typing import Any, Dict, List, Set, Tuple, Union
 
-from tests.running import has_serve, lostd, question
+from tests.running import has_ipv6, has_serve, lostd, question
 
 PATIENCE = 20
 NOBODY = 65534
 Place = Union[str, Tuple[str, int]]
-
-
-def has_ipv6() -> bool:
-    """Whether this machine has the loopback address of IPv6."""
-    try:
-        socket.create_server(("::1", 0), family=socket.AF_INET6).close()
-    except OSError:
-        return False
-    return True
 
 
 def has_unix() -> bool:

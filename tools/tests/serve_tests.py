@@ -12,7 +12,7 @@ import time
 import unittest
 from typing import List, Tuple
 
-from tests.running import TOP, lostd, serve_has
+from tests.running import TOP, has_ipv6, lostd, serve_has
 
 PATIENCE = 60
 FREE = "127.0.0.1:0"
@@ -94,16 +94,6 @@ def ended(connection: socket.socket) -> bool:
     except ConnectionResetError:
         pass
     except socket.timeout:
-        return False
-    return True
-
-
-def has_ipv6() -> bool:
-    """Whether this machine has the address ::1."""
-    try:
-        with socket.socket(socket.AF_INET6) as probe:
-            probe.bind(("::1", 0))
-    except OSError:
         return False
     return True
 

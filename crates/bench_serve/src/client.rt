@@ -11,9 +11,6 @@ const PATIENCE: u64 = 60;
 /// The most reads for the replies to the lines sent at once.
 const MAX_READS: u32 = 1_000_000;
 
-/// The beginning of a reply that has found a mapping.
-const FOUND: &[u8] = b"{\"findServiceResponse\":";
-
 /// A client's end of a connection.
 #[derive(Drop)]
 pub(crate) struct Client {
@@ -34,9 +31,8 @@ impl Client {
         Ok(Client { stream, alloc })
     }
 
-    /// Sends bytes with so many lines at once, and reads as many replies. Gives the replies if `keeps`, and no byte
-    /// otherwise.
-    pub(crate) fn ask(&mut self, bytes: &[u8], lines: u32, keeps: bool) -> io::Result<Vec<u8>> {
+    /// Sends bytes with so many lines at once, and reads as many replies.
+    pub(crate) fn ask(&mut self, bytes: &[u8], lines: u32) -> io::Result<Vec<u8>> {
         self.stream.write_all(bytes)?;
         let mut kept = Vec::new(self.alloc);
         let mut left = lines as usize;
@@ -50,9 +46,7 @@ impl Client {
                 break;
             }
             left = left.saturating_sub(line_ends(&chunk[..count]));
-            if keeps {
-                kept.extend_from_slice(&chunk[..count])?;
-            }
+            kept.extend_from_slice(&chunk[..count])?;
         }
         Err(io::Error::from(io::ErrorKind::UnexpectedEof))
     }
@@ -61,15 +55,4 @@ impl Client {
 /// How many lines end in some bytes.
 fn line_ends(bytes: &[u8]) -> usize {
     bytes.iter().filter(|byte| **byte == b'\n').count()
-}
-
-/// How many of some replies have found a mapping.
-pub(crate) fn found_in(replies: &[u8]) -> u32 {
-    let mut found: u32 = 0;
-    for line in replies.split(|byte| *byte == b'\n') {
-        if line.starts_with(FOUND) {
-            found = found.saturating_add(1);
-        }
-    }
-    found
 }

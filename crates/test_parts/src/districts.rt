@@ -108,24 +108,6 @@ fn drawn(
     Ok(ring)
 }
 
-/// The ring of a square from its lower left to its upper right corner, with the first position at the end again.
-pub fn square(
-    alloc: Global,
-    (south, west): (u32, u32),
-    (north, east): (u32, u32),
-) -> Result<Vec<(u32, u32)>, AllocError> {
-    Vec::from_slice(
-        alloc,
-        &[
-            (south, west),
-            (south, east),
-            (north, east),
-            (north, west),
-            (south, west),
-        ],
-    )
-}
-
 /// Adds the corner where a side begins, and the positions within.
 fn push_forth(ring: &mut Vec<(u32, u32)>, side: Side) -> Result<(), AllocError> {
     for number in 0..side.len().saturating_add(1) {

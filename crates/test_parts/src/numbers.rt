@@ -1,7 +1,7 @@
 //! Numbers that look random, and are the same at each run.
 
 /// A number made from another.
-pub fn mixed(seed: u64) -> u64 {
+fn mixed(seed: u64) -> u64 {
     let first = (seed ^ (seed >> 30)).wrapping_mul(0xbf58_476d_1ce4_e5b9);
     let second = (first ^ (first >> 27)).wrapping_mul(0x94d0_49bb_1331_11eb);
     second ^ (second >> 31)

@@ -1,6 +1,5 @@
-//! Spans of time: their percentiles, means, shares and rates.
+//! Spans of time: their percentiles and means.
 
-use std::alloc::{AllocError, Global};
 use std::time::Duration;
 
 /// Spans in nanoseconds, in rising order.
@@ -14,13 +13,6 @@ impl Spans {
     pub fn of(mut spans: Vec<u64>) -> Spans {
         spans.sort_unstable();
         Spans { spans }
-    }
-
-    /// A copy of these spans, in order.
-    pub fn copied(alloc: Global, spans: &[u64]) -> Result<Spans, AllocError> {
-        let mut copy = Vec::new(alloc);
-        copy.extend_from_slice(spans)?;
-        Ok(Spans::of(copy))
     }
 
     /// A percentile of the spans, in nanoseconds; 0 where there are none.
@@ -39,11 +31,6 @@ impl Spans {
         }
         whole.checked_div(count as u64).unwrap_or(0)
     }
-
-    /// The longest span, in nanoseconds; 0 where there are none.
-    pub fn longest(&self) -> u64 {
-        self.spans.last().copied().unwrap_or(0)
-    }
 }
 
 /// A span in nanoseconds.
@@ -54,17 +41,4 @@ pub fn nanoseconds(span: Duration) -> u64 {
 /// Nanoseconds for each of `count`; 0 where `count` is 0.
 pub fn mean(spent: u64, count: u32) -> u64 {
     spent.checked_div(u64::from(count)).unwrap_or(0)
-}
-
-/// A part of a whole in percent; 0 where the whole is 0.
-pub fn share(part: u64, whole: u64) -> u64 {
-    part.saturating_mul(100).checked_div(whole).unwrap_or(0)
-}
-
-/// How many a second, where `count` took so many nanoseconds; 0 where they took less than a microsecond.
-pub fn a_second(count: u64, nanoseconds: u64) -> u64 {
-    count
-        .saturating_mul(1_000_000)
-        .checked_div(nanoseconds / 1_000)
-        .unwrap_or(0)
 }

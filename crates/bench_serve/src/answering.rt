@@ -1,10 +1,7 @@
-//! Answers to the lines: by a reader, by a reader that keeps places, or by a book alone.
+//! Answers to the lines: by a reader, or by a reader that keeps places.
 
 use crate::questions::Questions;
 use lost_desk::Reader;
-use lost_json::{ReadError, reply_line, reply_request};
-use lost_routing::Routing;
-use lost_tape::{Scratch, read_request};
 use lost_worker::CachedReader;
 use std::alloc::{AllocError, Global};
 use std::io;
@@ -13,7 +10,7 @@ use std::time::Instant;
 use test_parts::{Setting, nanoseconds};
 
 /// The beginning of a reply that has found a mapping.
-const FOUND: &[u8] = b"{\"findServiceResponse\":";
+pub(crate) const FOUND: &[u8] = b"{\"findServiceResponse\":";
 
 /// The reply to a line.
 type Replied = Result<Vec<u8>, AllocError>;
@@ -36,66 +33,11 @@ impl Answering for CachedReader {
     }
 }
 
-/// A book alone. Requests are read by their tokens, as a reader does.
-#[derive(Drop)]
-pub(crate) struct ByTokens<'a> {
-    book: &'a Routing,
-    scratch: Scratch,
-}
-
-impl<'a> ByTokens<'a> {
-    /// A book alone.
-    pub(crate) fn new(alloc: Global, book: &'a Routing) -> ByTokens<'a> {
-        ByTokens {
-            book,
-            scratch: Scratch::new(alloc),
-        }
-    }
-}
-
-impl Answering for ByTokens<'_> {
-    fn reply(&mut self, alloc: Global, setting: &Setting, line: &[u8]) -> Replied {
-        match read_request(alloc, line, &mut self.scratch) {
-            Ok(request) => reply_request(
-                alloc,
-                self.book,
-                &setting.name,
-                &setting.moment,
-                &request,
-            ),
-            Err(ReadError::BadRequest) | Err(ReadError::Memory) => Err(AllocError),
-        }
-    }
-}
-
-/// A book alone. Requests are read by their trees.
-#[derive(Clone, Copy)]
-pub(crate) struct ByTree<'a> {
-    pub(crate) book: &'a Routing,
-}
-
-impl Answering for ByTree<'_> {
-    fn reply(&mut self, alloc: Global, setting: &Setting, line: &[u8]) -> Replied {
-        reply_line(alloc, self.book, &setting.name, &setting.moment, line)
-    }
-}
-
 /// How many questions were answered by a mapping, and how many nanoseconds all took.
 #[derive(Clone, Copy, Drop)]
 pub(crate) struct Answered {
     pub(crate) found: u32,
     pub(crate) spent: u64,
-}
-
-impl Answered {
-    /// The answers that took less time.
-    pub(crate) fn quicker(self, other: Answered) -> Answered {
-        if other.spent < self.spent {
-            other
-        } else {
-            self
-        }
-    }
 }
 
 /// Asks so many questions, from a number on.
@@ -120,4 +62,21 @@ pub(crate) fn ask<A: Answering, R: Clock>(
         found,
         spent: nanoseconds(start.elapsed(rt)?),
     })
+}
+
+/// How many of the replies to all questions have a text.
+pub(crate) fn count_of<A: Answering>(
+    alloc: Global,
+    answering: &mut A,
+    questions: &Questions,
+    mark: &str,
+) -> Result<u32, AllocError> {
+    let mut count: u32 = 0;
+    for number in 0..questions.len() {
+        let reply = answering.reply(alloc, &questions.setting, questions.line(number))?;
+        if str::from_utf8(reply.as_slice()).is_ok_and(|text| text.contains(mark)) {
+            count = count.saturating_add(1);
+        }
+    }
+    Ok(count)
 }

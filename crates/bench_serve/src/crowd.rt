@@ -3,8 +3,8 @@
 ghost use Rattle.std.specs.Thread.{IsSync};
 
 use crate::answering::{Answered, ask};
-use crate::layout::Place;
-use crate::map::{Map, next_reader};
+use crate::kinds::Kind;
+use crate::map::{Map, edit_of, next_reader};
 use crate::questions::Questions;
 use lost_desk::{Reader, Readers};
 use std::alloc::{AllocError, Global};
@@ -13,9 +13,64 @@ use std::sync::{Arc, Wait};
 use std::thread::{Threads, join_mut};
 use std::time::Duration;
 use std::{io, thread};
+use test_parts::mean;
 
 /// How many readers there are.
 const READERS: u32 = 4;
+
+/// How many points are asked for, in turn, and how many questions each reader asks in a round.
+const POINTS: u32 = 20_000;
+
+const ASKED: u32 = 400_000;
+
+/// How many rounds there are. Other work of the machine makes a round longer, never shorter.
+const ROUNDS: u32 = 5;
+
+/// How many questions each reader asks for the counts.
+const COUNTED: u32 = 16;
+
+/// Has readers ask a small map, also while the desk commits, and prints how many questions found an answer.
+pub(crate) fn print_counts<R: Print + Clock + Threads + Wait + Sync + AllocGlobal>(
+    rt: &R,
+    map: &mut Map,
+    readers: &mut Readers,
+) -> io::Result<()> {
+    let mut crowd = Crowd::new(rt.alloc(), readers, map, COUNTED)?;
+    let alone = crowd.ask(rt, 1, COUNTED, map, 0)?.found;
+    let together = crowd.ask(rt, 4, COUNTED, map, 0)?.found;
+    println!(rt; "{alone} found in one thread, {together} in four")?;
+    let beside = crowd.ask(rt, 4, COUNTED, map, 3)?.found;
+    println!(rt;
+        "{beside} found in four beside 3 commits: edition {}",
+        map.edition()
+    )
+}
+
+/// Measures four readers beside one, while nothing is committed and while the desk commits 100 times a second, and
+/// prints the times.
+pub(crate) fn print_costs<R: Print + Clock + Threads + Wait + Sync + AllocGlobal>(
+    rt: &R,
+    map: &mut Map,
+    readers: &mut Readers,
+) -> io::Result<()> {
+    let mut crowd = Crowd::new(rt.alloc(), readers, map, POINTS)?;
+    let mut alone = u64::MAX;
+    let mut together = u64::MAX;
+    let mut beside = u64::MAX;
+    for _ in 0..ROUNDS {
+        alone = alone.min(crowd.ask(rt, 1, ASKED, map, 0)?.spent);
+        let spent = crowd.ask(rt, 4, ASKED, map, 0)?.spent;
+        together = together.min(spent);
+        let commits = u32::try_from(spent / 10_000_000).unwrap_or(u32::MAX);
+        beside = beside.min(crowd.ask(rt, 4, ASKED, map, commits)?.spent);
+    }
+    println!(rt;
+        "{} nanoseconds a reply by one reader, {} by each of four, {} while the desk commits 100 times a second",
+        mean(alone, ASKED),
+        mean(together, ASKED),
+        mean(beside, ASKED)
+    )
+}
 
 /// A reader with its questions and its results.
 #[derive(Drop)]
@@ -65,27 +120,25 @@ impl Asker {
 
 /// Readers that ask at the same time.
 #[derive(Drop)]
-pub(crate) struct Crowd {
+struct Crowd {
     askers: Vec<Asker>,
 }
 
 impl Crowd {
-    /// Four readers, with these questions.
-    pub(crate) fn new(
-        alloc: Global,
-        readers: &mut Readers,
-        questions: &Arc<Questions>,
-    ) -> io::Result<Crowd> {
+    /// Four readers, with so many questions.
+    fn new(alloc: Global, readers: &mut Readers, map: &Map, questions: u32) -> io::Result<Crowd> {
+        let questions = Questions::of(alloc, map.layout, Kind::Found, questions)?;
+        let questions = Arc::new(alloc, questions)?;
         let mut askers = Vec::new(alloc);
         for number in 0..READERS {
-            askers.push(Asker::new(alloc, next_reader(readers)?, questions, number)?)?;
+            askers.push(Asker::new(alloc, next_reader(readers)?, &questions, number)?)?;
         }
         Ok(Crowd { askers })
     }
 
     /// Has so many of the readers ask so many questions, each in a thread of its own, while the desk commits so many
     /// edits, 100 a second. Gives how many mappings all found, and the time of the slowest reader.
-    pub(crate) fn ask<R: Threads + Wait + Clock + Sync + AllocGlobal>(
+    fn ask<R: Threads + Wait + Clock + Sync + AllocGlobal>(
         &mut self,
         rt: &R,
         askers: usize,
@@ -148,8 +201,9 @@ fn beside<R: Threads + Wait + Clock + Sync + AllocGlobal>(
 fn commit_often<R: Wait + Clock + AllocGlobal>(rt: &R, map: &mut Map) -> io::Result<()> {
     for _ in 0..map.commits {
         let time = map.next_time();
-        let edit = Place { row: 0, column: 0 }.replace(rt.alloc(), time)?;
-        let spent = Duration::from_nanos(map.time_of(rt, edit)?.whole);
+        let line = map.layout.place(0).replace(rt.alloc(), time)?;
+        let edit = edit_of(rt.alloc(), line.as_str())?;
+        let spent = Duration::from_nanos(map.time_of(rt, edit)?);
         thread::sleep(rt, Duration::from_millis(10).saturating_sub(spent));
     }
     Ok(())
