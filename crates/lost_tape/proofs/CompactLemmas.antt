@@ -26,7 +26,8 @@ use Rattle.lost_spec.specs.Request.{Request}
 use Rattle.lost_reading.specs.Desk.{order_in, desk_line}
 use Rattle.lost_reading.specs.Requests.{request_in, line_request}
 use Rattle.std.specs.Prelude.{codes}
-use Rattle.lost_tape.specs.Compact.{before_id, before_lat, before_lon, after_lon, before_decimal, after_decimal, before_token, after_token, after_service, content_text, content_profile, content_body, place_line, place_request, IsPlain, IsContent, IsPlaceLine}
+use Rattle.lost_tape.specs.Compact.{before_id, before_lat, before_lon, after_lon, before_decimal, after_decimal, before_token, after_token, after_service, content_text, content_profile, content_body, place_line, place_request, IsContent, IsPlaceLine}
+use Rattle.lost_writing.specs.FoundLine.{IsPlain}
 use Rattle.lost_tape.specs.declared.locations.Content.{Content}
 use Rattle.lost_tape.specs.declared.locations.Content.TheVariants.{Pair, Decimal, Token}
 use Rattle.lost_tape.specs.declared.compact.PlaceLine.{PlaceLine}

@@ -7,7 +7,8 @@ use Rattle.json.specs.Run.{is_plain}
 use Rattle.json.specs.Written.{PlainBetween}
 use Rattle.json.proofs.Printed.Plain.{escape_on_plain}
 use Rattle.lost_spec.specs.Text.{Text}
-use Rattle.lost_tape.specs.Compact.{before_id, before_lat, before_lon, after_lon, before_decimal, after_decimal, before_token, after_token, after_service, content_text, place_line, IsPlain}
+use Rattle.lost_tape.specs.Compact.{before_id, before_lat, before_lon, after_lon, before_decimal, after_decimal, before_token, after_token, after_service, content_text, place_line}
+use Rattle.lost_writing.specs.FoundLine.{IsPlain}
 use Rattle.lost_tape.specs.declared.locations.Content.{Content}
 use Rattle.lost_tape.specs.declared.locations.Content.TheVariants.{Pair, Decimal, Token}
 

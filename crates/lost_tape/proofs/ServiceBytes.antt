@@ -13,44 +13,8 @@ use Rattle.lost_spec.specs.Service.{Service, read_service, service_text, is_serv
 use Rattle.lost_urn.proofs.FaultLemmas.{both_none}
 use Rattle.lost_urn.proofs.ServiceLemmas.{NoFault, label_bytes}
 use Rattle.lost_urn.proofs.ReadLemmas.{read_ok, labels_no_fault}
-use Rattle.lost_tape.specs.Compact.{IsPlain}
-
--- ---- one byte
-
-not_quote : (b : ℕ) → is_plain b ≡ true → b ≡ 34 → ⊥
-not_quote b h e = let f : is_plain 34 ≡ true = subst (λ x. is_plain x ≡ true) e h in true≢false (sym f)
-
-not_backslash : (b : ℕ) → is_plain b ≡ true → b ≡ 92 → ⊥
-not_backslash b h e = let f : is_plain 92 ≡ true = subst (λ x. is_plain x ≡ true) e h in true≢false (sym f)
-
-no_control : (b : ℕ) → is_plain b ≡ true → 32 ≤ b
-no_control b h = grind (arith, nat_tests)
-
-label_byte_plain : (b : ℕ) → is_label_byte b ≡ true → is_plain b ≡ true
-label_byte_plain b h = grind (arith, nat_tests)
-
-plain_from_lower : (b : ℕ) → is_plain (to_ascii_lowercase b) ≡ true → is_plain b ≡ true
-plain_from_lower b h = grind (arith, nat_tests)
-
--- ---- texts
-
-plain_from_all : (bs : Text) → list_all is_plain bs ≡ true → IsPlain bs
-plain_from_all [] h = refl
-plain_from_all (b ∷ bs) h =
-    let parts = and_parts (is_plain b) (list_all is_plain bs) h in
-    ap₂ (λ (x y : Text). x ++ y) (escape_byte_plain b (not_quote b parts.0) (not_backslash b parts.0) (no_control b parts.0)) (plain_from_all bs parts.1)
-
-all_unlowered : (bs : Text) → list_all is_plain (lowered bs) ≡ true → list_all is_plain bs ≡ true
-all_unlowered [] h = refl
-all_unlowered (b ∷ bs) h =
-    let parts = and_parts (is_plain (to_ascii_lowercase b)) (list_all is_plain (lowered bs)) h in
-    rw (plain_from_lower b parts.0) (all_unlowered bs parts.1)
-
-all_of_label : (bs : Text) → list_all is_label_byte bs ≡ true → list_all is_plain bs ≡ true
-all_of_label [] h = refl
-all_of_label (b ∷ bs) h =
-    let parts = and_parts (is_label_byte b) (list_all is_label_byte bs) h in
-    rw (label_byte_plain b parts.0) (all_of_label bs parts.1)
+use Rattle.lost_writing.specs.FoundLine.{IsPlain}
+use Rattle.lost_writing.proofs.PlainLemmas.{plain_from_all, all_unlowered, all_of_label}
 
 all_of_join : (labels : List Text) → NoFault labels → list_all is_plain (join_with_byte 46 labels) ≡ true
 all_of_join [] h = refl

@@ -23,7 +23,7 @@ use Rattle.lost_spec.specs.Mapping.{Parts, Mapping}
 use Rattle.lost_spec.specs.Book.{Edit, Publish, Replace}
 use Rattle.lost_reading.specs.Members.{each_of, list_in, position_in, pairs_of}
 use Rattle.lost_reading.specs.Desk.{Stage, parts_of_members, mapping_order, order_in, desk_line}
-use Rattle.lost_tape.specs.Compact.{IsPlain}
+use Rattle.lost_writing.specs.FoundLine.{IsPlain}
 use Rattle.lost_tape.specs.Numbers.{IsNumberBefore}
 use Rattle.lost_tape.specs.Values.{HasTree, IsValueBefore, IsPartBefore, IsListBefore, AreNamedBefore, named_texts, before_polygon, after_polygon, before_pattern, after_pattern, region_kind, with_head, with_number, with_tail, AreMembersBehind, AreMembersFirst, compact_parts, IsMappingOf, IsMappingText}
 use Rattle.lost_tape.specs.declared.compact_desk.Head.{Head}

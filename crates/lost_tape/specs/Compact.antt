@@ -3,12 +3,12 @@ use Rattle.std.specs.Prelude.{◌≡◌, ◌^◌, ◌<◌, [], ◌∷◌, ◌++�
 use Rattle.std.specs.Fmt.{signed_decimal}
 use Rattle.std.specs.Str.{IsUtf8}
 use lib.Signed.{mag}
-use Rattle.json.specs.Print.{escape}
 use Rattle.lost_spec.specs.Text.{Text}
 use Rattle.lost_spec.specs.Decimal.{decimal}
 use Rattle.lost_spec.specs.Service.{Service}
 use Rattle.lost_spec.specs.Place.{Body, PointBody, TokenBody}
 use Rattle.lost_spec.specs.Request.{Request, FindService}
+use Rattle.lost_writing.specs.FoundLine.{IsPlain}
 use Rattle.lost_tape.specs.declared.locations.Content.{Content}
 use Rattle.lost_tape.specs.declared.locations.Content.TheVariants.{Pair, Decimal, Token}
 use Rattle.lost_tape.specs.declared.compact.PlaceLine.{PlaceLine}
@@ -66,10 +66,6 @@ content_body (Token text) = Some (TokenBody text.now)
 -- the request that such a line spells: the service at the place, and nothing else (RFC 5222, section 8)
 abbrev pub place_request : Text → Text → Body → Service → Request
 place_request id profile body service = FindService service (record { id = id; profile = profile; srs_known = true; body = body } ∷ []) false false []
-
--- a text that stands in JSON as it is, without an escape (RFC 8259, section 7)
-abbrev pub IsPlain : Text → Type 0
-IsPlain text = escape text ≡ text
 
 -- a content that may stand in a line: numbers of 64 bits, a text that stands as it is
 abbrev pub IsContent : Content → Type 0

@@ -1,19 +1,19 @@
 //! The lines that are sent most, read in one pass: a `findService` at one place, as compact JSON (RFC 5222, section 8).
-ghost use Rattle.std.specs.Prelude.{◌≡◌, ◌≤◌, ◌++◌, Some, None, IfSome, OnSome, length};
+ghost use Rattle.std.specs.Prelude.{◌≡◌, ◌++◌, Some, None, IfSome, OnSome};
 ghost use Rattle.std.specs.Str.{IsUtf8};
-ghost use Rattle.json.specs.Written.{PlainBetween};
-ghost use Rattle.json.specs.Run.{is_plain};
 ghost use Rattle.lost_location.specs.Body.{body_of};
 ghost use Rattle.lost_mapping.specs.Request.{request_of};
 ghost use Rattle.lost_reading.specs.Desk.{desk_line};
 ghost use Rattle.lost_reading.specs.Requests.{line_request};
-ghost use Rattle.lost_tape.specs.Compact.{place_request, IsPlain, IsPlaceLine};
+ghost use Rattle.lost_tape.specs.Compact.{place_request, IsPlaceLine};
+ghost use Rattle.lost_writing.specs.FoundLine.{IsPlain};
 
 use crate::locations::{Content, compact_body, compact_profile, read_compact_content};
 use crate::options::parse_service;
 use lost_location::Body;
 use lost_mapping::{Location, Locations, Request};
 use lost_urn::ServiceUrn;
+use lost_writing::plain_len;
 use std::alloc::Global;
 use std::borrow::CowStr;
 
@@ -123,25 +123,4 @@ pub(crate) fn split_plain(text: &[u8]) -> (&[u8], &[u8])
     ensures plain { IsPlain result.0.now }
 {
     text.split_at(plain_len(text))
-}
-
-/// The number of plain bytes that a text begins with.
-#[inline]
-fn plain_len(text: &[u8]) -> usize
-    ensures within { result ≤ length text.now }
-    ensures plain { PlainBetween text.now 0 result }
-{
-    let mut at = 0;
-    while at < text.len() && is_plain(text[at]) {
-        at += 1;
-    }
-    at
-}
-
-/// Whether a byte stands in a JSON text as it is.
-#[inline]
-fn is_plain(byte: u8) -> bool
-    ensures { result ≡ is_plain byte }
-{
-    byte != b'"' && byte != b'\\' && byte >= 0x20
 }

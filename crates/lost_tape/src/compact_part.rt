@@ -1,7 +1,7 @@
 //! Parts of a compact line: a value at the front of a text, and what follows it (own format).
 ghost use Rattle.std.specs.Prelude.{◌≡◌, ◌++◌, ◌∷◌, ◌≤◌, IfSome, map, length};
 ghost use Rattle.std.specs.Str.{IsUtf8};
-ghost use Rattle.lost_tape.specs.Compact.{IsPlain};
+ghost use Rattle.lost_writing.specs.FoundLine.{IsPlain};
 ghost use Rattle.lost_tape.specs.Values.{IsPartBefore, IsListBefore};
 
 use crate::compact::{after, split_plain, utf8_of};

@@ -42,19 +42,19 @@ plain_from_lower b h = grind (arith, nat_tests)
 
 -- ---- texts of plain bytes
 
-plain_from_all : (bs : Text) → list_all is_plain bs ≡ true → IsPlain bs
+pub plain_from_all : (bs : Text) → list_all is_plain bs ≡ true → IsPlain bs
 plain_from_all [] h = refl
 plain_from_all (b ∷ bs) h =
     let parts = and_parts (is_plain b) (list_all is_plain bs) h in
     ap₂ (λ (x y : Text). x ++ y) (escape_byte_plain b (not_quote b parts.0) (not_backslash b parts.0) (no_control b parts.0)) (plain_from_all bs parts.1)
 
-all_unlowered : (bs : Text) → list_all is_plain (lowered bs) ≡ true → list_all is_plain bs ≡ true
+pub all_unlowered : (bs : Text) → list_all is_plain (lowered bs) ≡ true → list_all is_plain bs ≡ true
 all_unlowered [] h = refl
 all_unlowered (b ∷ bs) h =
     let parts = and_parts (is_plain (to_ascii_lowercase b)) (list_all is_plain (lowered bs)) h in
     rw (plain_from_lower b parts.0) (all_unlowered bs parts.1)
 
-all_of_label : (bs : Text) → list_all is_label_byte bs ≡ true → list_all is_plain bs ≡ true
+pub all_of_label : (bs : Text) → list_all is_label_byte bs ≡ true → list_all is_plain bs ≡ true
 all_of_label [] h = refl
 all_of_label (b ∷ bs) h =
     let parts = and_parts (is_label_byte b) (list_all is_label_byte bs) h in

@@ -1,7 +1,5 @@
 //! The lines that are sent most, written piece by piece: a `findService` reply with one mapping by reference.
-ghost use Rattle.std.specs.Prelude.{◌≡◌, ◌≤◌, [], ◌∷◌, ◌++◌, None, IfOk, IfSome, IsTrue, length};
-ghost use Rattle.json.specs.Run.{is_plain};
-ghost use Rattle.json.specs.Written.{PlainBetween};
+ghost use Rattle.std.specs.Prelude.{◌≡◌, ◌≤◌, [], ◌∷◌, ◌++◌, None, IfOk, IfSome};
 ghost use Rattle.serde_json.specs.Written.{compact_text};
 ghost use Rattle.lost_spec.specs.Request as spec;
 ghost use Rattle.lost_mapping.specs.Path.{shown_path};
@@ -9,6 +7,7 @@ ghost use Rattle.lost_mapping.specs.Reply.{all_shown_of, reply_of};
 ghost use Rattle.lost_writing.specs.FoundLine.{found_text, IsPlain};
 ghost use Rattle.lost_writing.specs.Replies.{list_data, reply_text, shown_data, texts_data};
 
+use crate::plain::plain_len;
 use itoa::Buffer;
 use lost_mapping::{Boundary, FoundMappings, Path, Reply};
 use std::alloc::{AllocError, Global};
@@ -118,27 +117,6 @@ fn plain_bytes(text: &str) -> Option<&[u8]>
         return None;
     }
     Some(bytes)
-}
-
-/// The number of plain bytes that a text begins with.
-#[inline]
-fn plain_len(text: &[u8]) -> usize
-    ensures within { result ≤ length text.now }
-    ensures plain { PlainBetween text.now 0 result }
-{
-    let mut at = 0;
-    while at < text.len() && is_plain(text[at]) {
-        at += 1;
-    }
-    at
-}
-
-/// Whether a byte stands in a JSON text as it is.
-#[inline]
-fn is_plain(byte: u8) -> bool
-    ensures { result ≡ is_plain byte }
-{
-    byte != b'"' && byte != b'\\' && byte >= 0x20
 }
 
 /// Writes the line of these pieces.

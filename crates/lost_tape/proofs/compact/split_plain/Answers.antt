@@ -1,5 +1,5 @@
 use Rattle.std.proofs.Common.{sym, subst}
-use Rattle.lost_tape.specs.Compact.{IsPlain}
+use Rattle.lost_writing.specs.FoundLine.{IsPlain}
 use Rattle.lost_tape.proofs.CompactParts.{plain_front}
 use Rattle.lost_tape.proofs.compact.split_plain.Goals as goal
 

@@ -1,6 +1,7 @@
 use Rattle.std.proofs.Common.{sym, subst}
 use Rattle.std.specs.Str.{IsUtf8}
-use Rattle.lost_tape.specs.Compact.{after_decimal, IsPlain}
+use Rattle.lost_tape.specs.Compact.{after_decimal}
+use Rattle.lost_writing.specs.FoundLine.{IsPlain}
 use Rattle.lost_tape.proofs.CompactParts.{decimal_of_parts}
 use Rattle.lost_tape.proofs.locations.read_compact_decimal.Goals as goal
 

@@ -1,6 +1,6 @@
 use Rattle.std.proofs.Common.{◌-◌, ◌≤◌, length}
 use Rattle.json.specs.Written.{PlainBetween}
-use Rattle.lost_writing.proofs.writing.found_line.plain_len.Given as goal
+use Rattle.lost_writing.proofs.plain.plain_len.Given as goal
 
 abbrev pub invariant-loop-at : goal.invariant-loop-at
 invariant-loop-at l = record { within : l.at ≤ length l.text; plain : PlainBetween l.text 0 l.at }
