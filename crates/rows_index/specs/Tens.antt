@@ -1,5 +1,5 @@
 -- Short stretches of whole numbers, and the tens that they meet (own).
-use Rattle.std.specs.Prelude.{ℕ, ◌+◌, ◌/◌, ◌≤◌, Bool, ◌&&◌, cond, List, [], ◌∷◌, nat_eq, nat_le}
+use Rattle.std.specs.Prelude.{ℕ, ◌+◌, ◌/◌, ◌%◌, ◌≤◌, Bool, ◌&&◌, cond, List, [], ◌∷◌, nat_eq, nat_le}
 
 -- from the least number to the greatest one, at most ten
 pub record IsShort (stretch : ℕ × ℕ) : Type 0 where
@@ -17,3 +17,7 @@ cover_of stretch = cond (nat_eq (stretch.0 / 10) (stretch.1 / 10)) (stretch.0 / 
 -- the tens of the number
 abbrev pub probes_of : ℕ → List ℕ
 probes_of number = number / 10 ∷ []
+
+-- the kind of the tens
+abbrev pub kind_of : ℕ → ℕ
+kind_of tens = tens % 8

@@ -5,7 +5,7 @@ use Rattle.std.proofs.lemmas.Bool.Decides.{nat_tests}
 use Rattle.std.proofs.lemmas.Bool.{and_parts}
 use Rattle.std.proofs.lemmas.Map.Keys.{IsDistinct-cons}
 use Rattle.lost_profile.specs.Keys.{SharesKey}
-use Rattle.rows_index.specs.Tens.{IsShort, within, cover_of, probes_of}
+use Rattle.rows_index.specs.Tens.{IsShort, within, cover_of, probes_of, kind_of}
 
 -- one of two tens, each once
 abbrev both : Bool → ℕ → ℕ → List ℕ
@@ -73,3 +73,7 @@ equal_ends_agree ends other number same =
     let parts = and_parts (nat_eq ends.0 other.0) (nat_eq ends.1 other.1) same in
     ap (λ low. nat_le low number && nat_le number ends.1) (same_number ends.0 other.0 parts.0)
     ∙ ap (λ high. nat_le other.0 number && nat_le number high) (same_number ends.1 other.1 parts.1)
+
+-- equal tens are of one kind
+pub equal_tens_are_of_one_kind : (tens other : ℕ) → nat_eq tens other ≡ true → kind_of tens ≡ kind_of other
+equal_tens_are_of_one_kind tens other same = ap kind_of (same_number tens other same)

@@ -1,9 +1,9 @@
 //! A profile of whole numbers, kept by their tens.
-ghost use Rattle.rows_index.specs.Tens.{IsShort, within, cover_of, probes_of};
-ghost use Rattle.rows_index.specs.TensLaws.{cover_meets_probes, cover_is_distinct, cover_is_bounded, equal_ends_agree};
+ghost use Rattle.rows_index.specs.Tens.{IsShort, within, cover_of, probes_of, kind_of};
+ghost use Rattle.rows_index.specs.TensLaws.{cover_meets_probes, cover_is_distinct, cover_is_bounded, equal_ends_agree, equal_tens_are_of_one_kind};
 
 use crate::tens::stretch::Stretch;
-use lost_profile::Profile;
+use lost_profile::{KINDS, Profile};
 use std::alloc::{AllocError, Global};
 
 /// Whole numbers, with short stretches as regions. A stretch is kept under the tens of its ends, and a number is looked
@@ -41,6 +41,8 @@ impl Profile for Tens {
 
     ghost may_hold = { within };
 
+    ghost kind_of = { kind_of };
+
     /// Whether the number lies between the ends, both included.
     fn contains(region: &Stretch, location: &u32) -> bool {
         region.low() <= *location && *location <= region.high()
@@ -73,6 +75,11 @@ impl Profile for Tens {
         outline.0 <= *location && *location <= outline.1
     }
 
+    /// The tens, modulo 8.
+    fn key_kind(key: &u32) -> usize {
+        *key as usize % KINDS
+    }
+
     ghost cover_meets_probes = { λ region location short _ holds. cover_meets_probes region location short holds };
 
     ghost cover_is_distinct = { λ region _. cover_is_distinct region };
@@ -82,4 +89,6 @@ impl Profile for Tens {
     ghost holder_is_near = { λ _ _ _ _ holds. holds };
 
     ghost equal_outlines_agree = { equal_ends_agree };
+
+    ghost equal_keys_are_of_one_kind = { equal_tens_are_of_one_kind };
 }
