@@ -74,7 +74,9 @@ pub(crate) fn count_of<A: Answering>(
     let mut count: u32 = 0;
     for number in 0..questions.len() {
         let reply = answering.reply(alloc, &questions.setting, questions.line(number))?;
-        if str::from_utf8(reply.as_slice()).is_ok_and(|text| text.contains(mark)) {
+        if let Ok(text) = str::from_utf8(reply.as_slice())
+            && text.contains(mark)
+        {
             count = count.saturating_add(1);
         }
     }

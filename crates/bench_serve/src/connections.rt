@@ -118,12 +118,12 @@ fn with_desk<R: Machine>(
     let mut desk = Client::to(rt, alloc, to_desk)?;
     load(rt, &mut desk, layout)?;
     let questions = Questions::of(alloc, layout, Kind::Found, LINES)?;
-    let alone = asked(rt, &mut client, &questions, lines)?;
+    let alone = ask_all(rt, &mut client, &questions, lines)?;
     let is_over = AtomicBool::new(false);
     let (beside, commits) = join(
         rt,
         || {
-            let beside = asked(rt, &mut client, &questions, lines);
+            let beside = ask_all(rt, &mut client, &questions, lines);
             is_over.store(true, Ordering::SeqCst);
             beside
         },
@@ -191,13 +191,13 @@ fn commit_often<R: Machine>(
 }
 
 /// Sends so many lines, each after the reply to the one before.
-fn asked<R: Machine>(
+fn ask_all<R: Machine>(
     rt: &R,
     client: &mut Client,
     questions: &Questions,
     lines: u32,
 ) -> io::Result<Asked> {
-    let mut asked = Asked {
+    let mut got = Asked {
         found: 0,
         spans: Vec::new(rt.alloc()),
     };
@@ -206,10 +206,10 @@ fn asked<R: Machine>(
         line.push(b'\n')?;
         let start = Instant::now(rt)?;
         let reply = client.ask(line.as_slice(), 1)?;
-        asked.spans.push(nanoseconds(start.elapsed(rt)?))?;
-        asked.found = asked
+        got.spans.push(nanoseconds(start.elapsed(rt)?))?;
+        got.found = got
             .found
             .saturating_add(u32::from(reply.starts_with(FOUND)));
     }
-    Ok(asked)
+    Ok(got)
 }

@@ -54,7 +54,7 @@ impl Map {
         let Ok((mut desk, readers)) = open_desk(rt, rt.alloc(), Limits::widest(), READERS) else {
             return Err(io::Error::from(io::ErrorKind::OutOfMemory));
         };
-        match load(rt, &mut desk, layout) {
+        match fill(rt, &mut desk, layout) {
             Ok(load) => Ok((
                 Map {
                     desk,
@@ -117,7 +117,7 @@ pub(crate) fn edit_of(alloc: Global, line: &str) -> io::Result<Edit> {
 }
 
 /// Publishes a map by its lines. Each must be accepted.
-fn load<R: Wait + Clock + AllocGlobal>(
+fn fill<R: Wait + Clock + AllocGlobal>(
     rt: &R,
     desk: &mut Desk,
     layout: Layout,
