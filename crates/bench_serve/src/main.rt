@@ -27,7 +27,12 @@ use crate::machine::Machine;
 use crate::map::Map;
 use lost_desk::Readers;
 use std::io;
+use std::net::{Net, TcpListener, TcpStream};
 use std::process::ExitCode;
+use std::random::RandomSource;
+use std::sync::Wait;
+use std::thread::Threads;
+use std::time::Clock;
 use test_parts::given;
 
 /// The maps of the counts: 16 districts, 20 roads, and 4 districts with 3 mappings over each.
@@ -71,7 +76,19 @@ fn main(rt: HostRuntime) -> io::Result<ExitCode> {
 }
 
 /// Runs a command.
-fn run<R: Machine>(rt: &R, word: &str) -> io::Result<()> {
+fn run<
+    R: Net<Listener = TcpListener, Stream = TcpStream>
+        + Threads
+        + Wait
+        + Clock
+        + Print
+        + Eprint
+        + RandomSource
+        + Clone
+        + Send
+        + Sync
+        + AllocGlobal,
+>(rt: &R, word: &str) -> io::Result<()> {
     match word {
         "lines" => {
             for layout in [SMALL, LARGE, SMALL_ROADS, LARGE_ROADS] {
