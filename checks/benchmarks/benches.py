@@ -155,7 +155,7 @@ def read_plain(text: str) -> Read:
     if len(heads) != 1 or not found or len(ratios) != len(found) or len(found) != len(sizes) * len(names):
         raise Unexpected(f"{len(found)} rows of {len(sizes)} sizes")
     lines = [[what.partition(",")[0] if what.startswith(("loading", "most")) else what, *(ratios[size, what] for size in sizes)] for what in names]
-    said = "`replay` beside a server of the same lines in plain Rust (checks/plain-server): lostd's figure as a share of its, by processor time. Questions: how many a second. Loading: the time. Most memory: the bytes."
+    said = "A share of what a server of the same lines in plain Rust has, by processor time: questions a second, the time of loading, the bytes of memory."
     return f"{said}\n\n{table(['Mappings', *sizes], lines)}", {}
 
 

@@ -9,7 +9,7 @@ This page is for whoever plans a server. `checks/benchmarks/run` writes it from 
 
 {run}
 
-"Cold ratio" is how many times as long the larger map takes where the processor's caches are emptied before each line. It compares the work. One line after another, the small map stays in the caches, and the large one does not: its boundaries take some 200 MB.
+"Cold ratio" is how many times as long the larger map takes where the processor's caches are emptied before each line. It compares the work.
 """
 RUN = re.compile(r"^Measured on (\S+) at commit (.+?), on (.+)\.$", re.MULTILINE)
 SECTION = "\n## "

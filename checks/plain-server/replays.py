@@ -8,6 +8,8 @@ from programs import Failed, Replay, file_pieces, most_resident
 from questions import SHOWN, Questions
 
 MEGABYTE = 1_000_000
+# A time of nothing counts as this many seconds: the system brings the times of a process up to date in steps.
+LEAST = 0.0001
 HEAD = ("mappings", "what", "lostd", "plain", "lostd / plain")
 
 
@@ -72,7 +74,7 @@ class Comparison:
                 runs = [owner.enter_context(Replay(program)) for program in self.programs]
                 told = in_turns(number, runs, lambda run: run.ask(file_pieces(self.path), count))
                 need_same(b"", [replies for replies, _ in told])
-                spent.append([seconds for _, seconds in told])
+                spent.append([max(seconds, LEAST) for _, seconds in told])
                 memory.append([most_resident(run.process) / MEGABYTE for run in runs])
         self.show("loading, seconds", Turns(spent), "{:.3f}")
         self.show("most memory, megabytes", Turns(memory), "{:,.0f}")
@@ -90,7 +92,7 @@ class Comparison:
         for number in range(self.given.rounds + 1):
             told = in_turns(number, runs, lambda run: run.ask([lines], count))
             need_same(lines, [replies for replies, _ in told])
-            rates.append([count / max(seconds, 1e-9) for _, seconds in told])
+            rates.append([count / max(seconds, LEAST) for _, seconds in told])
         self.show(SHOWN[kind], Turns(rates[1:]), "{:,.0f}")
 
 
