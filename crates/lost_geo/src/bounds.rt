@@ -3,20 +3,21 @@
 ghost use Rattle.std.specs.Prelude.{◌≡◌, [], ◌∷◌};
 ghost use Rattle.std.specs.Int.{int_min, int_max};
 ghost use Rattle.lost_geo.specs.Bounds.{is_from_to as is_in_order};
+ghost use Rattle.lost_geo.specs.Ranges.{IsLon};
 
 use crate::point::GeoPoint;
 
-/// The least and the greatest latitude and longitude of a ring's positions, in whole 1e-7 degrees.
+/// The least and the greatest latitude and longitude of a ring's positions, in whole 1e-7 degrees. They take 16 bytes.
 #[derive(Clone, Copy, PartialEq, Eq, Hash, Debug)]
 pub struct Bounds {
     /// The least latitude.
-    pub lat_min: i64,
+    pub lat_min: i32,
     /// The greatest latitude.
-    pub lat_max: i64,
+    pub lat_max: i32,
     /// The least longitude.
-    pub lon_min: i64,
+    pub lon_min: i32,
     /// The greatest longitude.
-    pub lon_max: i64,
+    pub lon_max: i32,
 }
 
 impl Bounds {
@@ -39,7 +40,7 @@ impl Bounds {
         ensures bounds { result ≡ bounds_of (place.now ∷ []) }
         ensures in_range { AreInRange result }
     {
-        let (lat, lon) = (place.lat(), place.lon());
+        let (lat, lon) = (place.lat() as i32, place.lon() as i32);
         Bounds {
             lat_min: lat,
             lat_max: lat,
@@ -59,10 +60,10 @@ impl Bounds {
     {
         let (lat, lon) = (place.lat(), place.lon());
         Bounds {
-            lat_min: self.lat_min.min(lat),
-            lat_max: self.lat_max.max(lat),
-            lon_min: self.lon_min.min(lon),
-            lon_max: self.lon_max.max(lon),
+            lat_min: lesser(self.lat_min, lat),
+            lat_max: greater(self.lat_max, lat),
+            lon_min: lesser(self.lon_min, lon),
+            lon_max: greater(self.lon_max, lon),
         }
     }
 
@@ -75,9 +76,25 @@ impl Bounds {
     }
 }
 
+/// The lesser of a bound and a coordinate.
+fn lesser(bound: i32, coordinate: i64) -> i32
+    requires { IsLon coordinate }
+    ensures { result ≡ int_min bound coordinate }
+{
+    i64::from(bound).min(coordinate) as i32
+}
+
+/// The greater of a bound and a coordinate.
+fn greater(bound: i32, coordinate: i64) -> i32
+    requires { IsLon coordinate }
+    ensures { result ≡ int_max bound coordinate }
+{
+    i64::from(bound).max(coordinate) as i32
+}
+
 /// Whether the number lies from `low` to `high`, both included.
-fn is_from_to(low: i64, high: i64, number: i64) -> bool
+fn is_from_to(low: i32, high: i32, number: i64) -> bool
     ensures { result ≡ is_in_order low high number }
 {
-    low <= number && number <= high
+    i64::from(low) <= number && number <= i64::from(high)
 }

@@ -27,8 +27,8 @@ impl Run {
     {
         let bounds = Bounds::of(&positions[0], &positions[1..]);
         Run {
-            lat_min: bounds.lat_min as i32,
-            lat_max: bounds.lat_max as i32,
+            lat_min: bounds.lat_min,
+            lat_max: bounds.lat_max,
         }
     }
 

@@ -107,8 +107,8 @@ fn is_within(bounds: &Bounds, place: &GeoPoint) -> bool
 }
 
 /// Whether the number lies from `low` to `high`, both included.
-fn is_from_to(low: i64, high: i64, number: i64) -> bool
+fn is_from_to(low: i32, high: i32, number: i64) -> bool
     ensures { result ≡ is_in_order low high number }
 {
-    low <= number && number <= high
+    i64::from(low) <= number && number <= i64::from(high)
 }

@@ -38,7 +38,7 @@ impl Lines {
         ensures rows { numbers result ≡ rows level bounds.now }
         ensures in_range { IsStretch result }
     {
-        Lines::between(level, bounds.lat_min, bounds.lat_max)
+        Lines::between(level, i64::from(bounds.lat_min), i64::from(bounds.lat_max))
     }
 
     /// The columns of a level that bounds meet.
@@ -48,7 +48,7 @@ impl Lines {
         ensures columns { numbers result ≡ columns level bounds.now }
         ensures in_range { IsStretch result }
     {
-        Lines::between(level, bounds.lon_min, bounds.lon_max)
+        Lines::between(level, i64::from(bounds.lon_min), i64::from(bounds.lon_max))
     }
 
     /// The rows or columns of a level, from the one of `low` to the one of `high`.
