@@ -64,6 +64,9 @@ impl Regions {
         for region in regions {
             read.add(alloc, region)?;
         }
+        read.polygons.shrink_to_fit();
+        read.patterns.shrink_to_fit();
+        read.token_sets.shrink_to_fit();
         Ok(read)
     }
 

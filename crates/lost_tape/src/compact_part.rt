@@ -61,7 +61,7 @@ pub(crate) fn read_front_list<'a, T: CompactPart<'a>>(
 ) -> Option<(Vec<T>, &[u8])>
     ensures { IfSome result (λ found. IsListBefore T.DEEP T.meant text.now (map T.seen found.0.items) found.1.now) }
 {
-    let mut list = Vec::new(alloc);
+    let mut list = Vec::with_capacity(alloc, 1).ok()?;
     let mut rest = after(text, b"[")?;
     loop {
         let (part, behind) = T::read_front(alloc, rest)?;
