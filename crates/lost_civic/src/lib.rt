@@ -15,4 +15,4 @@ pub use elements::Element;
 pub use lost_spec::faults::CivicError;
 pub use patterns::CivicPattern;
 pub use refusals::MAX_TEXT_BYTES;
-pub use signatures::Signature;
+pub use signatures::{Signature, element_hash};

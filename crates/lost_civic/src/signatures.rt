@@ -31,7 +31,7 @@ impl Signature {
         ensures { result.bits ≡ bit_or self.bits (bits_of element (Some text.now)) }
     {
         Signature {
-            bits: self.bits | hash_bits(hash(element, text)),
+            bits: self.bits | hash_bits(element_hash(element, text)),
         }
     }
 }
@@ -51,9 +51,9 @@ fn hash_bits(hash: u64) -> u64
     bit(hash) | bit(hash / 64) | bit(hash / 4096)
 }
 
-/// The hash of an element with its comparison text.
+/// The hash of an element with its comparison text: 64 bits, the same in each run (own rule). It takes no memory.
 #[tactic(auto, unfolding(crate::specs::Signatures::hash_of))]
-fn hash(element: Element, text: &str) -> u64
+pub fn element_hash(element: Element, text: &str) -> u64
     ensures { result ≡ hash_of element text.now }
 {
     let mut hasher = FoldHasher::default();
@@ -67,7 +67,7 @@ pub(crate) fn element_bits(element: Element, text: Option<&str>) -> u64
     ensures { result ≡ bits_of element (option_copied text.entry) }
 {
     match text {
-        Some(text) => hash_bits(hash(element, text)),
+        Some(text) => hash_bits(element_hash(element, text)),
         None => 0,
     }
 }

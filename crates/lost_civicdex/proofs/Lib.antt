@@ -1,2 +1,2 @@
-pub mod NamedLemmas
+pub mod MadeLemmas
 pub mod RequiredLemmas

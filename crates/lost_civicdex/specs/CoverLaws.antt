@@ -1,7 +1,9 @@
 -- The laws of covers and probes.
-use Rattle.std.proofs.Common.{◌≡◌, ◌-◌, ◌<◌, true, List, [], length, get_or, option_map, option_to_list, Option, Some, None, IsSome, IfSome, IsTrue, Contains, refl, sym, subst, ap, arith}
+use Rattle.std.proofs.Common.{◌≡◌, ◌-◌, ◌<◌, true, List, [], length, get_or, option_map, option_to_list, Option, Some, None, IsSome, IfSome, IsTrue, Contains, refl, sym, subst, ap, ◌∙◌, arith, map}
 use Rattle.std.proofs.lemmas.Bool.{false≢true}
 use Rattle.std.proofs.lemmas.Slice.Eq.{bytes_eq-Decides}
+use Rattle.std.proofs.lemmas.List.{length-map}
+use Rattle.std.proofs.Math.ListN.{get_or-map}
 use Rattle.std.proofs.lemmas.List.Sums.{AllPass-from_list_all}
 use Rattle.lost_spec.specs.Text.{Text}
 use Rattle.lost_spec.specs.Civic.{Pairs, value_of, comparison_text, compares_to, has_value, matches}
@@ -12,12 +14,15 @@ use Rattle.lost_civic.proofs.Present.{shared_text, HasElement-pattern}
 use Rattle.lost_profile.specs.Keys.{SharesKey}
 use Rattle.lost_civicdex.specs.Keys.{Key, keys_of, last_of, last_key}
 use Rattle.lost_civicdex.specs.Covers.{civic_cover, IsPattern, names_all, required_probes, IsRequirement}
-pub use Rattle.lost_civicdex.specs.KeysApart.{keys_distinct, one_distinct, keys_bounded, one_at_most}
 use Rattle.lost_civicdex.specs.KeyPresence.{key_stands, stands_from_key, has_last}
 
 -- a found thing is in the list of what was found
 in_found : {X : Type 0} (found : Option X) (x : X) → found ≡ Some x → Contains (option_to_list found) x
 in_found found x is = subst (λ own. Contains (option_to_list own) x) (sym is) (0, omega arith, refl)
+
+-- what is made of a thing in a list is in the list of what is made of each
+pub in_map : {X Y : Type 0} (made : X → Y) (xs : List X) (x : X) → Contains xs x → Contains (map made xs) (made x)
+in_map made xs x h = (h.0, omega (arith, length-map xs made, h.1), get_or-map made xs h.0 x ∙ ap made h.2)
 
 pub text_from_IsSome : (found : Option Text) → IsSome found → (text : Text) × (found ≡ Some text)
 text_from_IsSome None h = absurd (false≢true h)

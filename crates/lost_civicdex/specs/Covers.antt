@@ -1,4 +1,5 @@
--- The keys that a pattern is kept under, and those that are looked up: for an address, and for required elements.
+-- The keys that a pattern is kept under, and those that are looked up: for an address, and for required elements. An
+-- index holds them hashed (HashedKeys.antt).
 use Rattle.std.specs.Prelude.{Bool, List, option_to_list, ◌≡◌, ◌<◌, None, length}
 use Rattle.std.specs.List.{list_all}
 use Rattle.lost_spec.specs.Civic.{Pairs, pattern_fault, address_fault, has_value}

@@ -1,70 +1,80 @@
 -- The keys of an address or a pattern are all different, and at most 31.
-use Rattle.std.proofs.Common.{◌≡◌, ℕ, ◌+◌, ◌≤◌, Bool, true, false, not, ◌&&◌, List, [], ◌∷◌, length, filter_map, option_map, Option, Some, None, nat_eq, refl, arith, option_to_list}
+use Rattle.std.proofs.Common.{◌≡◌, ℕ, ◌+◌, ◌≤◌, Bool, true, false, not, ◌&&◌, List, [], ◌∷◌, length, map, filter_map, option_map, Option, Some, None, refl, arith, option_to_list}
 use Rattle.std.specs.Cmp.{first_so, second_so}
 use Rattle.std.specs.List.{cons_option, list_all, AllByRecursion, IsDistinct}
 use Rattle.std.proofs.lemmas.Bool.{false≢true}
 use Rattle.std.proofs.lemmas.Map.Keys.{IsDistinct-cons}
-use Rattle.lost_spec.specs.Text.{Text, same_text}
+use Rattle.lost_spec.specs.Text.{Text}
 use Rattle.lost_spec.specs.Civic.{Pairs}
 use Rattle.lost_civic.specs.declared.elements.Element.{Element}
-use Rattle.lost_civic.specs.Element.{element_index, all_elements}
+use Rattle.lost_civic.specs.Element.{all_elements}
 use Rattle.lost_civic.specs.Texts.{text_of}
 use Rattle.lost_civicdex.specs.Keys.{Key, key_of, keys_of}
-use Rattle.lost_civicdex.specs.KeyOrder.{same_key}
 
--- ---- elements
+false_from_not : (b : Bool) → not b ≡ true → b ≡ false
+false_from_not false h = refl
+false_from_not true h = absurd (false≢true h)
 
--- the elements differ from one
-abbrev pub differ_from : Element → List Element → Bool
-differ_from element others = list_all (λ other. not (nat_eq (element_index element) (element_index other))) others
+-- ---- what is made of keys, with any test that tells apart what is made of keys of different elements
+module _ {X : Type 0} (made : Key → X) (same : X → X → Bool) where
+  -- the keys of the elements, with one text, differ from the key of an element
+  abbrev differ_from : Element → Text → Text → List Element → Bool
+  differ_from element text own others = list_all (λ other. not (same (made (element, text)) (made (other, own)))) others
 
--- each element of a list differs from those after it
-abbrev pub are_apart : List Element → Bool
-are_apart [] = true
-are_apart (element ∷ rest) = differ_from element rest && are_apart rest
+  -- each element of a list differs from those after it, whatever their texts are
+  abbrev pub are_apart : Text → Text → List Element → Bool
+  are_apart text own [] = true
+  are_apart text own (element ∷ rest) = differ_from element text own rest && are_apart text own rest
 
-elements_apart : are_apart all_elements ≡ true
-elements_apart = refl
+  abbrev pub AreApart : List Element → Type 0
+  AreApart elements = (text own : Text) → are_apart text own elements ≡ true
 
--- ---- their keys
+  abbrev Differ : Element → Text → List Key → Type 0
+  Differ element text keys = AllByRecursion (λ other. same (made (element, text)) other ≡ false) (map made keys)
 
-not_same : (same : Bool) (texts : Bool) → not same ≡ true → (same && texts) ≡ false
-not_same true texts h = absurd (false≢true h)
-not_same false texts h = refl
+  differ_by : (element other : Element) (text : Text) (found : Option Text) (keys : List Key)
+      → ((own : Text) → not (same (made (element, text)) (made (other, own))) ≡ true) → Differ element text keys
+      → Differ element text (cons_option (option_map (λ own. (other, own)) found) keys)
+  differ_by element other text None keys apart h = h
+  differ_by element other text (Some own) keys apart h =
+      (false_from_not (same (made (element, text)) (made (other, own))) (apart own), h)
 
-keys_differ_by : (element other : Element) (text : Text) (found : Option Text) (keys : List Key) → not (nat_eq (element_index element) (element_index other)) ≡ true → AllByRecursion (λ key. same_key (element, text) key ≡ false) keys → AllByRecursion (λ key. same_key (element, text) key ≡ false) (cons_option (option_map (λ own. (other, own)) found) keys)
-keys_differ_by element other text None keys apart h = h
-keys_differ_by element other text (Some own) keys apart h =
-    (not_same (nat_eq (element_index element) (element_index other)) (same_text text own) apart, h)
+  -- a key differs from those of other elements
+  differ : (pairs : Pairs) (element : Element) (text : Text) (others : List Element)
+      → ((own : Text) → differ_from element text own others ≡ true) → Differ element text (filter_map (key_of pairs) others)
+  differ pairs element text [] apart = tt
+  differ pairs element text (other ∷ rest) apart =
+      let here : Text → Bool = λ own. not (same (made (element, text)) (made (other, own))) in
+      differ_by element other text (text_of other pairs) (filter_map (key_of pairs) rest)
+      (λ own. first_so (here own) (differ_from element text own rest) (apart own))
+      (differ pairs element text rest (λ own. second_so (here own) (differ_from element text own rest) (apart own)))
 
--- a key differs from those of other elements
-keys_differ : (pairs : Pairs) (element : Element) (text : Text) (others : List Element) → differ_from element others ≡ true → AllByRecursion (λ key. same_key (element, text) key ≡ false) (filter_map (key_of pairs) others)
-keys_differ pairs element text [] apart = tt
-keys_differ pairs element text (other ∷ rest) apart =
-    let here = not (nat_eq (element_index element) (element_index other)) in
-    keys_differ_by element other text (text_of other pairs) (filter_map (key_of pairs) rest) (first_so here (differ_from element rest) apart) (keys_differ pairs element text rest (second_so here (differ_from element rest) apart))
+  distinct_none : IsDistinct same []
+  unfolding IsDistinct
+  distinct_none = tt
 
-distinct_by : (element : Element) (found : Option Text) (keys : List Key) → ((text : Text) → AllByRecursion (λ key. same_key (element, text) key ≡ false) keys) → IsDistinct same_key keys → IsDistinct same_key (cons_option (option_map (λ text. (element, text)) found) keys)
-distinct_by element None keys differ h = h
-distinct_by element (Some text) keys differ h = IsDistinct-cons same_key (element, text) keys (differ text) h
+  distinct_by : (element : Element) (found : Option Text) (keys : List Key) → ((text : Text) → Differ element text keys)
+      → IsDistinct same (map made keys) → IsDistinct same (map made (cons_option (option_map (λ text. (element, text)) found) keys))
+  distinct_by element None keys differs h = h
+  distinct_by element (Some text) keys differs h = IsDistinct-cons same (made (element, text)) (map made keys) (differs text) h
 
-distinct_none : IsDistinct same_key []
-unfolding IsDistinct
-distinct_none = tt
+  distinct_of : (pairs : Pairs) (elements : List Element) → AreApart elements
+      → IsDistinct same (map made (filter_map (key_of pairs) elements))
+  distinct_of pairs [] apart = distinct_none
+  distinct_of pairs (element ∷ rest) apart =
+      let here : Text → Text → Bool = λ text own. differ_from element text own rest in
+      distinct_by element (text_of element pairs) (filter_map (key_of pairs) rest)
+      (λ text. differ pairs element text rest (λ own. first_so (here text own) (are_apart text own rest) (apart text own)))
+      (distinct_of pairs rest (λ text own. second_so (here text own) (are_apart text own rest) (apart text own)))
 
-distinct_of : (pairs : Pairs) (elements : List Element) → are_apart elements ≡ true → IsDistinct same_key (filter_map (key_of pairs) elements)
-distinct_of pairs [] apart = distinct_none
-distinct_of pairs (element ∷ rest) apart =
-    distinct_by element (text_of element pairs) (filter_map (key_of pairs) rest) (λ text. keys_differ pairs element text rest (first_so (differ_from element rest) (are_apart rest) apart)) (distinct_of pairs rest (second_so (differ_from element rest) (are_apart rest) apart))
+  -- nothing that is made of them stands twice
+  pub keys_distinct : AreApart all_elements → (pairs : Pairs) → IsDistinct same (map made (keys_of pairs))
+  keys_distinct apart pairs = distinct_of pairs all_elements apart
 
--- no key stands twice
-pub keys_distinct : (pairs : Pairs) → IsDistinct same_key (keys_of pairs)
-keys_distinct pairs = distinct_of pairs all_elements elements_apart
-
--- one key is not there twice
-pub one_distinct : (found : Option Key) → IsDistinct same_key (option_to_list found)
-one_distinct None = distinct_none
-one_distinct (Some key) = IsDistinct-cons same_key key [] tt distinct_none
+  -- what is made of one key is not there twice
+  pub one_distinct : (found : Option Key) → IsDistinct same (map made (option_to_list found))
+  one_distinct None = distinct_none
+  one_distinct (Some key) = IsDistinct-cons same (made key) [] tt distinct_none
 
 -- ---- their number
 

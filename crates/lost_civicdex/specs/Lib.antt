@@ -1,5 +1,7 @@
 pub mod CoverLaws
 pub mod Covers
+pub mod HashedKeys
+pub mod HashedLaws
 pub mod KeyLemmas
 pub mod KeyOrder
 pub mod KeyPresence

@@ -2,20 +2,20 @@
 
 ghost use Rattle.std.specs.Prelude.{refl};
 ghost use Rattle.lost_spec.specs.Civic.{matches};
-ghost use Rattle.lost_civicdex.specs.Keys.{keys_of};
-ghost use Rattle.lost_civicdex.specs.Covers.{civic_cover, signature, may_match, IsPattern, IsAddress};
-ghost use Rattle.lost_civicdex.specs.CoverLaws.{civic_shares, one_distinct, one_at_most};
+ghost use Rattle.lost_civicdex.specs.Covers.{signature, may_match, IsPattern, IsAddress};
+ghost use Rattle.lost_civicdex.specs.HashedKeys.{hashed_cover, hashed_keys};
+ghost use Rattle.lost_civicdex.specs.HashedLaws.{hashed_civic_shares, hashed_cover_distinct, hashed_cover_bounded};
 ghost use Rattle.lost_civicdex.specs.OutlineLaws.{match_is_near, equal_signatures_agree};
 
-use crate::ElementKey;
-use crate::texts::{find_last, make_keys};
+use crate::HashedKey;
+use crate::texts::{find_last, hash_keys};
 use lost_civic::{CivicAddress, CivicPattern, Element, Signature};
 use lost_profile::Profile;
 use std::alloc::{AllocError, Global};
 
-/// Civic addresses among civic patterns (RFC 5222, section 12.3). A pattern is kept under the key of its last element
-/// in the order of the table, and an address is looked up under the keys of all its known elements. An outline is the
-/// pattern's signature.
+/// Civic addresses among civic patterns (RFC 5222, section 12.3). A pattern is kept under the hashed key of its last
+/// element in the order of the table, and an address is looked up under the hashed keys of all its known elements. An
+/// outline is the pattern's signature.
 pub struct Civic;
 
 impl Profile for Civic {
@@ -23,9 +23,9 @@ impl Profile for Civic {
 
     type Region = CivicPattern;
 
-    type Key = ElementKey;
+    type Key = HashedKey;
 
-    type Probes = Vec<ElementKey>;
+    type Probes = Vec<HashedKey>;
 
     type Outline = Signature;
 
@@ -41,9 +41,9 @@ impl Profile for Civic {
 
     ghost holds = { matches };
 
-    ghost cover_of = { civic_cover };
+    ghost cover_of = { hashed_cover };
 
-    ghost probes_of = { keys_of };
+    ghost probes_of = { hashed_keys };
 
     ghost outline_of = { signature };
 
@@ -57,22 +57,22 @@ impl Profile for Civic {
         region.matches(location)
     }
 
-    /// The key of the pattern's last element, alone.
-    fn cover(alloc: Global, region: &CivicPattern) -> Result<Vec<ElementKey>, AllocError> {
+    /// The hashed key of the pattern's last element, alone.
+    fn cover(alloc: Global, region: &CivicPattern) -> Result<Vec<HashedKey>, AllocError> {
         // One key, since a pattern names some element.
         let room = region.pairs().len().min(Self::COVER_MAX);
         let mut keys = Vec::with_capacity(alloc, room)?;
         match find_last(region) {
-            Some((element, text)) => keys.push(ElementKey::new(alloc, element, text)?)?,
+            Some((element, text)) => keys.push(HashedKey::new(element, text))?,
             None => {}
         }
         Ok(keys)
     }
 
-    /// The keys of the address's known elements, in the order of the table.
-    fn probes(alloc: Global, location: &CivicAddress) -> Result<Vec<ElementKey>, AllocError> {
+    /// The hashed keys of the address's known elements, in the order of the table.
+    fn probes(alloc: Global, location: &CivicAddress) -> Result<Vec<HashedKey>, AllocError> {
         let room = location.pairs().len().min(Element::ALL.len());
-        make_keys(alloc, location, &Element::ALL, room)
+        hash_keys(alloc, location, &Element::ALL, room)
     }
 
     /// The signature of the pattern.
@@ -86,15 +86,15 @@ impl Profile for Civic {
     }
 
     /// All keys are of one kind.
-    fn key_kind(_key: &ElementKey) -> usize {
+    fn key_kind(_key: &HashedKey) -> usize {
         0
     }
 
-    ghost cover_meets_probes = { λ region location lawful _ holds. civic_shares region location lawful holds };
+    ghost cover_meets_probes = { λ region location lawful _ holds. hashed_civic_shares region location lawful holds };
 
-    ghost cover_is_distinct = { λ region _. one_distinct _ };
+    ghost cover_is_distinct = { λ region _. hashed_cover_distinct _ region };
 
-    ghost cover_is_bounded = { λ region _. one_at_most _ };
+    ghost cover_is_bounded = { λ region _. hashed_cover_bounded region };
 
     ghost holder_is_near = { λ region location _ _ holds. match_is_near region location holds };
 

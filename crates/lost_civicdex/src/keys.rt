@@ -13,8 +13,9 @@ use std::cmp::Ordering;
 use std::hash::{Hash, Hasher};
 use std::marker::Model;
 
-/// An element with the comparison text of a value, by which an index finds civic patterns. Contracts see a key as the
-/// pair of both. Keys are ordered by their elements' positions in the table, and then by the bytes of their texts.
+/// An element with the comparison text of a value, as a validation requires it. An index holds a `HashedKey` in its
+/// place. Contracts see a key as the pair of both. Keys are ordered by their elements' positions in the table, and then
+/// by the bytes of their texts.
 #[derive(Drop)]
 pub struct ElementKey {
     element: Element,

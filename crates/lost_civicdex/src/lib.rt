@@ -2,6 +2,7 @@
 #![tactic(auto)]
 
 mod civic;
+mod hashed_key;
 mod keys;
 pub mod laws;
 mod named;
@@ -11,6 +12,7 @@ pub mod rows;
 mod texts;
 
 pub use civic::Civic;
+pub use hashed_key::HashedKey;
 pub use keys::ElementKey;
 pub use named::Named;
 pub use references::References;

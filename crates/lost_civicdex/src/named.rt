@@ -98,7 +98,7 @@ impl Profile for Named {
 
     ghost cover_meets_probes = { λ region location _ _ holds. named_shares region location holds };
 
-    ghost cover_is_distinct = { λ region _. named_distinct _ refl region };
+    ghost cover_is_distinct = { λ region _. named_distinct _ (λ _ _. refl) region };
 
     ghost cover_is_bounded = { λ region _. named_bounded region };
 

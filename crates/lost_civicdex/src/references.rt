@@ -3,21 +3,21 @@
 ghost use Rattle.std.specs.Prelude.{◌≡◌, refl};
 ghost use Rattle.lost_spec.specs.Civic.{has_value};
 ghost use Rattle.lost_civic.specs.Element.{element_name};
-ghost use Rattle.lost_civicdex.specs.Keys.{keys_of};
-ghost use Rattle.lost_civicdex.specs.Covers.{names_all, required_probes, signature, may_name, IsPattern, IsRequirement};
-ghost use Rattle.lost_civicdex.specs.CoverLaws.{required_shares, keys_distinct, keys_bounded};
+ghost use Rattle.lost_civicdex.specs.Covers.{names_all, signature, may_name, IsPattern, IsRequirement};
+ghost use Rattle.lost_civicdex.specs.HashedKeys.{hashed_keys, hashed_probes};
+ghost use Rattle.lost_civicdex.specs.HashedLaws.{hashed_required_shares, hashed_keys_distinct, hashed_keys_bounded};
 ghost use Rattle.lost_civicdex.specs.OutlineLaws.{named_is_near, equal_signatures_agree_on_keys};
 
-use crate::texts::make_keys;
-use crate::{ElementKey, RequiredElements};
+use crate::texts::hash_keys;
+use crate::{ElementKey, HashedKey, RequiredElements};
 use lost_civic::{CivicPattern, Element, Signature};
 use lost_profile::Profile;
 use std::alloc::{AllocError, Global};
 
 /// Required elements among civic patterns: a pattern contains them where it names each of them with its comparison
 /// text. So an index finds the patterns that are references for an address in a validation (RFC 5222, section 8.4.2;
-/// the policy is an own rule). A pattern is kept under the keys of all its elements, in the order of the table, and
-/// required elements are looked up under the last of them. An outline is the pattern's signature.
+/// the policy is an own rule). A pattern is kept under the hashed keys of all its elements, in the order of the
+/// table, and required elements are looked up under that of the last of them. An outline is the pattern's signature.
 pub struct References;
 
 /// Whether the pattern names the key's element with the key's comparison text.
@@ -35,9 +35,9 @@ impl Profile for References {
 
     type Region = CivicPattern;
 
-    type Key = ElementKey;
+    type Key = HashedKey;
 
-    type Probes = Vec<ElementKey>;
+    type Probes = Vec<HashedKey>;
 
     type Outline = Signature;
 
@@ -53,9 +53,9 @@ impl Profile for References {
 
     ghost holds = { names_all };
 
-    ghost cover_of = { keys_of };
+    ghost cover_of = { hashed_keys };
 
-    ghost probes_of = { required_probes };
+    ghost probes_of = { hashed_probes };
 
     ghost outline_of = { signature };
 
@@ -68,18 +68,18 @@ impl Profile for References {
         location.keys().iter().all(|key| names_key(region, key))
     }
 
-    /// The keys of the pattern's elements, in the order of the table.
-    fn cover(alloc: Global, region: &CivicPattern) -> Result<Vec<ElementKey>, AllocError> {
+    /// The hashed keys of the pattern's elements, in the order of the table.
+    fn cover(alloc: Global, region: &CivicPattern) -> Result<Vec<HashedKey>, AllocError> {
         let room = region.pairs().len();
-        make_keys(alloc, region, &Element::ALL, room)
+        hash_keys(alloc, region, &Element::ALL, room)
     }
 
-    /// The key of the last required element, alone.
-    fn probes(alloc: Global, location: &RequiredElements) -> Result<Vec<ElementKey>, AllocError> {
+    /// The hashed key of the last required element, alone.
+    fn probes(alloc: Global, location: &RequiredElements) -> Result<Vec<HashedKey>, AllocError> {
         let last = location.keys().last();
         let mut keys = Vec::with_capacity(alloc, 1)?;
         match last {
-            Some(key) => keys.push(key.clone()?)?,
+            Some(key) => keys.push(HashedKey::new(key.element(), key.text()))?,
             None => {}
         }
         Ok(keys)
@@ -96,15 +96,15 @@ impl Profile for References {
     }
 
     /// All keys are of one kind.
-    fn key_kind(_key: &ElementKey) -> usize {
+    fn key_kind(_key: &HashedKey) -> usize {
         0
     }
 
-    ghost cover_meets_probes = { λ region location _ some holds. required_shares region location some holds };
+    ghost cover_meets_probes = { λ region location _ some holds. hashed_required_shares region location some holds };
 
-    ghost cover_is_distinct = { λ region _. keys_distinct region };
+    ghost cover_is_distinct = { λ region _. hashed_keys_distinct _ (λ _ _. refl) region };
 
-    ghost cover_is_bounded = { λ region _. keys_bounded region };
+    ghost cover_is_bounded = { λ region _. hashed_keys_bounded region };
 
     ghost holder_is_near = { λ region location _ _ holds. named_is_near region location holds };
 

@@ -1,12 +1,13 @@
 //! The keys of the elements of an address or a pattern.
 
-ghost use Rattle.std.specs.Prelude.{◌≡◌, IfOk, filter_map, option_map};
+ghost use Rattle.std.specs.Prelude.{◌≡◌, IfOk, filter_map, map, option_map};
 ghost use Rattle.std.specs.Option.{option_copied};
 ghost use Rattle.lost_spec.specs.Civic.{Pairs};
 ghost use Rattle.lost_civic.specs.Texts.{text_of};
 ghost use Rattle.lost_civicdex.specs.Keys.{key_of, last_key};
+ghost use Rattle.lost_civicdex.specs.HashedKeys.{hashed};
 
-use crate::ElementKey;
+use crate::{ElementKey, HashedKey};
 use lost_civic::{CivicAddress, CivicPattern, Element};
 use std::alloc::{AllocError, Global};
 
@@ -48,6 +49,26 @@ pub(crate) fn make_keys<T: ElementTexts>(
     for element in elements {
         match texts.text(*element) {
             Some(text) => keys.push(ElementKey::new(alloc, *element, text)?)?,
+            None => {}
+        }
+    }
+    Ok(keys)
+}
+
+/// The hashed keys of these elements, where they stand in it, in the order given. Room for `room` keys is taken at once,
+/// and a key takes no memory of its own.
+pub(crate) fn hash_keys<T: ElementTexts>(
+    alloc: Global,
+    texts: &T,
+    elements: &[Element],
+    room: usize,
+) -> Result<Vec<HashedKey>, AllocError>
+    ensures { IfOk result (λ keys. keys.items ≡ map hashed (filter_map (key_of (T.pairs_of texts.now)) elements.now)) }
+{
+    let mut keys = Vec::with_capacity(alloc, room)?;
+    for element in elements {
+        match texts.text(*element) {
+            Some(text) => keys.push(HashedKey::new(*element, text))?,
             None => {}
         }
     }

@@ -8,7 +8,8 @@
 //! - `refers PATTERN / ADDRESS / ELEMENTS`: whether the pattern contains the address, with these elements required.
 
 use crate::reading::{address, pattern, required};
-use lost_civicdex::{Civic, ElementKey, References};
+use lost_civic::Element;
+use lost_civicdex::{Civic, HashedKey, References};
 use lost_profile::Profile;
 use std::alloc::Global;
 use std::io;
@@ -31,20 +32,33 @@ fn answer(alloc: Global, line: &str) -> Option<String> {
     match question {
         "cover" => {
             let region = pattern(alloc, rest)?;
-            written(alloc, Civic::cover(alloc, &region).ok()?.as_slice())
+            written(alloc, Civic::cover(alloc, &region).ok()?.as_slice(), rest)
         }
         "probes" => {
             let location = address(alloc, rest)?;
-            written(alloc, Civic::probes(alloc, &location).ok()?.as_slice())
+            written(
+                alloc,
+                Civic::probes(alloc, &location).ok()?.as_slice(),
+                rest,
+            )
         }
         "contains" => contains(alloc, rest),
         "reference-cover" => {
             let region = pattern(alloc, rest)?;
-            written(alloc, References::cover(alloc, &region).ok()?.as_slice())
+            written(
+                alloc,
+                References::cover(alloc, &region).ok()?.as_slice(),
+                rest,
+            )
         }
         "reference-probes" => {
+            let (pairs, _) = rest.split_once(" / ")?;
             let location = required(alloc, rest)?;
-            written(alloc, References::probes(alloc, &location).ok()?.as_slice())
+            written(
+                alloc,
+                References::probes(alloc, &location).ok()?.as_slice(),
+                pairs,
+            )
         }
         "refers" => refers(alloc, rest),
         _ => None,
@@ -69,16 +83,24 @@ fn said(alloc: Global, holds: bool) -> Option<String> {
     String::from_str(alloc, if holds { "yes" } else { "no" }).ok()
 }
 
-/// Keys such as `A1=nj;A3=leonia`.
-fn written(alloc: Global, keys: &[ElementKey]) -> Option<String> {
+/// Keys such as `A1=nj;A3=leonia`. A key is hashed, so its text is that of the one of these pairs with this hash.
+fn written(alloc: Global, keys: &[HashedKey], pairs: &str) -> Option<String> {
+    let own = address(alloc, pairs)?;
     let mut text = String::new(alloc);
     for key in keys {
-        if !text.is_empty() {
-            text.push(';').ok()?;
+        for element in Element::ALL {
+            match own.text(element) {
+                Some(value) if HashedKey::new(element, value) == *key => {
+                    if !text.is_empty() {
+                        text.push(';').ok()?;
+                    }
+                    text.push_str(element.name()).ok()?;
+                    text.push('=').ok()?;
+                    text.push_str(value).ok()?;
+                }
+                _ => {}
+            }
         }
-        text.push_str(key.element().name()).ok()?;
-        text.push('=').ok()?;
-        text.push_str(key.text()).ok()?;
     }
     Some(text)
 }
