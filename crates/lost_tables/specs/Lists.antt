@@ -2,7 +2,7 @@
 use Rattle.std.specs.Prelude.{◌≡◌, ◌≢◌, ℕ, true, false, Bool, Option, List, [], IfSome, unwrap_or, nat_eq, String}
 use Rattle.std.specs.HashMap.{HashMap, get, get_by_text}
 use Rattle.std.specs.List.{list_any}
-use Rattle.lost_spec.specs.Text.{Text, same_text}
+use Rattle.lost_spec.specs.Text.{Text}
 use Rattle.lost_spec.specs.Book.{Identity, same_identity}
 
 -- the number stands in the list

@@ -3,6 +3,7 @@ ghost use Rattle.std.specs.Prelude.{◌≡◌, ◌≢◌, ◌≤◌, ◌<◌, �
 ghost use Rattle.std.specs.List.Sorted.{IsNonDecreasing};
 ghost use Rattle.lost_tables.specs.Lists.{Stands, Lacks, HaveTheSame, KeepsOthersIn};
 
+use smallvec::SmallVec;
 use std::alloc::{AllocError, Global};
 use std::marker::Model;
 
@@ -14,7 +15,7 @@ const SHARE: usize = 64;
 /// seldom moves the numbers behind, however many there are.
 #[derive(Drop)]
 pub(crate) struct Cell {
-    numbers: Vec<u64>,
+    numbers: SmallVec<u64, 1>,
     /// An upper bound on the numbers that repeat the one before.
     repeated: usize,
 }
@@ -31,11 +32,11 @@ impl Model for Cell {
 }
 
 impl Cell {
-    /// A cell of one number.
+    /// A cell of one number, which takes no memory of its own.
     pub(crate) fn of(alloc: Global, number: u64) -> Result<Cell, AllocError>
         ensures { IfOk result (λ cell. cell ≡ number ∷ []) }
     {
-        let mut numbers = Vec::new(alloc);
+        let mut numbers = SmallVec::new(alloc);
         numbers.push(number)?;
         Ok(Cell {
             numbers,
@@ -106,7 +107,7 @@ fn is_past(numbers: &[u64], number: u64) -> bool
 }
 
 /// Gives the room of the number at a position to the next number. The last number's room goes.
-fn leave_room(numbers: &mut Vec<u64>, number: u64, position: usize)
+fn leave_room(numbers: &mut SmallVec<u64, 1>, number: u64, position: usize)
     requires within { position < length numbers.old.items }
     requires there { slice_index_or numbers.old.items position 0 ≡ number }
     requires rising { IsNonDecreasing numbers.old.items }
@@ -160,7 +161,7 @@ fn write_over(numbers: &mut [u64], number: u64, other: u64, end: usize)
 }
 
 /// Removes each copy of a number from the end. No number is greater.
-fn pop_all(numbers: &mut Vec<u64>, number: u64)
+fn pop_all(numbers: &mut SmallVec<u64, 1>, number: u64)
     requires rising { IsNonDecreasing numbers.old.items }
     requires below { (k : ℕ) → k < length numbers.old.items → slice_index_or numbers.old.items k 0 ≤ number }
     ensures others { KeepsOthersIn number numbers.old.items numbers.new.items }

@@ -13,7 +13,11 @@ use lost_mapping::Mapping;
 use smallvec::SmallVec;
 use std::alloc::{AllocError, Global};
 
-/// How far below itself a number is looked for, step by step.
+/// The numbers of mappings that are put one after another are this far apart, so that a number can also tell something
+/// of its mapping.
+pub const SPREAD: u64 = 64;
+
+/// How far below the place that it names a number is looked for, step by step.
 const REACHES: [usize; 5] = [1, 8, 64, 512, 4_096];
 
 /// The position of a number among rising numbers. It takes no memory.
@@ -28,13 +32,15 @@ pub fn position_of(numbers: &TieredVec<u64>, number: u64) -> Option<usize>
     }
 }
 
-/// The likely position of a number among rising numbers; the caller checks it. The position is at most the number
-/// itself, lower by the count of numbers left out below it: mostly few. So the search begins there and reaches down,
-/// which reads fewer far parts of a long list than halving does.
+/// The likely position of a number among rising numbers; the caller checks it. A number names the place `number /
+/// SPREAD`. Where the numbers were put one after another, the position is at most that, lower by the count of numbers
+/// left out below it: mostly few. So the search begins there and reaches down, which reads fewer far parts of a long
+/// list than halving does.
 fn likely_position(numbers: &TieredVec<u64>, number: u64) -> usize
     requires rising { IsStrictlySortedBy nat_cmp numbers.now }
 {
-    let end = numbers.len().min((number as usize).saturating_add(1));
+    let place = (number / SPREAD) as usize;
+    let end = numbers.len().min(place.saturating_add(1));
     for reach in REACHES {
         let start = end.saturating_sub(reach);
         if numbers.get(start).is_some_and(|first| *first <= number) {

@@ -17,5 +17,5 @@ returns-clause-gone c =
     lacks_past c.args.number (c.args.number + 1) (length c.loop-number.numbers.items) c.loop-number.numbers.items c.loop-number.invariant.rising
     (omega arith) (omega arith) c.loop-number.invariant.below (λ k le lt. absurd (omega (arith, le, lt)))
     (λ some is. other_last c.args.number c.deref.result.now c.last.result _ refl (sym c.eq.ensures ∙ c.loop-number-test.false) c.last.ensures.item.3
-    (subst (λ l. 0 < length l) (sym c.deref.ensures.value) some)
-    (subst (λ l. get_or l (length l - 1) 0 ≡ c.args.number) (sym c.deref.ensures.value) is))
+    (subst (λ l. 0 < length l) (sym c.deref.ensures) some)
+    (subst (λ l. get_or l (length l - 1) 0 ≡ c.args.number) (sym c.deref.ensures) is))

@@ -9,4 +9,4 @@ pub returns-in_default-clause-gone : goal.returns-in_default-clause-gone
 returns-in_default-clause-gone c =
     rw (← c.self.view_is)
     (lacks-searched c.args.number c.in_default.field-0 c.self.inside.numbers.items c.self.invariant
-    (subst (λ l. IsBinarySearchResult (λ y. nat_cmp y c.args.number) l (Err c.in_default.field-0)) c.deref.ensures.value c.in_default.ensures.position))
+    (subst (λ l. IsBinarySearchResult (λ y. nat_cmp y c.args.number) l (Err c.in_default.field-0)) c.deref.ensures c.in_default.ensures.position))
