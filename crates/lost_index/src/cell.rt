@@ -1,5 +1,5 @@
 //! The notes under one key.
-ghost use Rattle.std.specs.Prelude.{◌≡◌, ◌≤◌, ◌<◌, ◌∷◌, [], true, false, if◌then◌else◌, length, filter, remove, slice_get, IfOk, IfSome, OnOk, OnErr, IsTrue, ◌↔◌};
+ghost use Rattle.std.specs.Prelude.{◌≡◌, ◌≤◌, ◌<◌, ◌∷◌, [], true, false, if◌then◌else◌, length, filter, insert, remove, slice_get, IfOk, IfSome, OnOk, OnErr, IsTrue, ◌↔◌};
 ghost use Rattle.std.specs.List.{AllWithin};
 ghost use Rattle.std.specs.Option.{option_map_or};
 ghost use Rattle.lost_index.specs.Notes.{number_of, is_note, has_note, stays};
@@ -68,7 +68,7 @@ impl<P: Profile> Cell<P> {
             return Ok(());
         }
         let position = self.end_of(note.number);
-        self.notes.insert(position, note)?;
+        insert_note(&mut self.notes, position, note)?;
         Ok(())
     }
 
@@ -142,4 +142,22 @@ impl<P: Profile> Cell<P> {
     {
         self.notes.partition_point(|note| note.number <= number)
     }
+}
+
+/// Inserts a note at a position. A full list grows by a quarter, since most cells get few notes. If memory is refused,
+/// nothing changes.
+fn insert_note<O: Copy>(
+    notes: &mut Vec<Note<O>>,
+    position: usize,
+    note: Note<O>,
+) -> Result<(), AllocError>
+    requires { position ≤ length notes.old.items }
+    ensures items { OnOk result (notes.new.items ≡ insert notes.old.items position note) }
+    ensures refused { OnErr result (notes.new.items ≡ notes.old.items) }
+{
+    if notes.len() == notes.capacity() {
+        notes.reserve_exact(notes.len() / 4 + 2)?;
+    }
+    notes.insert(position, note)?;
+    Ok(())
 }

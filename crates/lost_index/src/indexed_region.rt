@@ -30,7 +30,8 @@ impl<P: Profile> IndexedRegion<P> {
         ensures region { IfOk result (λ kept. kept ≡ region) }
         ensures is_region { IfOk result (λ kept. P.is_region kept) }
     {
-        let keys = P::cover(alloc, &region)?;
+        let mut keys = P::cover(alloc, &region)?;
+        keys.shrink_to_fit();
         let outline = P::outline(&region);
         Ok(IndexedRegion {
             outline,

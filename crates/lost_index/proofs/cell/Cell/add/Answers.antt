@@ -8,14 +8,14 @@ use Rattle.lost_index.proofs.cell.Cell.add.Goals as goal
 
 pub returns-clause-keeps : goal.returns-clause-keeps
 returns-clause-keeps g c = λ number outline stands.
-    rw c.in_ok-insert.ensures.items
+    rw c.in_ok-insert_note.ensures.items
     (stands-insert (is_note g.P.Outline.PartialEq.eq number outline) c.self.inside.notes.items c.end_of-position.result c.args.note (rw c.self.view_is stands))
 
 pub returns-clause-only : goal.returns-clause-only
 returns-clause-only g c = λ number outline stands.
     rw (← c.self.view_is)
     (stands-insert_back (is_note g.P.Outline.PartialEq.eq number outline) c.self.inside.notes.items c.end_of-position.result c.args.note
-    (rw (← c.in_ok-insert.ensures.items) stands))
+    (rw (← c.in_ok-insert_note.ensures.items) stands))
 
 pub invariant_of-self-2 : goal.invariant_of-self-2
 invariant_of-self-2 g c =
@@ -25,7 +25,7 @@ invariant_of-self-2 g c =
     let place = c.end_of-position in
     let cell : IsCell same notes = subst (IsCell same) c.self.view_is c.self.invariant in
     let none : has_note same note.number note.outline notes ≡ false = sym c.has.ensures ∙ c.if-has.false in
-    rw (c.in_ok-insert.ensures.items, c.self.view_is) (record {
+    rw (c.in_ok-insert_note.ensures.items, c.self.view_is) (record {
       rising = IsNonDecreasingBy-insert number_of notes place.result note cell.rising place.ensures.within
           (λ k d front. place.ensures.up_to k d (omega arith) front)
           (λ k d behind within. omega (arith, place.ensures.above k d behind within));
