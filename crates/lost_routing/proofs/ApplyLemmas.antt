@@ -1,5 +1,5 @@
 -- That numbers stay below the edition, edit by edit.
-use Rattle.std.proofs.Common.{◌≡◌, ℕ, zero, suc, ◌+◌, ◌<◌, List, [], ◌∷◌, ◌++◌, take, drop, Bool, true, false, cond, Option, None, Some, Result, Ok, Err, OnOk, nat_le, slice_set, refl, sym, ap, subst, ◌^◌, ◌∙◌, arith}
+use Rattle.std.proofs.Common.{◌≡◌, ℕ, zero, suc, ◌+◌, ◌*◌, ◌<◌, ◌≤◌, List, [], ◌∷◌, ◌++◌, take, drop, Bool, true, false, cond, Option, None, Some, Result, Ok, Err, OnOk, nat_le, slice_set, refl, sym, ap, subst, ◌^◌, ◌∙◌, arith}
 use Rattle.std.specs.List.{AllByRecursion, remove}
 use Rattle.std.specs.declared.alloc.AllocError.{AllocError}
 use Rattle.lost_spec.specs.declared.faults.EditError.TheVariants.{EditsSpent}
@@ -8,20 +8,24 @@ use Rattle.lost_spec.specs.Book.{Book, Limits, Trace, Identity, replaced, is_spe
 use Rattle.lost_routing.specs.Store.{Stored, with_mapping_at}
 use Rattle.std.proofs.lemmas.Bool.Decides.{nat_tests}
 use Rattle.lost_spec.specs.Mapping.{Mapping}
-use Rattle.lost_routing.specs.Invariants.{IsNew, IsRouted}
+use Rattle.lost_routing.specs.Invariants.{IsNew, IsOfEdit, IsRouted}
 use Rattle.lost_routing.proofs.SplitLemmas.{all_join, all_map}
 
-one_more : (e k : ℕ) → k < e → k < e + 1
+one_more : (e k : ℕ) → k < e * 64 → k < (e + 1) * 64
 one_more e k below = omega arith
 
-last_below : (e : ℕ) → e < e + 1
-last_below e = omega arith
+pub new_next : (e : ℕ) (ns : List ℕ) → IsNew (e * 64) ns → IsNew ((e + 1) * 64) ns
+new_next e ns new = all_map (λ k. k < e * 64) (λ k. k < (e + 1) * 64) ns (one_more e) new
 
-pub new_next : (e : ℕ) (ns : List ℕ) → IsNew e ns → IsNew (e + 1) ns
-new_next e ns new = all_map (λ k. k < e) (λ k. k < e + 1) ns (one_more e) new
+pub new_put : (e n : ℕ) (ns : List ℕ) → IsOfEdit n e → IsNew (e * 64) ns → IsNew ((e + 1) * 64) (ns ++ n ∷ [])
+new_put e n ns of new = all_join (λ k. k < (e + 1) * 64) ns (n ∷ []) (new_next e ns new) (of.high, tt)
 
-pub new_put : (e : ℕ) (ns : List ℕ) → IsNew e ns → IsNew (e + 1) (ns ++ e ∷ [])
-new_put e ns new = all_join (λ k. k < e + 1) ns (e ∷ []) (new_next e ns new) (last_below e, tt)
+at_least : (e n k : ℕ) → e * 64 ≤ n → k < e * 64 → k < n
+at_least e n k low below = omega arith
+
+-- a number of the next edit is above all
+pub new_of_edit : (e n : ℕ) (ns : List ℕ) → IsOfEdit n e → IsNew (e * 64) ns → IsNew n ns
+new_of_edit e n ns of new = all_map (λ k. k < e * 64) (λ k. k < n) ns (λ k. at_least e n k of.low) new
 
 all_take : (P : ℕ → Type 0) (ns : List ℕ) (i : ℕ) → AllByRecursion P ns → AllByRecursion P (take i ns)
 all_take P ns zero all = tt
@@ -38,15 +42,15 @@ new_removed e i ns new =
     all_join (λ k. k < e) (take i ns) (drop (suc i) ns)
     (all_take (λ k. k < e) ns i new) (all_drop (λ k. k < e) ns (suc i) new)
 
--- a book after one more edit, whose number is that of the edits before it, or which keeps the numbers below
-pub routed_put : (limits : Limits) (ms : List Mapping) (ts : List Trace) (e : ℕ) (ns now : List ℕ) → e < limits.edits → limits.edits < 2 ^ 32 → IsNew e ns
-    → now ≡ ns ++ e ∷ [] → IsRouted (record { limits = limits; mappings = ms; traces = ts; edits = e + 1 }) now
-routed_put limits ms ts e ns now within bound new put = record {
+-- a book after one more edit, whose number is of the edits before it, or which keeps the numbers below
+pub routed_put : (limits : Limits) (ms : List Mapping) (ts : List Trace) (e n : ℕ) (ns now : List ℕ) → e < limits.edits → limits.edits < 2 ^ 32 → IsOfEdit n e
+    → IsNew (e * 64) ns → now ≡ ns ++ n ∷ [] → IsRouted (record { limits = limits; mappings = ms; traces = ts; edits = e + 1 }) now
+routed_put limits ms ts e n ns now within bound of new put = record {
   counted = record { edits = omega arith; limit = bound };
-  below = subst (IsNew (e + 1)) (sym put) (new_put e ns new);
+  below = subst (IsNew ((e + 1) * 64)) (sym put) (new_put e n ns of new);
 }
 
-pub routed_next : (limits : Limits) (ms : List Mapping) (ts : List Trace) (e : ℕ) (now : List ℕ) → e < limits.edits → limits.edits < 2 ^ 32 → IsNew e now
+pub routed_next : (limits : Limits) (ms : List Mapping) (ts : List Trace) (e : ℕ) (now : List ℕ) → e < limits.edits → limits.edits < 2 ^ 32 → IsNew (e * 64) now
     → IsRouted (record { limits = limits; mappings = ms; traces = ts; edits = e + 1 }) now
 routed_next limits ms ts e now within bound new = record {
   counted = record { edits = omega arith; limit = bound };

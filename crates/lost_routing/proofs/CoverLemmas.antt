@@ -30,7 +30,7 @@ use Rattle.lost_routing.specs.Invariants.{IsStore}
 itself : (n : ℕ) → nat_eq n n ≡ true
 itself n = search (arith, nat_tests)
 
-same_number : (n k : ℕ) → nat_eq n k ≡ true → n ≡ k
+pub same_number : (n k : ℕ) → nat_eq n k ≡ true → n ≡ k
 same_number n k same = search (arith, nat_tests)
 
 none_some : {X : Type 0} (x : X) → None ≡ Some x → ⊥
@@ -39,7 +39,7 @@ none_some x h = cc
 some_same : {X : Type 0} (x y : X) → Some x ≡ Some y → x ≡ y
 some_same x y h = cc
 
-left_of : (a b : Bool) → (a && b) ≡ true → a ≡ true
+pub left_of : (a b : Bool) → (a && b) ≡ true → a ≡ true
 left_of true b h = refl
 left_of false b h = h
 
@@ -50,13 +50,13 @@ right_of false b h = absurd (false≢true h)
 pub held_of : (a b c : Bool) → (a && (b && c)) ≡ true → c ≡ true
 held_of a b c h = right_of b c (right_of a (b && c) h)
 
-or_true : (a b : Bool) → b ≡ true → (a || b) ≡ true
+pub or_true : (a b : Bool) → b ≡ true → (a || b) ≡ true
 or_true true b h = refl
 or_true false b h = h
 
 -- ---- what is true of each row is true at each position
 
-row_at : (P : ℕ × Mapping → Type 0) (ns : List ℕ) (ms : List Mapping) → AllByRecursion P (zip ns ms)
+pub row_at : (P : ℕ × Mapping → Type 0) (ns : List ℕ) (ms : List Mapping) → AllByRecursion P (zip ns ms)
     → (i n : ℕ) (m : Mapping) → slice_get ms i ≡ Some m → slice_get ns i ≡ Some n → P (n, m)
 row_at P [] ms all i n m at_m at_n = absurd (none_some n at_n)
 row_at P (k ∷ ns) [] all i n m at_m at_n = absurd (none_some m at_m)

@@ -1,5 +1,6 @@
 pub mod CoverLemmas
 pub mod SplitLemmas
+pub mod ClassLemmas
 pub mod StoreLemmas
 pub mod ApplyLemmas
 pub mod QuestionLemmas

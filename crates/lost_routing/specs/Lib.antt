@@ -1,4 +1,5 @@
 pub mod Store
+pub mod Classes
 pub mod Invariants
 pub mod Applied
 pub mod Walk

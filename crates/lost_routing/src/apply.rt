@@ -3,7 +3,9 @@ ghost use Rattle.std.specs.Prelude.{◌≡◌, ◌≢◌, None, Some, Err, IfErr
 ghost use Rattle.lost_spec.specs.Book.{Publish, Replace, Withdraw, refusal, after};
 ghost use Rattle.lost_mapping.specs.Edit.{edit_of};
 ghost use Rattle.lost_routing.specs.Applied.{IsApplied};
+ghost use Rattle.lost_routing.specs.Invariants.{IsOfEdit};
 
+use crate::classes::class_of;
 use crate::routing::Routing;
 use lost_book::{Edit, EditError, check_publish, check_replace, check_withdraw};
 use lost_mapping::{Identity, Mapping, Stamp};
@@ -56,12 +58,20 @@ impl Routing {
     {
         check_publish(self, &mapping)?;
         let position = self.store.len();
-        if self.store.put(self.edits, mapping).is_err() {
+        let number = self.next_number(&mapping);
+        if self.store.put(number, mapping).is_err() {
             return Err(EditError::Memory);
         }
         self.traces.forget(self.store.mapping(position).identity());
         self.edits += 1;
         Ok(())
+    }
+
+    /// The number of the mapping that is published next: its last six bits tell the class of the service.
+    fn next_number(&self, mapping: &Mapping) -> u64
+        ensures { IsOfEdit result self.now.edits }
+    {
+        self.edits * 64 + class_of(mapping.service().text()) as u64
     }
 
     fn replace(&mut self, mapping: Mapping) -> Result<(), EditError>

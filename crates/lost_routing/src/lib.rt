@@ -4,6 +4,7 @@
 
 mod apply;
 mod check;
+mod classes;
 mod edits;
 mod entering;
 mod holdings;

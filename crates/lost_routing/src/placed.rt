@@ -7,7 +7,8 @@ ghost use Rattle.lost_spec.specs.Positions.{positions};
 ghost use Rattle.lost_spec.specs.Find.{holds, is_holder};
 ghost use Rattle.lost_spec.specs.Services.{is_holding};
 ghost use Rattle.lost_location.specs.Place.{place_of};
-ghost use Rattle.lost_routing.specs.Chain.{is_eligible as is_eligible_for, is_chain_holder};
+ghost use Rattle.lost_tables.specs.Picks.{Covers};
+ghost use Rattle.lost_routing.specs.Chain.{is_eligible as is_eligible_for, is_chain_holder, IsHolderBelow};
 
 use crate::scan::{FEW, scan};
 use crate::store::Store;
@@ -87,9 +88,47 @@ impl Store {
         ensures { IfOk result (λ found.
             found.items ≡ positions (is_chain_holder moment.now (place_of place.now) service.now) self.now.mappings) }
     {
-        self.selected(place, |mapping| {
+        self.selected_below(place, service, |mapping| {
             is_eligible(mapping, moment, service) && holds(mapping, place)
         })
+    }
+
+    /// The mappings that pass a test. Only mappings that hold the place and have the service or one above it pass it.
+    fn selected_below<F: Fn(&Mapping) -> bool>(
+        &self,
+        place: &Place,
+        service: &ServiceUrn,
+        passes: F,
+    ) -> Result<Positions, AllocError>
+        requires callable { F.IsAlwaysCallable passes }
+        ensures { (test : spec.Mapping → Bool) → ((m : spec.Mapping) (r : Bool) → FnReturnsAt F.Fn passes m r → r ≡ test m)
+            → ((m : spec.Mapping) → test m ≡ true → IsHolderBelow service.now (place_of place.now) m)
+            → IfOk result (λ found. found.items ≡ positions test self.now.mappings) }
+    {
+        if self.mappings.len() <= FEW {
+            return scan(self.alloc, &self.mappings, passes);
+        }
+        let candidates = self.near_below(place, service)?;
+        picks::select(
+            self.alloc,
+            &self.numbers,
+            &self.mappings,
+            candidates.as_slice(),
+            passes,
+        )
+    }
+
+    /// The numbers of the mappings that may hold the place and have the service or one above it; mostly those alone.
+    fn near_below(&self, place: &Place, service: &ServiceUrn) -> Result<Vec<u64>, AllocError>
+        ensures { (test : spec.Mapping → Bool) → ((m : spec.Mapping) → test m ≡ true → IsHolderBelow service.now (place_of place.now) m)
+            → IfOk result (λ near. Covers test self.now.numbers self.now.mappings near.items) }
+    {
+        let mut candidates = self.regions.near(place)?;
+        let Some(classes) = self.strays.without(service) else {
+            return Ok(candidates);
+        };
+        classes.keep(&mut candidates);
+        Ok(candidates)
     }
 }
 

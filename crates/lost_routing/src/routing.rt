@@ -12,7 +12,8 @@ use std::alloc::{AllocError, Global};
 use std::marker::Model;
 
 /// A book with tables and indexes to find the mappings that a question is about, and the withdrawal of an identity.
-/// Contracts see it as the record `Book`. A mapping's number is the edition before its publish; a replacement keeps it.
+/// Contracts see it as the record `Book`. A mapping's number is 64 times the edition before its publish, and the
+/// class of its service; a replacement keeps it.
 #[derive(Drop)]
 pub struct Routing {
     pub(crate) limits: Limits,

@@ -3,6 +3,7 @@ ghost use Rattle.std.specs.Prelude.{◌≡◌, ◌<◌, Some, length, slice_get,
 ghost use Rattle.lost_routing.specs.Invariants.{IsNew};
 ghost use Rattle.lost_routing.specs.Store.{nothing_stored, with_last, with_mapping_at, without_position};
 
+use crate::classes::Classes;
 use crate::entering::{enter, exchange, leave};
 use lost_mapping::Mapping;
 use lost_regions::Regions;
@@ -11,6 +12,8 @@ use std::alloc::{AllocError, Global};
 use std::marker::Model;
 
 /// Mappings, each under a number; the numbers rise. Contracts see the numbers, and the mappings at the same positions.
+/// A number tells the class of its mapping's service. A class is among the strays once a mapping has it whose number tells
+/// another one, since a replacement changed the service.
 #[derive(Drop)]
 pub(crate) struct Store {
     pub(crate) alloc: Global,
@@ -18,17 +21,18 @@ pub(crate) struct Store {
     pub(crate) mappings: TieredVec<Mapping>,
     pub(crate) tables: Tables,
     pub(crate) regions: Regions,
+    pub(crate) strays: Classes,
 }
 
 impl Model for Store {
     ghost use Rattle.lost_routing.specs.Store as spec;
-    ghost use Rattle.lost_routing.specs.Invariants.{IsStore};
+    ghost use Rattle.lost_routing.specs.Invariants.{IsClassed};
 
     ghost Value = { spec.Stored };
 
     ghost view = { λ h. record { numbers = h.numbers; mappings = h.mappings } };
 
-    ghost invariant = { λ h. IsStore h.numbers h.mappings h.tables h.regions };
+    ghost invariant = { λ h. IsClassed h.numbers h.mappings h.tables h.regions h.strays };
 }
 
 impl Store {
@@ -42,6 +46,7 @@ impl Store {
             mappings: TieredVec::new(alloc),
             tables: Tables::new(alloc),
             regions: Regions::new(alloc),
+            strays: Classes::none(),
         }
     }
 
@@ -78,6 +83,7 @@ impl Store {
             self.mappings.remove(position);
             return Err(AllocError);
         }
+        self.strays.note(number, mapping);
         Ok(())
     }
 
@@ -95,6 +101,7 @@ impl Store {
             &mapping,
             number,
         )?;
+        self.strays.note(number, &mapping);
         self.mappings.set(position, mapping);
         Ok(())
     }

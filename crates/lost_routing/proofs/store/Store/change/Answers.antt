@@ -1,27 +1,43 @@
 -- The notes of the others stay, and the mapping at the position is noted and in the indexes.
 use Rattle.std.proofs.Common.{◌<◌, length, sym, ap, subst}
+use Rattle.std.specs.List.{zip}
+use Rattle.lost_routing.specs.Classes.{AreTold}
 use Rattle.lost_routing.specs.Invariants.{IsStore}
+use Rattle.lost_routing.proofs.ClassLemmas.{told_changed}
 use Rattle.lost_routing.proofs.StoreLemmas.{at_has, at_changed, at_unchanged}
 use Rattle.lost_routing.proofs.store.Store.change.Goals as goal
 
 pub exchange-requires : goal.exchange-requires
 exchange-requires c =
-    at_has c.self.inside.numbers c.self.inside.mappings c.self.inside.tables c.self.inside.regions c.self.invariant
+    at_has c.self.inside.numbers c.self.inside.mappings c.self.inside.tables c.self.inside.regions c.self.invariant.store
     c.args.position c.at-number.result.now c.at.result.now
     (subst (λ l. c.args.position < length l) (sym (ap (λ k. k.mappings) c.self.view_is)) c.requires) c.at-number.ensures c.at.ensures
 
 pub invariant_of-self : goal.invariant_of-self
 invariant_of-self c =
-    at_unchanged c.self.inside.numbers c.self.inside.mappings c.self.inside.tables c.self.inside.regions c.self.invariant
-    c.args.position c.at-number.result.now c.at.result.now
-    (subst (λ l. c.args.position < length l) (sym (ap (λ k. k.mappings) c.self.view_is)) c.requires) c.at-number.ensures c.at.ensures
-    c.exchange.new.tables c.exchange.new.regions c.in_err-exchange.ensures.remaining c.exchange.ensures.others c.in_err-exchange.ensures.refused
+    record {
+      store =
+          at_unchanged c.self.inside.numbers c.self.inside.mappings c.self.inside.tables c.self.inside.regions c.self.invariant.store
+          c.args.position c.at-number.result.now c.at.result.now
+          (subst (λ l. c.args.position < length l) (sym (ap (λ k. k.mappings) c.self.view_is)) c.requires) c.at-number.ensures c.at.ensures
+          c.exchange.new.tables c.exchange.new.regions c.in_err-exchange.ensures.remaining c.exchange.ensures.others c.in_err-exchange.ensures.refused;
+      told = c.self.invariant.told;
+    }
 
 pub invariant_of-self-2 : goal.invariant_of-self-2
 invariant_of-self-2 c =
-    subst (λ l. IsStore c.self.inside.numbers l c.exchange.new.tables c.exchange.new.regions) (sym c.set.ensures)
-    (at_changed c.self.inside.numbers c.self.inside.mappings c.self.inside.tables c.self.inside.regions c.self.invariant
-    c.args.position c.at-number.result.now c.at.result.now
-    (subst (λ l. c.args.position < length l) (sym (ap (λ k. k.mappings) c.self.view_is)) c.requires) c.at-number.ensures c.at.ensures
-    c.args.mapping c.exchange.new.tables c.exchange.new.regions c.in_ok-exchange.ensures.listed c.exchange.ensures.others
-    c.in_ok-exchange.ensures.changed)
+    record {
+      store =
+          subst (λ l. IsStore c.self.inside.numbers l c.exchange.new.tables c.exchange.new.regions) (sym c.set.ensures)
+          (at_changed c.self.inside.numbers c.self.inside.mappings c.self.inside.tables c.self.inside.regions c.self.invariant.store
+          c.args.position c.at-number.result.now c.at.result.now
+          (subst (λ l. c.args.position < length l) (sym (ap (λ k. k.mappings) c.self.view_is)) c.requires) c.at-number.ensures c.at.ensures
+          c.args.mapping c.exchange.new.tables c.exchange.new.regions c.in_ok-exchange.ensures.listed c.exchange.ensures.others
+          c.in_ok-exchange.ensures.changed);
+      told =
+          subst (λ l. AreTold c.note.new.self (zip c.self.inside.numbers l)) (sym c.set.ensures)
+          (told_changed c.self.inside.strays c.note.new.self c.self.inside.numbers c.self.inside.mappings c.args.position c.at-number.result.now
+          c.args.mapping c.self.invariant.store.paired
+          (subst (λ l. c.args.position < length l) (sym (ap (λ k. k.mappings) c.self.view_is)) c.requires) c.at-number.ensures
+          c.note.ensures.keeps c.note.ensures.told c.self.invariant.told);
+    }

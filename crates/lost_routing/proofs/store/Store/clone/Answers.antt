@@ -9,4 +9,4 @@ put-requires c =
     let numbers : c.loop-position.copy.numbers ≡ take c.loop-position.position c.self.inside.numbers = search rules in
     let within : c.loop-position.position < length c.self.inside.numbers = search (arith, rules) in
     subst (IsNew c.at-in-loop-position.result.now) (sym numbers)
-    (new_at c.self.inside.numbers c.loop-position.position c.at-in-loop-position.result.now within c.at-in-loop-position.ensures c.self.invariant.rising)
+    (new_at c.self.inside.numbers c.loop-position.position c.at-in-loop-position.result.now within c.at-in-loop-position.ensures c.self.invariant.store.rising)

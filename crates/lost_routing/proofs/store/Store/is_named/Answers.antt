@@ -10,6 +10,6 @@ returns c =
     subst (λ l. c.any-found.result ≡ list_any (is_naming c.args.moment.now c.args.service.now c.args.address.now c.args.elements.now c.args.named) l) (ap (λ k. k.mappings) c.self.view_is)
     (c.any-found.ensures (is_naming c.args.moment.now c.args.service.now c.args.address.now c.args.elements.now c.args.named) (λ m r says. search rules)
     (covers_named c.args.address.now c.args.moment.now c.args.service.now c.args.elements.now
-    c.self.inside.numbers c.self.inside.mappings c.self.inside.tables c.self.inside.regions c.self.invariant
+    c.self.inside.numbers c.self.inside.mappings c.self.inside.tables c.self.inside.regions c.self.invariant.store
     c.args.named c.as_slice.result.now
     (λ n stands. subst (λ l. Contains l n) (sym c.as_slice.ensures.value) (c.in_ok-candidates.ensures.holders n stands))))

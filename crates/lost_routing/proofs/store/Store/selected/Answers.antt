@@ -9,6 +9,6 @@ pub returns : goal.returns
 returns g c = λ test says tells.
     subst (λ l. IfOk c.select.result (λ found. found.items ≡ positions test l)) (ap (λ k. k.mappings) c.self.view_is)
     (c.select.ensures test says
-    (covers_at c.self.inside.numbers c.self.inside.mappings c.self.inside.tables c.self.inside.regions c.self.invariant
+    (covers_at c.self.inside.numbers c.self.inside.mappings c.self.inside.tables c.self.inside.regions c.self.invariant.store
     test (place_of c.args.place.now) c.as_slice.result.now tells
     (λ n stands. subst (λ l. Contains l n) (sym c.as_slice.ensures.value) (c.in_ok-candidates.ensures.holders n stands))))
