@@ -10,11 +10,21 @@
 //!   `world W LIMITS` begins a world of so many workers, and each line after it is a step, until the next world:
 //!   `stage EDIT`, `publish`, `enter W`, `tell W N` or `answer W REQUEST`, with an edit and a request as lines of JSON.
 //!   (Own format.)
+//! - `desk`: the lines of `desk.lines`, for a desk and one reader. A desk line goes to the desk, `tell` has the reader
+//!   learn what the desk tells, and any other line goes to the reader.
+//! - `cache`: the lines of `cache.lines`, for a desk and two readers: one has a cache, the other counts what it finds.
+//!   A desk line goes to the desk, any other line to both. The line `next` ends a session, and the next one has a desk
+//!   of its own.
+//! - `many`: a desk's connection on which two thousand edits are staged before each of two commits.
+//! - `threads`: a desk in one thread and a reader in another, a thousand times.
+//! - `calls`: the calls that take no memory, on the desks of the table `calls.lines` and their readers. `prepared`
+//!   makes these alone.
 //!
 //! Limits are three numbers: the most mappings held, edits accepted and withdrawn identities remembered.
 #![tactic(auto)]
 
 mod checks;
+mod desks;
 mod limits;
 mod rows;
 mod sessions;
@@ -24,10 +34,16 @@ use std::io;
 use std::process::ExitCode;
 use std::rt::Files;
 use std::sync::Wait;
+use std::thread::Threads;
 use test_parts::given;
 
+/// The commands.
+const WORDS: [&str; 9] = [
+    "sessions", "checks", "worlds", "desk", "cache", "many", "threads", "calls", "prepared",
+];
+
 fn main(rt: HostRuntime) -> io::Result<ExitCode> {
-    let (words, mut end) = given(&rt, "rows_lines", &["sessions", "checks", "worlds"])?;
+    let (words, mut end) = given(&rt, "rows_lines", &WORDS)?;
     for word in &words {
         end.note(run(&rt, word.as_str())?);
     }
@@ -35,7 +51,7 @@ fn main(rt: HostRuntime) -> io::Result<ExitCode> {
 }
 
 /// Runs a command. Says whether all is as expected.
-fn run<R: Files + Input + Print + Wait + AllocGlobal + Clone + Drop>(
+fn run<R: Files + Input + Print + Threads + Wait + Sync + AllocGlobal + Clone + Drop>(
     rt: &R,
     command: &str,
 ) -> io::Result<bool> {
@@ -43,8 +59,12 @@ fn run<R: Files + Input + Print + Wait + AllocGlobal + Clone + Drop>(
     match command {
         "sessions" => sessions::print_sessions(rt),
         "checks" => checks::print_checks(rt),
-        _ => {
+        "worlds" => {
             worlds::print_worlds(rt)?;
+            Ok(true)
+        }
+        _ => {
+            desks::run(rt, command)?;
             Ok(true)
         }
     }

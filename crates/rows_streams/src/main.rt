@@ -12,6 +12,14 @@
 //!   `worker` has one worker serve it twice, first where the first read fails. `faults` prints the texts of all faults,
 //!   and `marks` the answers where memory is refused.
 //! - `lines`: the script `lines.lines`, whose lines are answered by their lengths. [`lines`] says how it is written.
+//! - `command`: each row of `command.rows` is a command line, obeyed over a console in memory. The result is compared
+//!   with the row ([`command`] says how a row is written). Then come the texts of the exit reasons that no console can
+//!   cause.
+//! - `status`: each row of `status.rows` is an HTTP request to a server after some events. The answer is compared with
+//!   the row ([`status`] says how a row is written). Then come clients that are cut off, and two workers that count at
+//!   once.
+//! - `sockets`: Unix sockets at paths of all kinds, in a folder that the command makes in the current one and removes;
+//!   TCP addresses; and bytes over connections of both kinds.
 //!
 //! Other lines of the first two scripts prepare the next stream. `line TEXT`, `last TEXT` (without byte 10),
 //! `long NUMBER` (so many bytes), `byte NUMBER`, `filled NUMBER TEXT` (with spaces after it, so many bytes in all) and
@@ -22,6 +30,7 @@
 mod always;
 mod bursts;
 mod by;
+mod command;
 mod faults;
 mod holding;
 mod hostile;
@@ -32,7 +41,9 @@ mod noting;
 mod pair;
 mod plan;
 mod sipping;
+mod sockets;
 mod spelled;
+mod status;
 mod stream;
 mod streams;
 mod sweeps;
@@ -48,20 +59,30 @@ use std::time::Clock;
 use std::{fs, io};
 use test_parts::given;
 
+/// The commands.
+const WORDS: [&str; 6] = [
+    "streams", "hostile", "lines", "command", "status", "sockets",
+];
+
 fn main(rt: HostRuntime) -> io::Result<ExitCode> {
-    let (words, end) = given(&rt, "rows_streams", &["streams", "hostile", "lines"])?;
+    let (words, end) = given(&rt, "rows_streams", &WORDS)?;
     for word in &words {
-        run(&rt, word.as_str())?;
+        println!(rt; "== {word}")?;
+        match word.as_str() {
+            "command" => command::run(&rt)?,
+            "status" => status::run(&rt)?,
+            "sockets" => sockets::run(&rt)?,
+            script => run_script(&rt, script)?,
+        }
     }
     end.status(&rt)
 }
 
 /// Runs the script of a command.
-fn run<R: Files + Threads + Wait + Clock + Sync + Print + AllocGlobal>(
+fn run_script<R: Files + Threads + Wait + Clock + Sync + Print + AllocGlobal>(
     rt: &R,
     command: &str,
 ) -> io::Result<()> {
-    println!(rt; "== {command}")?;
     let script = fs::read_to_string(rt, format!(in rt.alloc(); "{command}.lines")?.as_str())?;
     match command {
         "streams" => streams::run(rt, script.as_str()),
