@@ -5,11 +5,14 @@ use crate::stop::{Stop, found};
 use lost_book::{Register, has_key};
 use lost_mapping::{Identity, Mapping};
 use lost_query::Holdings;
-use lost_routing::Routing;
 use std::alloc::{AllocError, Global};
 
 /// Why the book with the staged edits refuses an edit with this code.
-pub(crate) fn book_refusal(edit: &Object<'_>, code: u8, staged: &Routing) -> Result<(), Stop> {
+pub(crate) fn book_refusal<B: Register + Holdings>(
+    edit: &Object<'_>,
+    code: u8,
+    staged: &B,
+) -> Result<(), Stop> {
     match code {
         18 => full(edit, staged),
         19 => spent(edit, staged),
@@ -36,7 +39,12 @@ fn identity(edit: &Object<'_>) -> Result<Option<Identity>, Stop> {
 }
 
 /// Why the book refuses an edit of the mapping with this identity.
-fn against(edit: &Object<'_>, code: u8, staged: &Routing, identity: &Identity) -> Result<(), Stop> {
+fn against<B: Register + Holdings>(
+    edit: &Object<'_>,
+    code: u8,
+    staged: &B,
+    identity: &Identity,
+) -> Result<(), Stop> {
     let alloc = edit.alloc;
     let source = identity.source().text();
     let source_id = identity.source_id();
@@ -52,7 +60,7 @@ fn against(edit: &Object<'_>, code: u8, staged: &Routing, identity: &Identity) -
 }
 
 /// Code 15: the stamp is not after that of the held mapping.
-fn not_newer(edit: &Object<'_>, staged: &Routing, identity: &Identity) -> Result<(), Stop> {
+fn not_newer<B: Register>(edit: &Object<'_>, staged: &B, identity: &Identity) -> Result<(), Stop> {
     let Some(held) = staged.held(identity) else {
         return Ok(());
     };
@@ -65,7 +73,7 @@ fn not_newer(edit: &Object<'_>, staged: &Routing, identity: &Identity) -> Result
 }
 
 /// Code 16: the key is that of another mapping.
-fn key_held(edit: &Object<'_>, staged: &Routing, identity: &Identity) -> Result<(), Stop> {
+fn key_held<B: Holdings>(edit: &Object<'_>, staged: &B, identity: &Identity) -> Result<(), Stop> {
     let Some(key) = edit.text("key") else {
         return Ok(());
     };
@@ -79,7 +87,7 @@ fn key_held(edit: &Object<'_>, staged: &Routing, identity: &Identity) -> Result<
 }
 
 /// The first mapping of another identity that has this key. It takes time in proportion to the held mappings.
-fn with_key<'h>(staged: &'h Routing, identity: &Identity, key: &str) -> Option<&'h Mapping> {
+fn with_key<'h, B: Holdings>(staged: &'h B, identity: &Identity, key: &str) -> Option<&'h Mapping> {
     for position in 0..staged.len() {
         let held = staged.mapping(position);
         if has_key(held, key) && held.identity() != identity {
@@ -101,19 +109,19 @@ fn key_unchanged(edit: &Object<'_>) -> Result<(), Stop> {
 }
 
 /// Code 18: the book holds as many mappings as it may.
-fn full(edit: &Object<'_>, staged: &Routing) -> Result<(), Stop> {
-    let count = staged.len();
+fn full<B: Register>(edit: &Object<'_>, staged: &B) -> Result<(), Stop> {
+    let count = staged.count();
     Err(found(format!(in edit.alloc; "{count} mappings are held, and no more may be")))
 }
 
 /// Code 19: the book has accepted as many edits as it may.
-fn spent(edit: &Object<'_>, staged: &Routing) -> Result<(), Stop> {
-    let count = staged.edition();
+fn spent<B: Register>(edit: &Object<'_>, staged: &B) -> Result<(), Stop> {
+    let count = staged.edits();
     Err(found(format!(in edit.alloc; "{count} edits were accepted, and no more may be")))
 }
 
 /// Code 21: the stamp is not after that of the withdrawal.
-fn withdrawn(edit: &Object<'_>, staged: &Routing, identity: &Identity) -> Result<(), Stop> {
+fn withdrawn<B: Register>(edit: &Object<'_>, staged: &B, identity: &Identity) -> Result<(), Stop> {
     let Some(trace) = staged.withdrawn(identity) else {
         return Ok(());
     };
@@ -126,7 +134,7 @@ fn withdrawn(edit: &Object<'_>, staged: &Routing, identity: &Identity) -> Result
 }
 
 /// Code 22: the book remembers as many withdrawn mappings as it may.
-fn traces_full(edit: &Object<'_>, staged: &Routing) -> Result<(), Stop> {
+fn traces_full<B: Register>(edit: &Object<'_>, staged: &B) -> Result<(), Stop> {
     let count = with_comma(edit.alloc, staged.limits().traces())?;
     Err(found(format!(in edit.alloc;
         "{count} withdrawn mappings are remembered, and no more can be: publish one of them again"

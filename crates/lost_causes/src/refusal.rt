@@ -10,17 +10,18 @@ use crate::stop::Stop;
 use crate::texts::{id, number, service, source};
 use crate::times::{expires, stamp};
 use crate::uris::uris;
-use lost_routing::Routing;
+use lost_book::Register;
+use lost_query::Holdings;
 use serde_json::Value;
 use std::alloc::{AllocError, Global};
 
 /// Why a desk line is refused with this code of the desk's table, in words. `staged` is the book with the staged edits
 /// too. The words are empty if no cause is found.
-pub fn refusal_cause(
+pub fn refusal_cause<B: Register + Holdings>(
     alloc: Global,
     line: &[u8],
     code: u8,
-    staged: &Routing,
+    staged: &B,
 ) -> Result<String, AllocError> {
     if code == 20 {
         return String::from_str(alloc, "memory ran out");
@@ -43,7 +44,12 @@ fn words(alloc: Global, walked: Result<(), Stop>) -> Result<String, AllocError> 
 }
 
 /// Walks through the one member of a desk line.
-fn refusal(alloc: Global, line: &[u8], code: u8, staged: &Routing) -> Result<(), Stop> {
+fn refusal<B: Register + Holdings>(
+    alloc: Global,
+    line: &[u8],
+    code: u8,
+    staged: &B,
+) -> Result<(), Stop> {
     let tree = tree(alloc, line)?;
     let Some(members) = tree.as_object() else {
         return Ok(());
@@ -54,12 +60,12 @@ fn refusal(alloc: Global, line: &[u8], code: u8, staged: &Routing) -> Result<(),
     Ok(())
 }
 
-fn member(
+fn member<B: Register + Holdings>(
     alloc: Global,
     name: &str,
     value: &Value,
     code: u8,
-    staged: &Routing,
+    staged: &B,
 ) -> Result<(), Stop> {
     if code == 1 {
         return bad_line(alloc, name, value);
