@@ -109,13 +109,13 @@ class Program:
 
 
 class Lines(Program):
-    """A command of the program rows_desk, which answers a refused line and goes on."""
+    """A command of the program rows_lines, which answers a refused line and goes on."""
 
     # How many bytes of lines the program is given: empty lines fill them up, so that to read them always takes as many growths.
     ROOM = 16_384
 
     def __init__(self, command, library):
-        super().__init__("rows_desk", library, command)
+        super().__init__("rows_lines", library, command)
         self.file = f"{command}.lines"
         self.lines = lines_of(read(f"{self.folder}/{self.file}"))
         self.answers = lines_of(self.wanted)
