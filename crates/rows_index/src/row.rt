@@ -1,5 +1,5 @@
 //! A row of edits of an index, over any kind of location.
-ghost use Rattle.std.specs.Prelude.{◌≡◌, IfOk, length};
+ghost use Rattle.std.specs.Prelude.{◌≡◌, [], IfOk, length};
 
 use crate::rings::{FAR, NEAR, point, square};
 use crate::tens::profile::Tens;
@@ -68,65 +68,65 @@ impl Row for Tokens {
 
 /// Prints what the index answers at each step of the row, and then tries alone each step that takes memory.
 pub(crate) fn print_all<R: Print + AllocGlobal, P: Row>(rt: &R) -> io::Result<()> {
-    print_row::<R, P>(rt)?;
-    try_first_put::<R, P>(rt)?;
-    try_second_put::<R, P>(rt)?;
-    try_add::<R, P>(rt)
+    print_row::<R, P>(rt, &mut Index::new(rt.alloc()))?;
+    try_first_put::<R, P>(rt, &mut Index::new(rt.alloc()))?;
+    try_second_put::<R, P>(rt, &mut Index::new(rt.alloc()))?;
+    try_add::<R, P>(rt, &mut Index::new(rt.alloc()))
 }
 
-/// Prints what the index answers at each step of the row.
-fn print_row<R: Print + AllocGlobal, P: Row>(rt: &R) -> io::Result<()> {
-    let alloc = rt.alloc();
-    let mut index: Index<P> = Index::new(alloc);
-    index.put(1, near::<P>(alloc)?)?;
-    index.put(2, near_twice::<P>(alloc)?)?;
-    print_asked(rt, "put", &index)?;
-    index.add(1, far::<P>(alloc)?)?;
-    print_asked(rt, "add", &index)?;
+/// Prints what an index answers at each step of the row.
+fn print_row<R: Print + AllocGlobal, P: Row>(rt: &R, index: &mut Index<P>) -> io::Result<()>
+    requires { index.old ≡ [] }
+{
+    index.put(1, near::<P>(rt.alloc())?)?;
+    index.put(2, near_twice::<P>(rt.alloc())?)?;
+    print_asked(rt, "put", index)?;
+    index.add(1, far::<P>(rt.alloc())?)?;
+    print_asked(rt, "add", index)?;
     index.cut(1, 1, 2);
-    print_asked(rt, "cut", &index)?;
+    print_asked(rt, "cut", index)?;
     index.take(2);
-    print_asked(rt, "take", &index)
+    print_asked(rt, "take", index)
 }
 
 /// Does the row's first put alone. If memory is refused, prints what the index then answers, puts again, and prints
 /// that answer.
-fn try_first_put<R: Print + AllocGlobal, P: Row>(rt: &R) -> io::Result<()> {
-    let alloc = rt.alloc();
-    let mut index: Index<P> = Index::new(alloc);
-    if index.put(1, near::<P>(alloc)?).is_err() {
-        print_asked(rt, "first put refused", &index)?;
-        index.put(1, near::<P>(alloc)?)?;
-        return print_asked(rt, "first put again", &index);
+fn try_first_put<R: Print + AllocGlobal, P: Row>(rt: &R, index: &mut Index<P>) -> io::Result<()>
+    requires { index.old ≡ [] }
+{
+    if index.put(1, near::<P>(rt.alloc())?).is_ok() {
+        return Ok(());
     }
-    Ok(())
+    print_asked(rt, "first put refused", index)?;
+    index.put(1, near::<P>(rt.alloc())?)?;
+    print_asked(rt, "first put again", index)
 }
 
 /// The same with the second put.
-fn try_second_put<R: Print + AllocGlobal, P: Row>(rt: &R) -> io::Result<()> {
-    let alloc = rt.alloc();
-    let mut index: Index<P> = Index::new(alloc);
-    index.put(1, near::<P>(alloc)?)?;
-    if index.put(2, near_twice::<P>(alloc)?).is_err() {
-        print_asked(rt, "second put refused", &index)?;
-        index.put(2, near_twice::<P>(alloc)?)?;
-        return print_asked(rt, "second put again", &index);
+fn try_second_put<R: Print + AllocGlobal, P: Row>(rt: &R, index: &mut Index<P>) -> io::Result<()>
+    requires { index.old ≡ [] }
+{
+    index.put(1, near::<P>(rt.alloc())?)?;
+    if index.put(2, near_twice::<P>(rt.alloc())?).is_ok() {
+        return Ok(());
     }
-    Ok(())
+    print_asked(rt, "second put refused", index)?;
+    index.put(2, near_twice::<P>(rt.alloc())?)?;
+    print_asked(rt, "second put again", index)
 }
 
 /// The same with the add.
-fn try_add<R: Print + AllocGlobal, P: Row>(rt: &R) -> io::Result<()> {
-    let alloc = rt.alloc();
-    let mut index: Index<P> = Index::new(alloc);
-    index.put(1, near::<P>(alloc)?)?;
-    index.put(2, near_twice::<P>(alloc)?)?;
-    if index.add(1, far::<P>(alloc)?).is_err() {
-        print_asked(rt, "add refused", &index)?;
-        index.add(1, far::<P>(alloc)?)?;
-        return print_asked(rt, "add again", &index);
+fn try_add<R: Print + AllocGlobal, P: Row>(rt: &R, index: &mut Index<P>) -> io::Result<()>
+    requires { index.old ≡ [] }
+{
+    index.put(1, near::<P>(rt.alloc())?)?;
+    index.put(2, near_twice::<P>(rt.alloc())?)?;
+    if index.add(1, far::<P>(rt.alloc())?).is_ok() {
+        return Ok(());
     }
-    Ok(())
+    print_asked(rt, "add refused", index)?;
+    index.add(1, far::<P>(rt.alloc())?)?;
+    print_asked(rt, "add again", index)
 }
 
 /// The near region, alone.
