@@ -1,5 +1,5 @@
 -- Mappings with a pattern that names required elements, or an element, are among the numbers that the indexes give.
-use Rattle.std.proofs.Common.{◌≡◌, ℕ, suc, ◌<◌, ◌≤◌, Bool, true, false, ◌&&◌, ◌||◌, List, [], ◌∷◌, length, map, filter_map, option_map, is_some, Option, Some, None, Contains, refl, sym, ap, subst, arith, ◌∙◌}
+use Rattle.std.proofs.Common.{◌≡◌, inl, inr, ℕ, suc, ◌<◌, ◌≤◌, Bool, true, false, ◌&&◌, ◌||◌, List, [], ◌∷◌, length, map, filter_map, option_map, is_some, Option, Some, None, Contains, refl, sym, ap, subst, arith, ◌∙◌}
 use Rattle.std.specs.List.{list_all, list_any, cons_option}
 use Rattle.std.specs.Cmp.{first_so, second_so}
 use Rattle.std.proofs.lemmas.Bool.{false≢true}
@@ -23,6 +23,7 @@ use Rattle.lost_tables.specs.declared.tables.Tables.{Tables}
 use Rattle.lost_tables.specs.Picks.{Covers}
 use Rattle.lost_regions.specs.Regions.{Regions}
 use Rattle.lost_routing.specs.Invariants.{IsStore}
+use Rattle.lost_routing.specs.Naming.{AreAmong}
 use Rattle.lost_routing.proofs.CoverLemmas.{covers_at_reference}
 
 apart : (a b : ℕ) → a < b → a ≡ b → ⊥
@@ -43,6 +44,10 @@ any_weaker p q tells (x ∷ xs) some = by (p x) refl some (any_weaker p q tells 
         or_true : (a b : Bool) → b ≡ true → (a || b) ≡ true
         or_true true b h = refl
         or_true false b h = h
+
+both_so : (a b : Bool) → a ≡ true → b ≡ true → (a && b) ≡ true
+both_so true b first second = second
+both_so false b first second = first
 
 any_never : {X : Type 0} (p : X → Bool) → ((x : X) → p x ≡ false) → (xs : List X) → list_any p xs ≡ false
 any_never p never [] = refl
@@ -140,3 +145,38 @@ module _ (address : Pairs) where
     covers_named ns ms tables regions kept named candidates among =
         covers_at_reference ns ms tables regions kept (is_naming t u address elements named) names_element named candidates
         (λ m naming. naming_some named m naming) among
+
+    abbrev names_both : Element → Mapping → Bool
+    names_both named m = list_any (λ pattern. is_reference elements address pattern && names_element pattern named) m.regions.patterns
+
+    -- what names another element too refers
+    naming_refers : (named : Element) (m : Mapping) → is_naming t u address elements named m ≡ true → is_referring t u address elements m ≡ true
+    naming_refers named m naming =
+        both_so (serves m t u) (list_any (is_reference elements address) m.regions.patterns)
+        (first_so (serves m t u) (names_both named m) naming)
+        (any_weaker (λ pattern. is_reference elements address pattern && names_element pattern named) (is_reference elements address)
+        (λ pattern both. first_so (is_reference elements address pattern) (names_element pattern named) both) m.regions.patterns
+        (second_so (serves m t u) (names_both named m) naming))
+
+    pub none_named_where_missing : (named : Element) (ms : List Mapping) → (length (keys_of_all elements) < length elements)
+        → list_any (is_naming t u address elements named) ms ≡ false
+    none_named_where_missing named ms missing =
+        fails_unless (list_any (is_naming t u address elements named) ms)
+        (λ some. false≢true (sym (none_where_missing ms missing)
+        ∙ any_weaker (is_naming t u address elements named) (is_referring t u address elements) (λ m naming. naming_refers named m naming) ms some))
+
+    pub none_named_where_none : (named : Element) (ms : List Mapping) → keys_of_all elements ≡ [] → 0 < length elements
+        → list_any (is_naming t u address elements named) ms ≡ false
+    none_named_where_none named ms none some =
+        none_named_where_missing named ms (subst (λ (l : List Key). length l < length elements) (sym none) some)
+
+    -- each mapping that names the elements and another one is among the candidates of either index
+    pub covers_either : (ns : List ℕ) (ms : List Mapping) (tables : Tables) (regions : Regions) → IsStore ns ms tables regions
+        → (required : List Key) (named : Element) (candidates : List ℕ) → required ≡ keys_of_all elements
+        → AreAmong required named regions candidates → Covers (is_naming t u address elements named) ns ms candidates
+    covers_either ns ms tables regions kept required named candidates are (inl among) =
+        covers_at_reference ns ms tables regions kept (is_naming t u address elements named) names_all (keys_of_all elements) candidates
+        (λ m naming. named_by_some m (naming_refers named m naming))
+        (λ n stands. among n (subst (λ keys. Contains (holders names_all keys regions.references) n) (sym are) stands))
+    covers_either ns ms tables regions kept required named candidates are (inr among) =
+        covers_named ns ms tables regions kept named candidates among

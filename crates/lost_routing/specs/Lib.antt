@@ -4,3 +4,4 @@ pub mod Invariants
 pub mod Applied
 pub mod Walk
 pub mod Chain
+pub mod Naming

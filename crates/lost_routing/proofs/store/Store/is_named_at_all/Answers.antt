@@ -3,7 +3,7 @@ use Rattle.std.proofs.Common.{◌≡◌, Contains, rules, ap, sym, subst}
 use Rattle.std.specs.List.{list_any}
 use Rattle.lost_query.specs.Judged.{is_naming}
 use Rattle.lost_routing.proofs.NamedLemmas.{covers_named}
-use Rattle.lost_routing.proofs.store.Store.is_named.Goals as goal
+use Rattle.lost_routing.proofs.store.Store.is_named_at_all.Goals as goal
 
 pub returns : goal.returns
 returns c =
