@@ -1,7 +1,6 @@
-"""Maps of districts: three services tile the same land, each with districts of its own.
+"""Maps of districts: each service tiles the same land with districts of its own.
 
-A district is drawn as bench_serve draws it (crates/test_parts): two neighbours share each position of the side between
-them, and a ring has 21 to 393 positions, mostly some 200.
+Two neighbours share each position of the side between them, and a ring has 21 to 393 positions, mostly some 200.
 """
 import json
 import math
@@ -20,11 +19,11 @@ def write_line(described):
 
 
 class Land:
-    """So many mappings, a third of them for each service, in rows and columns of districts."""
+    """So many mappings, dealt to the services, in rows and columns of districts."""
 
-    def __init__(self, mappings):
-        self.mappings = mappings
-        self.districts = -(-mappings // len(SERVICES))
+    def __init__(self, mappings, services=SERVICES):
+        self.mappings, self.services = mappings, services
+        self.districts = -(-mappings // len(services))
         self.columns = math.isqrt(self.districts - 1) + 1
         self.rows = -(-self.districts // self.columns)
         self.least_ring, self.most_ring = MOST * 8, 0
@@ -64,23 +63,29 @@ class Land:
 
     def mapping(self, verb, number, ring, updated):
         """The line that publishes or replaces a mapping of a ring and the pattern of a town."""
-        service, district = SERVICES[number % len(SERVICES)], number // len(SERVICES)
+        service, district = self.services[number % len(self.services)], number // len(self.services)
         front = f'{{"{verb}":{{"expires":"NO-EXPIRATION","key":"K-{number}","lastUpdated":"{updated}","service":"{service}",'
         town = f'{{"pattern":{{"A1":"NJ","A3":"Town {district}","country":"US"}},"profile":"civic"}}'
         regions = f'"serviceBoundary":[{{"polygon":{ring},"profile":"geodetic-2d"}},{town}],'
         end = f'"source":"map.example","sourceId":"M-{number}","uri":["sip:m{number}@map.example"]}}}}\n'
         return (front + regions + end).encode()
 
+    def edit(self, verb, number, updated, sides=None):
+        """The line that publishes or replaces a mapping; also of one behind the last, whose district is beside the land."""
+        service, district = number % len(self.services), number // len(self.services)
+        return self.mapping(verb, number, self.ring(service, district, {} if sides is None else sides), updated)
+
+    def publishes(self):
+        """The lines that publish all mappings."""
+        kept = [{} for _ in self.services]
+        for number in range(self.mappings):
+            yield self.edit("publish", number, PUBLISHED, kept[number % len(kept)])
+
     def lines(self):
         """The desk lines: all mappings and a commit, and then one replacement and a commit."""
-        kept, first = [{} for _ in SERVICES], None
-        for number in range(self.mappings):
-            service, district = number % len(SERVICES), number // len(SERVICES)
-            ring = self.ring(service, district, kept[service])
-            first = first or ring
-            yield self.mapping("publish", number, ring, PUBLISHED)
+        yield from self.publishes()
         yield write_line({"commit": {}})
-        yield self.mapping("replace", 0, first, REPLACED)
+        yield self.edit("replace", 0, REPLACED)
         yield write_line({"commit": {}})
 
     def write(self, path):

@@ -1,7 +1,7 @@
 """Requests that ask a map of districts, by kinds."""
 import random
 
-from maps import SERVICES, SIDE, SOUTH, STRAY, WEST, write_line
+from maps import SIDE, SOUTH, STRAY, WEST, write_line
 
 # How far a city reaches, in sides of a district: two of three points are no farther from its middle in each direction.
 CITY = 1.5
@@ -16,7 +16,7 @@ class Questions:
 
     def anywhere(self):
         """A point of any district, however its sides stray."""
-        row, column = self.land.place(self.dice.randrange(self.land.mappings // len(SERVICES)))
+        row, column = self.land.place(self.dice.randrange(self.land.mappings // len(self.land.services)))
         inside = lambda: self.dice.randint(STRAY, SIDE)
         return [SOUTH + row * SIDE + inside(), WEST + column * SIDE + inside()]
 
@@ -31,8 +31,8 @@ class Questions:
         return [SOUTH + row * SIDE + SIDE // 2, WEST + column * SIDE + SIDE // 2]
 
     def service(self):
-        """One of the three services."""
-        return self.dice.choice(SERVICES)
+        """One of the land's services."""
+        return self.dice.choice(self.land.services)
 
     def find(self, location, **more):
         """Asks for a service at a location."""

@@ -3,31 +3,14 @@
 //
 //     load FILE PORT CONNECTIONS DEPTH THREADS SECONDS
 //
-// FILE has the questions: of each two numbers of 32 bits, the lengths of its request and of its reply, and then both. A
-// connection sends DEPTH requests in a row, takes all their replies, and goes on with the next ones. The connections begin
-// all over the file. It prints how many replies came in so many seconds. Status 1, and a line on standard error: a server that
-// ends a connection or replies otherwise, and whatever else fails.
-#define _GNU_SOURCE
-#include <arpa/inet.h>
-#include <errno.h>
-#include <netinet/tcp.h>
+// FILE has the questions, as asking.h says. A connection sends DEPTH requests in a row, takes all their replies, and goes on
+// with the next ones. The connections begin all over the file. It prints how many replies came in so many seconds. Status 1,
+// and a line on standard error: a server that ends a connection or replies otherwise, and whatever else fails.
+#include "asking.h"
 #include <pthread.h>
-#include <stdint.h>
-#include <stdio.h>
-#include <stdlib.h>
-#include <string.h>
 #include <sys/epoll.h>
-#include <sys/socket.h>
-#include <time.h>
-#include <unistd.h>
 
-enum { PIECE = 1 << 17, EVENTS = 64 };
-
-// The requests, or the replies, of all questions twice in a row: so each run of them is one piece of bytes.
-struct side {
-    char *bytes;
-    size_t *starts;
-};
+enum { EVENTS = 64 };
 
 // A connection, the first question that it waits for, and how many bytes of the replies it has.
 struct peer {
@@ -42,107 +25,14 @@ struct thread {
     uint64_t replies;
 };
 
-static struct side requests, replies;
-static size_t questions, depth;
-static uint16_t port;
+static size_t depth;
 static uint64_t span, begun;
 static pthread_barrier_t opened, started;
 
-static void fail(const char *what, const char *why)
-{
-    fprintf(stderr, "%s: %s\n", what, why);
-    exit(1);
-}
-
-static void *taken(size_t size)
-{
-    void *found = calloc(size, 1);
-    if (!found)
-        fail("memory", "it ran out");
-    return found;
-}
-
-static uint64_t now(void)
-{
-    struct timespec time;
-    clock_gettime(CLOCK_MONOTONIC, &time);
-    return time.tv_sec * 1000000000ull + time.tv_nsec;
-}
-
-static char *read_file(const char *path, size_t *size)
-{
-    FILE *file = fopen(path, "rb");
-    if (!file || fseek(file, 0, SEEK_END))
-        fail(path, strerror(errno));
-    *size = ftell(file);
-    rewind(file);
-    char *text = taken(*size + 1);
-    if (fread(text, 1, *size, file) != *size)
-        fail(path, "it cannot be read");
-    fclose(file);
-    return text;
-}
-
-static void read_questions(const char *path)
-{
-    size_t size, at = 0;
-    char *text = read_file(path, &size);
-    requests.bytes = taken(2 * size);
-    replies.bytes = taken(2 * size);
-    // A question has at least the eight bytes of its lengths.
-    requests.starts = taken((size / 4 + 1) * sizeof(size_t));
-    replies.starts = taken((size / 4 + 1) * sizeof(size_t));
-    size_t count = 0;
-    for (int turn = 0; turn < 2; turn++)
-        for (at = 0; at + 8 <= size; count++) {
-            uint32_t lengths[2];
-            memcpy(lengths, text + at, 8);
-            memcpy(requests.bytes + requests.starts[count], text + at + 8, lengths[0]);
-            memcpy(replies.bytes + replies.starts[count], text + at + 8 + lengths[0], lengths[1]);
-            requests.starts[count + 1] = requests.starts[count] + lengths[0];
-            replies.starts[count + 1] = replies.starts[count] + lengths[1];
-            at += 8 + (size_t)lengths[0] + lengths[1];
-        }
-    questions = count / 2;
-    free(text);
-}
-
-static int connected(void)
-{
-    struct sockaddr_in address = {.sin_family = AF_INET, .sin_port = htons(port), .sin_addr.s_addr = htonl(INADDR_LOOPBACK)};
-    int one = 1, made = socket(AF_INET, SOCK_STREAM, 0);
-    if (made < 0 || connect(made, (struct sockaddr *)&address, sizeof address))
-        fail("connect", strerror(errno));
-    setsockopt(made, IPPROTO_TCP, TCP_NODELAY, &one, sizeof one);
-    return made;
-}
-
 static void ask(struct peer *peer)
 {
-    const char *piece = requests.bytes + requests.starts[peer->first];
-    size_t left = requests.starts[peer->first + depth] - requests.starts[peer->first];
-    while (left) {
-        ssize_t sent = send(peer->socket, piece, left, MSG_NOSIGNAL);
-        if (sent < 0)
-            fail("send", strerror(errno));
-        piece += sent;
-        left -= sent;
-    }
+    send_from(peer->socket, peer->first, depth);
     peer->read = 0;
-}
-
-// Takes what has come. Whether all replies of the connection have.
-static int take(struct peer *peer, char *buffer)
-{
-    const char *wanted = replies.bytes + replies.starts[peer->first];
-    size_t whole = replies.starts[peer->first + depth] - replies.starts[peer->first];
-    ssize_t came = recv(peer->socket, buffer, PIECE, 0);
-    if (came <= 0)
-        fail("the server", came ? strerror(errno) : "it ended a connection");
-    if ((size_t)came > whole - peer->read || memcmp(buffer, wanted + peer->read, came))
-        fail("the server", "a reply is not as it was before");
-    peer->read += came;
-    return peer->read == whole;
 }
 
 static int open_all(struct thread *thread)
@@ -161,7 +51,7 @@ static int open_all(struct thread *thread)
 // connection ends well.
 static int goes_on(struct thread *thread, struct peer *peer, char *buffer, int is_over)
 {
-    if (!take(peer, buffer))
+    if (!take_from(peer->socket, peer->first, depth, &peer->read, buffer))
         return 1;
     if (is_over)
         return 0;

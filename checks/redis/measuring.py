@@ -40,18 +40,23 @@ def on_cores(cores):
         os.sched_setaffinity(0, before)
 
 
+def compiled(source, folder):
+    """The path of a C program that is compiled into a folder; its name is that of its source."""
+    path = f"{folder}/{os.path.basename(source)[:-2]}"
+    try:
+        ran = subprocess.run(["cc", "-O2", "-pthread", "-o", path, source], capture_output=True, text=True)
+    except FileNotFoundError:
+        raise Fault("cc is missing: apt-get install gcc libc6-dev") from None
+    if ran.returncode:
+        raise Fault(f"{os.path.basename(source)} does not compile: {(ran.stderr.strip() or 'cc says nothing').splitlines()[0]}")
+    return path
+
+
 class Load:
     """The program that asks; it is compiled into a folder."""
 
     def __init__(self, folder, seconds):
-        self.path, self.seconds = f"{folder}/load", seconds
-        words = ["cc", "-O2", "-pthread", "-o", self.path, f"{HERE}/load.c"]
-        try:
-            ran = subprocess.run(words, capture_output=True, text=True)
-        except FileNotFoundError:
-            raise Fault("cc is missing: apt-get install gcc libc6-dev") from None
-        if ran.returncode:
-            raise Fault(f"load.c does not compile: {(ran.stderr.strip() or 'cc says nothing').splitlines()[0]}")
+        self.path, self.seconds = compiled(f"{HERE}/load.c", folder), seconds
 
     def ask(self, side, pairs, plan, cores):
         """Asks a server from some cores: replies a second, and how much of a core the server took."""
@@ -140,16 +145,23 @@ def compare_with_redis(bench, sides, told):
             print(f"note: a server waited over {count_of(plan)}: it had too few requests, or its core other work", flush=True)
 
 
+def shared_cores(cores):
+    """The cores of four workers, those of their load, and both in words."""
+    of_four = cores[-WORKERS:]
+    if len(cores) >= APART:
+        return of_four, cores[:-WORKERS], "each on a core of its own"
+    return of_four, of_four, f"each on a core that it shares with the load, since there are {len(cores)}"
+
+
 def compare_workers(bench, told):
     """lostd with four workers on four cores beside lostd with one worker on one core."""
     cores = bench.cores
     if len(cores) < WORKERS:
         print(f"four workers: not measured, since there are {len(cores)} cores", flush=True)
         return
-    is_apart = len(cores) >= APART
-    of_one, of_four = cores[-1:], cores[-WORKERS:]
-    load_cores = [cores[:-WORKERS]] * 2 if is_apart else [of_four, of_one]
-    where = "each on a core of its own" if is_apart else f"each on a core that it shares with the load, since there are {len(cores)}"
+    of_four, its_load, where = shared_cores(cores)
+    of_one = cores[-1:]
+    load_cores = [its_load, its_load if len(cores) >= APART else of_one]
     with contextlib.ExitStack() as stack:
         sides = []
         for workers, its_cores in ((WORKERS, of_four), (1, of_one)):

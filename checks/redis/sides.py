@@ -96,7 +96,7 @@ def write_map(mappings, path):
     """Writes a map of so many mappings, without the edit behind it; the land that it maps."""
     land = Land(mappings)
     with open(path, "wb") as file:
-        file.writelines(line for line in land.lines() if line.startswith(b'{"publish"'))
+        file.writelines(land.publishes())
         file.write(b'{"commit":{}}\n')
     return land
 

@@ -4,8 +4,10 @@ from __future__ import annotations
 import contextlib
 import json
 import os
+import re
 import shutil
 import socket
+import struct
 import subprocess
 import sys
 import tempfile
@@ -103,6 +105,16 @@ class Load(unittest.TestCase):
             lambda count, reply: reply if count < 8 else reply + b"\n",
         ):
             self.assertEqual(self.load(4, spoil), (1, "", "the server: a reply is not as it was before\n"))
+
+    def test_any_digit(self) -> None:
+        with open(f"{self.folder}/pairs", "wb") as file:
+            for request, reply in PAIRS:
+                wanted = re.sub(rb"[0-9]", b"\0", reply)
+                file.write(struct.pack("=II", len(request), len(wanted)) + request + wanted)
+        status, told, said = self.load(4, lambda _, reply: reply.replace(b"1", b"7"))
+        self.assertEqual((status, said), (0, ""))
+        self.assertGreater(int(told), 0)
+        self.assertEqual(self.load(4, lambda _, reply: reply.replace(b"1", b"x")), (1, "", "the server: a reply is not as it was before\n"))
 
     def test_too_few_questions(self) -> None:
         self.assertEqual(self.load(30, lambda _, reply: reply)[0], 1)
