@@ -29,11 +29,11 @@ LINES = {
 EDITS = ["publish", "replacement", "withdrawal"]
 
 
-def grown(names: Dict[str, str], figures: Dict[Tuple[str, str, str], str], sizes: List[str]) -> List[List[str]]:
-    """Rows of a table: what each name takes at both sizes, and the ratio of the two where the caches are emptied."""
+def grown(names: Dict[str, str], spent: Dict[Tuple[str, str], str], counted: Dict[Tuple[str, str], str], sizes: List[str]) -> List[List[str]]:
+    """Rows of a table: what each name takes at both sizes, and the ratio of the instructions, where these are counted."""
     few, many = sizes
     return [
-        [said, *(micro(figures[size, name, "warm"]) for size in sizes), f"{int(figures[many, name, 'cold']) / int(figures[few, name, 'cold']):.2f}"]
+        [said, *(micro(spent[size, name]) for size in sizes), *([f"{int(counted[many, name]) / int(counted[few, name]):.2f}"] if counted else [])]
         for name, said in names.items()
     ]
 
@@ -42,55 +42,59 @@ def read_lines(text: str) -> Read:
     """What a line of each kind, an edit and a map cost at two sizes."""
     loads = rows(r"(\d+) mappings loaded: (\d+) nanoseconds for (\d+) bytes", text, 4)
     sizes = [size for size, _, _ in loads[:2]]
-    figures: Dict[Tuple[str, str, str], str] = {}
-    for size, name, warm, cold in rows(r"(\d+) mappings, (.+): (\d+) nanoseconds a line, (\d+) with the caches emptied", text, 2 * len(LINES)):
-        figures.update({(size, name, "warm"): warm, (size, name, "cold"): cold})
-    for size, name, spent, how in rows(r"(\d+) mappings, (.+) and commit: (\d+) nanoseconds (.+)", text, 4 * len(EDITS)):
-        figures[size, name, "warm" if how == "one after another" else "cold"] = spent
-    wanted = [(size, name, how) for size in sizes for name in (*LINES, *EDITS) for how in ("warm", "cold")]
-    if set(figures) != set(wanted):
-        raise Unexpected("a kind of line is measured at one size alone")
+    found = rows(r"(\d+) mappings, (.+): (\d+) nanoseconds a line(?:, (\d+) instructions)?", text, 2 * len(LINES))
+    found += rows(r"(\d+) mappings, (.+) and commit: (\d+) nanoseconds(?:, (\d+) instructions)?", text, 2 * len(EDITS))
+    spent = {(size, name): nanoseconds for size, name, nanoseconds, _ in found}
+    counted = {(size, name): number for size, name, _, number in found if number}
+    if set(spent) != {(size, name) for size in sizes for name in (*LINES, *EDITS)} or len(counted) not in (0, len(spent)):
+        raise Unexpected("a kind of line is measured, or counted, at one size alone")
     heads = [f"{int(size):,}" for size in sizes]
     (_, few, _), (_, many, size) = loads[:2]
     said = (
         f"Loading {heads[0]} boundaries takes {seconds(int(few) // 1_000)} s, and {heads[1]} {seconds(int(many) // 1_000)} s,"
         f" at {int(size) * 1_000 // int(many)} MB a second."
     )
-    lines = table(["Microseconds a line", *heads, "Cold ratio"], grown(LINES, figures, sizes))
-    edits = table(["Microseconds an edit and its commit", *heads, "Cold ratio"], grown({name: name for name in EDITS}, figures, sizes))
+    more = ["Instructions"] if counted else []
+    lines = table(["Microseconds a line", *heads, *more], grown(LINES, spent, counted, sizes))
+    edits = table(["Microseconds an edit and its commit", *heads, *more], grown({name: name for name in EDITS}, spent, counted, sizes))
     shown = {
-        FIND: f"{micro(figures[sizes[1], 'findService, found', 'warm'])} µs",
-        VALIDATE: f"{micro(figures[sizes[1], 'validation of an address', 'warm'])} µs",
+        FIND: f"{micro(spent[sizes[1], 'findService, found'])} µs",
+        VALIDATE: f"{micro(spent[sizes[1], 'validation of an address'])} µs",
         LOAD: f"{seconds(int(many) // 1_000)} s",
     }
-    return f"One reader of a desk, boundaries of 20 to 400 positions.\n\n{lines}\n\n{edits}\n\n{said}", shown
+    return f"`replay`, boundaries of 20 to 400 positions, by processor time.\n\n{lines}\n\n{edits}\n\n{said}", shown
 
 
-def read_readers(text: str) -> Read:
-    """How much more four readers answer than one."""
-    (one, four, beside), = rows(
-        r"(\d+) nanoseconds a reply by one reader, (\d+) by each of four, (\d+) while the desk commits 100 times a second", text, 1)
-    return (
-        f"Four readers on four cores answer {4 * int(one) / int(four):.2f} times what one does,"
-        f" and {4 * int(one) / int(beside):.2f} times beside 100 commits a second."
-    ), {}
+def read_workers(text: str) -> Read:
+    """How much less four workers answer while a desk commits."""
+    if re.search("^four workers: not measured", text, re.MULTILINE):
+        raise Unexpected("four workers are not measured on fewer cores")
+    found = rows(
+        r"four workers, (\d+) connections, depth (\d+): \d+ replies a second, \d+ beside 100 commits a second, .+;"
+        r" (\d+\.\d\d) \(\d+\.\d\d to \d+\.\d\d\) times as many", text, 2)
+    said = " and ".join(f"{times} times ({depth} at a time)" for _, depth, times in found)
+    return f"Beside 100 commits a second, four workers give {found[0][0]} connections {said} the replies.", {}
 
 
 def read_cache(text: str) -> Read:
-    """What a cache saves and costs."""
-    found = rows(r"(.+): (\d+) nanoseconds a reply by a reader, (\d+) with a cache", text, 2)
-    lines = [[what, micro(plain), micro(kept)] for what, plain, kept in found]
-    return table(["Microseconds a reply, 10 boundaries over each place", "No cache", "Cache"], lines), {}
+    """What a worker's cache saves."""
+    found = rows(
+        r"(\d+ boundar.+) of (\d+) positions: (\d+) nanoseconds a reply at points asked again and again, (\d+) at points asked once", text, 2)
+    lines = [[f"{of} of {positions} positions", micro(again), micro(once)] for of, positions, again, once in found]
+    said = "Processor time over TCP, 16 requests at a time. A worker keeps the places that it was asked for last."
+    return f"{said}\n\n{table(['Microseconds a reply', 'Asked again', 'Asked once'], lines)}", {}
 
 
 def read_connections(text: str) -> Read:
     """How long a line and a commit take over a connection."""
     late = rows(
         r"(\d+) mappings, nanoseconds within which half and 99 of a hundred come:"
-        r" a reply \d+ and (\d+), beside commits \d+ and (\d+), a commit \d+ and (\d+)", text, 2)
-    lines = [[f"{int(mappings):,}", *map(micro, spans)] for mappings, *spans in late]
-    said = table(["99 of 100 within microseconds, at mappings", "Reply", "Reply beside commits", "Commit"], lines)
-    return f"One line at a time, beside 100 commits a second.\n\n{said}", {COMMIT: f"{milli(late[1][3])} ms"}
+        r" a reply (\d+) and (\d+), beside commits (\d+) and (\d+), a commit (\d+) and (\d+)", text, 2)
+    lines = [
+        [f"{int(mappings):,}", *(f"{micro(half)}, {micro(most)}" for half, most in zip(spans[::2], spans[1::2]))] for mappings, *spans in late
+    ]
+    said = table(["Half and 99 of 100 within microseconds, at mappings", "Reply", "Reply beside commits", "Commit"], lines)
+    return f"One line at a time, beside 100 commits a second.\n\n{said}", {COMMIT: f"{milli(late[1][6])} ms"}
 
 
 def read_memory(text: str) -> Read:
@@ -160,13 +164,12 @@ def read_plain(text: str) -> Read:
 
 
 class Section(NamedTuple):
-    """A section of the page: its title, the program that is run with words, and what reads its output."""
+    """A section of the page: its title, the check that is run with words, and what reads its output."""
 
     title: str
     program: str
     words: List[str]
     read: Callable[[str], Read]
-    needs: str = ""
 
     @property
     def command(self) -> str:
@@ -175,13 +178,13 @@ class Section(NamedTuple):
 
 
 SECTIONS = [
-    Section("Lines", "bench_serve", ["lines"], read_lines),
-    Section("Readers", "bench_serve", ["readers"], read_readers),
-    Section("Cache", "bench_serve", ["cache"], read_cache),
-    Section("Connections", "bench_serve", ["connections"], read_connections),
-    Section("Beside redis", "checks/redis/run", [], read_redis, "lostd"),
-    Section("Beside a plain server", "checks/plain-server/run", [], read_plain, "lostd"),
-    Section("Memory", "checks/resident-memory/run", [], read_memory, "lostd"),
-    Section("A large map", "checks/benchmarks/loaded-server", [], read_loaded, "lostd"),
-    Section("Gateway", "checks/gateway/run", ["--speed"], read_gateway, "lostd"),
+    Section("Lines", "checks/speed/run", ["--only", "lines"], read_lines),
+    Section("Readers", "checks/speed/run", ["--only", "workers"], read_workers),
+    Section("Cache", "checks/speed/run", ["--only", "cache"], read_cache),
+    Section("Connections", "checks/speed/run", ["--only", "connections"], read_connections),
+    Section("Beside redis", "checks/redis/run", [], read_redis),
+    Section("Beside a plain server", "checks/plain-server/run", [], read_plain),
+    Section("Memory", "checks/resident-memory/run", [], read_memory),
+    Section("A large map", "checks/benchmarks/loaded-server", [], read_loaded),
+    Section("Gateway", "checks/gateway/run", ["--speed"], read_gateway),
 ]

@@ -1,5 +1,5 @@
-"""checks/benchmarks: what the bench and the checks print becomes docs/BENCHMARKS.md and five rows of README, with programs in
-their place that print figures of no meaning."""
+"""checks/benchmarks: what the checks print becomes docs/BENCHMARKS.md and five rows of README, with programs in their place
+that print figures of no meaning."""
 from __future__ import annotations
 
 import os
@@ -18,26 +18,31 @@ ROADS = ["validation of an address"]
 EDITS = ["publish", "replacement", "withdrawal"]
 
 
-def measured(size: int, load: int, lines: List[str], edits: List[str], warm: int, cold: int) -> List[str]:
+def measured(size: int, load: int, lines: List[str], edits: List[str], spent: int, counted: int) -> List[str]:
     """What a map costs."""
     return [
         f"{size} mappings loaded: {load} nanoseconds for 260000000 bytes",
-        *[f"{size} mappings, {name}: {warm} nanoseconds a line, {cold} with the caches emptied" for name in lines],
-        *[f"{size} mappings, {name} and commit: {2 * warm} nanoseconds one after another" for name in edits],
-        *[f"{size} mappings, {name} and commit: {2 * cold} nanoseconds with the caches emptied" for name in edits],
+        *[f"{size} mappings, {name}: {spent} nanoseconds a line, {counted} instructions" for name in lines],
+        *[f"{size} mappings, {name} and commit: {2 * spent} nanoseconds, {3 * counted} instructions" for name in edits],
     ]
 
 
 CORES = "each on a core that it shares with the load, since there are 4"
 PRINTED: Dict[str, Dict[str, List[str]]] = {
-    "bench_serve": {
-        "lines": [
+    "speed": {
+        "--only lines": [
             *measured(1024, 61_000_000, LINES, EDITS, 3412, 8000), *measured(60025, 3_412_345_000, LINES, EDITS, 11_800, 8240),
             *measured(1024, 5_000_000, ROADS, [], 3412, 8000), *measured(60025, 700_000_000, ROADS, [], 11_800, 8240),
         ],
-        "readers": ["2100 nanoseconds a reply by one reader, 2200 by each of four, 2300 while the desk commits 100 times a second"],
-        "cache": [f"{what}: 11600 nanoseconds a reply by a reader, 1700 with a cache" for what in ("1,000 places asked again and again", "places asked once")],
-        "connections": [
+        "--only workers": [
+            f"four workers, 64 connections, depth {depth}: 200000 replies a second, 190000 beside 100 commits a second, {CORES}; 0.{90 + depth} (0.85 to 1.01) times as many"
+            for depth in (1, 7)
+        ],
+        "--only cache": [
+            f"{of} positions: {again} nanoseconds a reply at points asked again and again, {once} at points asked once"
+            for of, again, once in (("10 boundaries of 400", 1700, 11_600), ("1 boundary of 200", 1300, 2400))
+        ],
+        "--only connections": [
             f"{mappings} mappings, nanoseconds within which half and 99 of a hundred come: a reply 17000 and 21000, beside commits 18000 and 27000,"
             " a commit 90000 and 290000" for mappings in (1024, 60025)
         ],
@@ -132,10 +137,11 @@ class Benchmarks(unittest.TestCase):
         page = self.read("docs/BENCHMARKS.md")
         self.assertEqual(re.findall("^## (.*)$", page, re.M), ["Lines", "Readers", "Cache", "Connections", "Beside redis", "Beside a plain server", "Memory", "A large map", "Gateway"])
         for row in (
-            "| `findService`, found | 3.4 | 12 | 1.03 |", "| validation of an address | 3.4 | 12 | 1.03 |", "| withdrawal | 6.8 | 24 | 1.03 |",
+            "| Microseconds a line | 1,024 | 60,025 | Instructions |", "| `findService`, found | 3.4 | 12 | 1.03 |",
+            "| validation of an address | 3.4 | 12 | 1.03 |", "| withdrawal | 6.8 | 24 | 1.03 |",
             "Loading 1,024 boundaries takes 0.06 s, and 60,025 3.4 s, at 76 MB a second.",
-            "Four readers on four cores answer 3.82 times what one does, and 3.65 times beside 100 commits a second.",
-            "| places asked once | 12 | 1.7 |", "| 60,025 | 21 | 27 | 290 |",
+            "Beside 100 commits a second, four workers give 64 connections 0.91 times (1 at a time) and 0.97 times (7 at a time) the replies.",
+            "| 10 boundaries of 400 positions | 1.7 | 12 |", "| 1 boundary of 200 positions | 1.3 | 2.4 |", "| 60,025 | 17, 21 | 18, 27 | 90, 290 |",
             "| Mappings | 30 | 60,000 |", "| loading | 0.61 | 1.52 |", "| most memory | 0.61 | 1.52 |", "| points all over the map | 0.61 | 1.52 |",
             "| one | 3,360 | 0.55 | 15.0 |", "| 1 | 16 | 45,700 | 54,300 | 0.84 | 0.81 |", "| 64 | 1 | 45,700 | 54,300 | 0.84 | 0.81 |",
             f"10,000 idle connections beside 64 leave 0.98 of the replies. Four workers, {CORES}, answer 64 connections 3.01 times (1 at a time) and 3.16 times (16 at a time) as fast as one.",
@@ -146,12 +152,12 @@ class Benchmarks(unittest.TestCase):
     def test_a_section_that_fails_stays_as_it_was(self) -> None:
         self.assertEqual(self.run_check(), (0, ""))
         before = self.read("docs/BENCHMARKS.md")
-        with_programs(self.folder, {"bench_serve": {**PRINTED["bench_serve"], "connections": ["nothing that is known"], "cache": []}})
+        with_programs(self.folder, {"speed": {**PRINTED["speed"], "--only connections": ["nothing that is known"], "--only cache": []}})
         os.remove(f"{self.folder}/resident-memory")
         status, said = self.run_check()
         self.assertEqual((status, len(said.splitlines())), (1, 3), said)
         after = self.read("docs/BENCHMARKS.md")
-        self.assertRegex(after, r"(?m)^`bench_serve connections`, \S+, commit .+\.$")
+        self.assertRegex(after, r"(?m)^`checks/speed/run --only connections`, \S+, commit .+\.$")
         self.assertEqual(re.sub(r"(?m)^(`[^`]*`), \S+, commit .+\.$", r"\1.", after), before)
 
     def test_figures_of_another_machine_are_left_out(self) -> None:
@@ -160,6 +166,24 @@ class Benchmarks(unittest.TestCase):
         page = self.read("docs/BENCHMARKS.md")
         self.assertNotIn("of a 286", page)
         self.assertEqual(re.findall("^## (.*)$", page, re.M), ["Cache"])
+
+    def test_lines_without_instructions(self) -> None:
+        plain = ["instructions: not counted: valgrind is missing", *[line.partition(" nanoseconds")[0] + " nanoseconds" + (
+            " for 260000000 bytes" if "loaded" in line else "" if "commit" in line else " a line") for line in PRINTED["speed"]["--only lines"]]]
+        with_programs(self.folder, {"speed": {"--only lines": plain}})
+        self.assertEqual(self.run_check("--only", "lines"), (0, ""))
+        page = self.read("docs/BENCHMARKS.md")
+        for row in ("| Microseconds a line | 1,024 | 60,025 |", "| `findService`, found | 3.4 | 12 |", "| withdrawal | 6.8 | 24 |"):
+            self.assertIn(f"\n{row}\n", page)
+        for lines in ([*plain[:-1], f"{plain[-1]}, 7 instructions"], plain[:-1]):
+            with_programs(self.folder, {"speed": {"--only lines": lines}})
+            status, said = self.run_check("--only", "lines")
+            self.assertEqual((status, len(said.splitlines())), (1, 1), said)
+
+    def test_workers_on_few_cores(self) -> None:
+        with_programs(self.folder, {"speed": {"--only workers": ["four workers: not measured, since there are 2 cores"]}})
+        status, said = self.run_check("--only", "readers")
+        self.assertEqual((status, len(said.splitlines())), (1, 1), said)
 
     def test_redis_on_few_cores(self) -> None:
         lines = [line for line in PRINTED["redis"][""] if not line.startswith("four workers")]
