@@ -1,2 +1,3 @@
 pub mod MadeLemmas
 pub mod RequiredLemmas
+pub mod HasLemmas

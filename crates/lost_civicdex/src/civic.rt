@@ -58,15 +58,21 @@ impl Profile for Civic {
     }
 
     /// The hashed key of the pattern's last element, alone.
-    fn cover(alloc: Global, region: &CivicPattern) -> Result<Vec<HashedKey>, AllocError> {
-        // One key, since a pattern names some element.
-        let room = region.pairs().len().min(Self::COVER_MAX);
-        let mut keys = Vec::with_capacity(alloc, room)?;
-        match find_last(region) {
-            Some((element, text)) => keys.push(HashedKey::new(element, text))?,
-            None => {}
+    fn key_at(region: &CivicPattern, position: usize) -> Option<HashedKey> {
+        if position > 0 {
+            return None;
         }
-        Ok(keys)
+        match find_last(region) {
+            Some((element, text)) => Some(HashedKey::new(element, text)),
+            None => None,
+        }
+    }
+
+    fn has_key(region: &CivicPattern, key: &HashedKey) -> bool {
+        match find_last(region) {
+            Some((element, text)) => *key == HashedKey::new(element, text),
+            None => false,
+        }
     }
 
     /// The hashed keys of the address's known elements, in the order of the table.
@@ -77,6 +83,8 @@ impl Profile for Civic {
 
     /// The signature of the pattern.
     fn outline(region: &CivicPattern) -> Signature {
+        // Shows to the proof that it is a pattern.
+        let _pairs = region.pairs();
         region.signature()
     }
 

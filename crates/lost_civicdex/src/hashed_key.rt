@@ -25,4 +25,11 @@ impl HashedKey {
             hash: element_hash(element, text),
         }
     }
+
+    /// The element.
+    pub fn element(&self) -> Element
+        ensures { result ≡ self.now.element }
+    {
+        self.element
+    }
 }

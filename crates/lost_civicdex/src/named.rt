@@ -5,6 +5,7 @@ ghost use Rattle.lost_civicdex.specs.Covers.{IsPattern};
 ghost use Rattle.lost_civicdex.specs.NamedElements.{names_element, named_cover, element_probes};
 ghost use Rattle.lost_civicdex.specs.NamedLaws.{named_shares, named_distinct, named_bounded};
 
+use crate::texts::find_nth;
 use lost_civic::{CivicPattern, Element};
 use lost_profile::Profile;
 use std::alloc::{AllocError, Global};
@@ -19,20 +20,6 @@ fn names(pattern: &CivicPattern, element: Element) -> bool
     ensures { result ≡ names_element pattern.now element }
 {
     pattern.text(element).is_some()
-}
-
-/// The elements that the pattern names, in the order of the table.
-fn named_elements(alloc: Global, pattern: &CivicPattern) -> Result<Vec<Element>, AllocError>
-    ensures { IfOk result (λ elements. elements.items ≡ named_cover pattern.now) }
-{
-    let mut elements = Vec::with_capacity(alloc, pattern.pairs().len())?;
-    for element in Element::ALL {
-        match pattern.text(element) {
-            Some(_) => elements.push(element)?,
-            None => {}
-        }
-    }
-    Ok(elements)
 }
 
 impl Profile for Named {
@@ -74,10 +61,15 @@ impl Profile for Named {
     }
 
     /// The elements that the pattern names, in the order of the table.
-    fn cover(alloc: Global, region: &CivicPattern) -> Result<Vec<Element>, AllocError> {
-        // Shows to the proof that it is a pattern.
-        let _pairs = region.pairs();
-        named_elements(alloc, region)
+    fn key_at(region: &CivicPattern, position: usize) -> Option<Element> {
+        match find_nth(region, position) {
+            Some((element, _)) => Some(element),
+            None => None,
+        }
+    }
+
+    fn has_key(region: &CivicPattern, key: &Element) -> bool {
+        names(region, *key)
     }
 
     /// The element, alone.
@@ -85,7 +77,10 @@ impl Profile for Named {
         Ok([*location])
     }
 
-    fn outline(_region: &CivicPattern) {}
+    fn outline(region: &CivicPattern) {
+        // Shows to the proof that it is a pattern.
+        let _pairs = region.pairs();
+    }
 
     fn is_near(_outline: &(), _location: &Element) -> bool {
         true

@@ -8,7 +8,7 @@ ghost use Rattle.lost_civicdex.specs.HashedKeys.{hashed_keys, hashed_probes};
 ghost use Rattle.lost_civicdex.specs.HashedLaws.{hashed_required_shares, hashed_keys_distinct, hashed_keys_bounded};
 ghost use Rattle.lost_civicdex.specs.OutlineLaws.{named_is_near, equal_signatures_agree_on_keys};
 
-use crate::texts::hash_keys;
+use crate::texts::find_nth;
 use crate::{ElementKey, HashedKey, RequiredElements};
 use lost_civic::{CivicPattern, Element, Signature};
 use lost_profile::Profile;
@@ -69,9 +69,18 @@ impl Profile for References {
     }
 
     /// The hashed keys of the pattern's elements, in the order of the table.
-    fn cover(alloc: Global, region: &CivicPattern) -> Result<Vec<HashedKey>, AllocError> {
-        let room = region.pairs().len();
-        hash_keys(alloc, region, &Element::ALL, room)
+    fn key_at(region: &CivicPattern, position: usize) -> Option<HashedKey> {
+        match find_nth(region, position) {
+            Some((element, text)) => Some(HashedKey::new(element, text)),
+            None => None,
+        }
+    }
+
+    fn has_key(region: &CivicPattern, key: &HashedKey) -> bool {
+        match region.text(key.element()) {
+            Some(text) => *key == HashedKey::new(key.element(), text),
+            None => false,
+        }
     }
 
     /// The hashed key of the last required element, alone.
@@ -87,6 +96,8 @@ impl Profile for References {
 
     /// The signature of the pattern.
     fn outline(region: &CivicPattern) -> Signature {
+        // Shows to the proof that it is a pattern.
+        let _pairs = region.pairs();
         region.signature()
     }
 

@@ -1,10 +1,10 @@
 //! The keys of the elements of an address or a pattern.
 
-ghost use Rattle.std.specs.Prelude.{◌≡◌, IfOk, filter_map, map, option_map};
+ghost use Rattle.std.specs.Prelude.{◌≡◌, IfOk, filter_map, map, option_map, slice_get};
 ghost use Rattle.std.specs.Option.{option_copied};
 ghost use Rattle.lost_spec.specs.Civic.{Pairs};
 ghost use Rattle.lost_civic.specs.Texts.{text_of};
-ghost use Rattle.lost_civicdex.specs.Keys.{key_of, last_key};
+ghost use Rattle.lost_civicdex.specs.Keys.{key_of, keys_of, last_key};
 ghost use Rattle.lost_civicdex.specs.HashedKeys.{hashed};
 
 use crate::{ElementKey, HashedKey};
@@ -87,4 +87,21 @@ pub(crate) fn find_last<T: ElementTexts>(texts: &T) -> Option<(Element, &str)>
         }
     }
     last
+}
+
+/// The element at a position among those that stand in it, in the order of the table, with its comparison text.
+pub(crate) fn find_nth<T: ElementTexts>(texts: &T, position: usize) -> Option<(Element, &str)>
+    ensures { option_map (λ found. (found.0, found.1.now)) result ≡ slice_get (keys_of (T.pairs_of texts.now)) position }
+{
+    let mut left = position;
+    for element in Element::ALL {
+        let Some(text) = texts.text(element) else {
+            continue;
+        };
+        if left == 0 {
+            return Some((element, text));
+        }
+        left -= 1;
+    }
+    None
 }

@@ -1,3 +1,4 @@
 pub mod Quotients
 pub mod Levels
 pub mod Cells
+pub mod Positions

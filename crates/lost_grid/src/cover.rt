@@ -1,32 +1,52 @@
 //! The cells that bounds meet, at the least level at which they are at most 64.
 
-ghost use Rattle.std.specs.Prelude.{◌≡◌, ℕ, ◌+◌, ◌*◌, ◌≤◌, ◌++◌, length, IfOk, OnOk, map};
-ghost use Rattle.std.specs.List.{flat_map};
+ghost use Rattle.std.specs.Prelude.{◌≡◌, ◌≤◌, slice_get};
+ghost use Rattle.std.specs.List.{list_any};
 ghost use Rattle.lost_geo.specs.Bounds.{AreInRange};
-ghost use Rattle.lost_grid.specs.Grid.{are_few, level_of, cells_in_row, cells_within};
-ghost use Rattle.lost_grid.specs.Lines.{rows, columns};
-ghost use Rattle.lost_grid.specs.Stretch.{numbers, IsStretch};
+ghost use Rattle.lost_grid.specs.CellsApart.{same_cell};
+ghost use Rattle.lost_grid.specs.Grid.{are_few, level_of, cells_within};
 
 use crate::cell::Cell;
 use crate::lines::{Lines, MAX_LEVEL};
 use lost_geo::Bounds;
-use std::alloc::{AllocError, Global};
 
 /// The greatest number of cells of a cover.
 pub(crate) const MAX_CELLS: u32 = 64;
 
-/// The cells that bounds meet at the least level at which they are at most [`MAX_CELLS`], by row and then by column.
-pub(crate) fn cells_of(alloc: Global, bounds: &Bounds) -> Result<Vec<Cell>, AllocError>
+/// The cell at a position among those that bounds meet at the least level at which they are at most [`MAX_CELLS`], by row
+/// and then by column.
+pub(crate) fn cell_at(bounds: &Bounds, position: usize) -> Option<Cell>
     requires { AreInRange bounds.now }
-    ensures { IfOk result (λ cells. cells.items ≡ cells_within (level_of bounds.now) bounds.now) }
+    ensures { result ≡ slice_get (cells_within (level_of bounds.now) bounds.now) position }
 {
     let level = level_of(bounds);
-    cells_at(
-        alloc,
-        level,
-        Lines::rows(level, bounds),
-        Lines::columns(level, bounds),
-    )
+    let columns = Lines::columns(level, bounds);
+    let count = columns.count() as usize;
+    if count == 0 {
+        return None;
+    }
+    let Some(row) = Lines::rows(level, bounds).at(position / count) else {
+        return None;
+    };
+    match columns.at(position % count) {
+        Some(column) => Some(Cell { level, row, column }),
+        None => None,
+    }
+}
+
+/// Whether the cell is one of them.
+pub(crate) fn has_cell(bounds: &Bounds, cell: Cell) -> bool
+    requires { AreInRange bounds.now }
+    ensures { result ≡ list_any (same_cell cell) (cells_within (level_of bounds.now) bounds.now) }
+{
+    let level = level_of(bounds);
+    if cell.level != level {
+        return false;
+    }
+    if !Lines::rows(level, bounds).has(cell.row) {
+        return false;
+    }
+    Lines::columns(level, bounds).has(cell.column)
 }
 
 /// The least level at which bounds meet at most [`MAX_CELLS`] cells.
@@ -50,28 +70,4 @@ fn are_few(bounds: &Bounds, level: u8) -> bool
     ensures { result ≡ are_few bounds.now level }
 {
     Lines::rows(level, bounds).count() * Lines::columns(level, bounds).count() <= MAX_CELLS
-}
-
-/// The cells of a level in some rows and columns, by row and then by column.
-fn cells_at(alloc: Global, level: u8, rows: Lines, columns: Lines) -> Result<Vec<Cell>, AllocError>
-    requires rows { IsStretch rows }
-    requires columns { IsStretch columns }
-    ensures { IfOk result (λ cells. cells.items ≡ flat_map (λ row. cells_in_row level row (numbers columns)) (numbers rows)) }
-{
-    let mut cells = Vec::new(alloc);
-    for row in rows.first..rows.end {
-        push_row(&mut cells, level, row, columns)?;
-    }
-    Ok(cells)
-}
-
-/// Adds the cells of a row in some columns, by column.
-fn push_row(cells: &mut Vec<Cell>, level: u8, row: i16, columns: Lines) -> Result<(), AllocError>
-    requires { IsStretch columns }
-    ensures { OnOk result (cells.new.items ≡ cells.old.items ++ cells_in_row level row (numbers columns)) }
-{
-    for column in columns.first..columns.end {
-        cells.push(Cell { level, row, column })?;
-    }
-    Ok(())
 }

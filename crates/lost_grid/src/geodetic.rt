@@ -11,7 +11,7 @@ ghost use Rattle.lost_grid.specs.CellsApart.{same_cell, same_cell_tells, equal_c
 ghost use Rattle.lost_grid.specs.CoverLaws.{cover_meets_probes, cover_is_distinct, cover_is_bounded, holder_is_near};
 
 use crate::cell::Cell;
-use crate::cover::{MAX_CELLS, cells_of};
+use crate::cover::{MAX_CELLS, cell_at, has_cell};
 use crate::probe::cells_at;
 use lost_geo::{Bounds, GeoPoint, Polygon};
 use lost_profile::{KINDS, Profile};
@@ -61,8 +61,12 @@ impl Profile for Geodetic2d {
     }
 
     /// The cells that the ring's bounds meet, at the least level at which they are at most 64, by row, then by column.
-    fn cover(alloc: Global, region: &Polygon) -> Result<Vec<Cell>, AllocError> {
-        cells_of(alloc, &region.bounds())
+    fn key_at(region: &Polygon, position: usize) -> Option<Cell> {
+        cell_at(&region.bounds(), position)
+    }
+
+    fn has_key(region: &Polygon, key: &Cell) -> bool {
+        has_cell(&region.bounds(), *key)
     }
 
     /// The cells of the point's normal form at the levels from 0 to 6. It takes no memory.

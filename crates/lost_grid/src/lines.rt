@@ -1,6 +1,8 @@
 //! Rows and columns: which of a level meet a range of latitudes or longitudes.
 
-ghost use Rattle.std.specs.Prelude.{◌≡◌, ℕ, ◌≤◌, length, pos, ◌+ℤ◌, ◌≤ℤ◌};
+ghost use Rattle.std.specs.Prelude.{◌≡◌, ℕ, ◌≤◌, length, slice_get, IfSome, pos, ◌+ℤ◌, ◌≤ℤ◌};
+ghost use Rattle.std.specs.List.{list_any};
+ghost use Rattle.std.specs.Ordering.{int_eq};
 ghost use Rattle.lost_geo.specs.Bounds.{AreInRange};
 ghost use Rattle.lost_grid.specs.Lines.{line_of, IsOnEarth, IsLine, rows, columns};
 
@@ -74,5 +76,31 @@ impl Lines {
         ensures in_range { result ≤ 13_734 }
     {
         (self.end - self.first) as u32
+    }
+
+    /// The one at a position; `None` behind the last.
+    pub(crate) fn at(self, position: usize) -> Option<i16>
+        requires { IsStretch self }
+        ensures line { result ≡ slice_get (numbers self) position }
+        ensures in_range { IfSome result IsLine }
+    {
+        if position >= self.count() as usize {
+            return None;
+        }
+        Some(self.first + position as i16)
+    }
+
+    /// Whether the line is one of them.
+    pub(crate) fn has(self, line: i16) -> bool
+        requires { IsStretch self }
+        ensures { result ≡ list_any (int_eq line) (numbers self) }
+    {
+        if line < self.first {
+            return false;
+        }
+        if line >= self.end {
+            return false;
+        }
+        true
     }
 }

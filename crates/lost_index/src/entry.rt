@@ -23,14 +23,14 @@ impl<P: Profile> Model for Entry<P> {
 }
 
 impl<P: Profile> Entry<P> {
-    /// The regions, each with its outline and the keys of its cover.
+    /// The regions, each with its outline.
     pub(crate) fn new(alloc: Global, regions: Vec<P::Region>) -> Result<Entry<P>, AllocError>
         ensures regions { IfOk result (λ entry. entry ≡ regions.items) }
         ensures are_regions { IfOk result (λ entry. All P.is_region entry) }
     {
         let mut kept = Vec::with_capacity(alloc, regions.len())?;
         for region in regions {
-            kept.push(IndexedRegion::new(alloc, region)?)?;
+            kept.push(IndexedRegion::new(region))?;
         }
         Ok(Entry { kept })
     }

@@ -1,17 +1,15 @@
 //! A region as the index keeps it.
-ghost use Rattle.std.specs.Prelude.{◌≡◌, ◌&&◌, IfOk};
+ghost use Rattle.std.specs.Prelude.{◌≡◌, ◌≤◌, ◌&&◌, length, slice_get};
 ghost use Rattle.std.specs.List.{list_any};
 
 use lost_profile::Profile;
-use std::alloc::{AllocError, Global};
 use std::marker::Model;
 
-/// A region with its outline, and the keys of its cover. Contracts see it as the region.
+/// A region with its outline. The keys of its cover are made anew where they are needed. Contracts see it as the region.
 #[derive(Drop)]
 pub(crate) struct IndexedRegion<P: Profile> {
     outline: P::Outline,
     region: P::Region,
-    keys: Vec<P::Key>,
 }
 
 impl<P: Profile> Model for IndexedRegion<P> {
@@ -21,37 +19,33 @@ impl<P: Profile> Model for IndexedRegion<P> {
 
     ghost view = { λ a. a.region };
 
-    ghost invariant = { λ a. (a.outline ≡ P.outline_of a.region) × (a.keys.items ≡ P.cover_of a.region) × P.is_region a.region };
+    ghost invariant = { λ a. (a.outline ≡ P.outline_of a.region) × P.is_region a.region };
 }
 
 impl<P: Profile> IndexedRegion<P> {
-    /// The region with its outline and the keys of its cover.
-    pub(crate) fn new(alloc: Global, region: P::Region) -> Result<IndexedRegion<P>, AllocError>
-        ensures region { IfOk result (λ kept. kept ≡ region) }
-        ensures is_region { IfOk result (λ kept. P.is_region kept) }
+    /// The region with its outline.
+    pub(crate) fn new(region: P::Region) -> IndexedRegion<P>
+        ensures region { result ≡ region }
+        ensures is_region { P.is_region result }
     {
-        let mut keys = P::cover(alloc, &region)?;
-        keys.shrink_to_fit();
         let outline = P::outline(&region);
-        Ok(IndexedRegion {
-            outline,
-            region,
-            keys,
-        })
+        IndexedRegion { outline, region }
     }
 
-    /// The keys of its cover.
-    pub(crate) fn keys(&self) -> &[P::Key]
-        ensures { result.now ≡ P.cover_of self.now }
+    /// The number of positions at which the keys of its cover stand, or a few more.
+    pub(crate) fn key_room(&self) -> usize
+        ensures { length (P.cover_of self.now) ≤ result }
     {
-        &self.keys
+        // Shows to the proof that it is a region.
+        let _outline = &self.outline;
+        P::COVER_MAX
     }
 
-    /// A second copy of the keys of its cover.
-    pub(crate) fn cover(&self, alloc: Global) -> Result<Vec<P::Key>, AllocError>
-        ensures { IfOk result (λ keys. keys.items ≡ P.cover_of self.now) }
+    /// The key at a position of its cover; `None` behind its end.
+    pub(crate) fn key_at(&self, position: usize) -> Option<P::Key>
+        ensures { result ≡ slice_get (P.cover_of self.now) position }
     {
-        P::cover(alloc, &self.region)
+        P::key_at(&self.region, position)
     }
 
     /// Its outline.
@@ -65,7 +59,7 @@ impl<P: Profile> IndexedRegion<P> {
     pub(crate) fn covers_with(&self, key: &P::Key, outline: &P::Outline) -> bool
         ensures { result ≡ (P.Outline.eq outline.now (P.outline_of self.now) && list_any (P.Key.eq key.now) (P.cover_of self.now)) }
     {
-        *outline == self.outline && self.keys.contains(key)
+        *outline == self.outline && P::has_key(&self.region, key)
     }
 
     /// Whether the region contains the location. The outline rules out most regions that do not.

@@ -55,16 +55,19 @@ pub(crate) fn mark_covers<P: Profile>(kinds: &mut Kinds, kept: &[IndexedRegion<P
     ensures keeps { KeepsKinds kinds.old kinds.new }
 {
     for one in kept {
-        mark_keys::<P>(kinds, one.keys());
+        mark_keys(kinds, one);
     }
 }
 
-/// Marks the kinds of keys. What was marked stays so.
-fn mark_keys<P: Profile>(kinds: &mut Kinds, keys: &[P::Key])
-    ensures marked { HasKindsOf P.kind_of kinds.new keys.now }
+/// Marks the kinds of the keys of a region. What was marked stays so.
+fn mark_keys<P: Profile>(kinds: &mut Kinds, one: &IndexedRegion<P>)
+    ensures marked { HasKindsOf P.kind_of kinds.new (P.cover_of one.now) }
     ensures keeps { KeepsKinds kinds.old kinds.new }
 {
-    for key in keys {
-        kinds.mark(P::key_kind(key));
+    for position in 0..one.key_room() {
+        let Some(key) = one.key_at(position) else {
+            return;
+        };
+        kinds.mark(P::key_kind(&key));
     }
 }

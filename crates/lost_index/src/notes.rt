@@ -52,24 +52,27 @@ fn add_all_notes<P: Profile>(
             number,
             outline: one.outline(),
         };
-        add_notes_under(cells, alloc, note, one.cover(alloc)?)?;
+        add_notes_under(cells, alloc, note, one)?;
     }
     Ok(())
 }
 
-/// Adds a note under keys. Earlier notes stay. If memory is refused, some new ones may be left.
+/// Adds a note under the keys of a region. Earlier notes stay. If memory is refused, some new ones may be left.
 fn add_notes_under<P: Profile>(
     cells: &mut HashMap<P::Key, Cell<P>>,
     alloc: Global,
     note: Note<P::Outline>,
-    keys: Vec<P::Key>,
+    one: &IndexedRegion<P>,
 ) -> Result<(), AllocError>
-    ensures added { OnOk result (All (λ key. HasNote P.Key.eq P.Outline.eq cells.new key note.number note.outline) keys.items) }
+    ensures added { OnOk result (All (λ key. HasNote P.Key.eq P.Outline.eq cells.new key note.number note.outline) (P.cover_of one.now)) }
     ensures keeps { KeepsNotes P.Key.eq P.Outline.eq cells.old cells.new }
     ensures only { AddsAtMost P.Key.eq P.Outline.eq note.number
-        (λ key outline. P.Outline.eq outline note.outline && list_any (P.Key.eq key) keys.items) cells.old cells.new }
+        (λ key outline. P.Outline.eq outline note.outline && list_any (P.Key.eq key) (P.cover_of one.now)) cells.old cells.new }
 {
-    for key in keys {
+    for position in 0..one.key_room() {
+        let Some(key) = one.key_at(position) else {
+            return Ok(());
+        };
         cells::add_note(cells, alloc, key, note)?;
     }
     Ok(())
@@ -90,7 +93,7 @@ pub(crate) fn remove_notes<P: Profile>(
         (covers P.Key.eq P.cover_of gone.now) cells.new }
 {
     for one in gone {
-        remove_notes_under(cells, number, one.keys(), remaining);
+        remove_notes_under(cells, number, one, remaining);
     }
 }
 
@@ -116,20 +119,23 @@ pub(crate) fn remove_rest_notes<P: Profile>(
     remove_notes(cells, number, &kept[to..], remaining);
 }
 
-/// Removes the notes of a number under keys, but keeps those of the regions `remaining`.
+/// Removes the notes of a number under the keys of a region, but keeps those of the regions `remaining`.
 fn remove_notes_under<P: Profile>(
     cells: &mut HashMap<P::Key, Cell<P>>,
     number: u64,
-    keys: &[P::Key],
+    one: &IndexedRegion<P>,
     remaining: &[IndexedRegion<P>],
 )
     ensures others { KeepsOthers P.Key.eq P.Outline.eq number cells.old cells.new }
     ensures remaining { KeepsUnder P.Key.eq P.Outline.eq (IsUnder P.cover_of P.outline_of remaining.now) cells.old cells.new }
     ensures fewer { TakesBack P.Key.eq P.Outline.eq cells.old cells.new }
     ensures gone { IsNotedOnlyFor P.Key.eq P.Outline.eq P.cover_of P.outline_of number remaining.now
-        (λ key. list_any (P.Key.eq key) keys.now) cells.new }
+        (λ key. list_any (P.Key.eq key) (P.cover_of one.now)) cells.new }
 {
-    for key in keys {
-        cells::remove_note(cells, key, number, remaining);
+    for position in 0..one.key_room() {
+        let Some(key) = one.key_at(position) else {
+            return;
+        };
+        cells::remove_note(cells, &key, number, remaining);
     }
 }

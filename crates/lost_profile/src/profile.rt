@@ -1,6 +1,6 @@
 //! The trait of a kind of location, with its laws.
-ghost use Rattle.std.specs.Prelude.{◌≡◌, ℕ, ◌<◌, ◌≤◌, Bool, List, length, IsTrue, IfOk};
-ghost use Rattle.std.specs.List.{IsDistinct};
+ghost use Rattle.std.specs.Prelude.{◌≡◌, ℕ, ◌<◌, ◌≤◌, Bool, List, length, slice_get, IsTrue, IfOk};
+ghost use Rattle.std.specs.List.{IsDistinct, list_any};
 ghost use Rattle.lost_profile.specs.Keys.{SharesKey};
 
 use std::alloc::{AllocError, Global};
@@ -69,7 +69,27 @@ pub trait Profile {
     /// The keys under which the region is kept: each once, and at most `COVER_MAX`.
     fn cover(alloc: Global, region: &Self::Region) -> Result<Vec<Self::Key>, AllocError>
         ensures keys { IfOk result (λ keys. keys.items ≡ cover_of region.now) }
-        ensures is_region { is_region region.now };
+        ensures is_region { is_region region.now }
+    {
+        // Shows to the proof that it is a region.
+        let _outline = Self::outline(region);
+        let mut keys = Vec::new(alloc);
+        for position in 0..Self::COVER_MAX {
+            let Some(key) = Self::key_at(region, position) else {
+                return Ok(keys);
+            };
+            keys.push(key)?;
+        }
+        Ok(keys)
+    }
+
+    /// The key at a position of the cover; `None` behind its end. It takes no memory.
+    fn key_at(region: &Self::Region, position: usize) -> Option<Self::Key>
+        ensures { result ≡ slice_get (cover_of region.now) position };
+
+    /// Whether some key of the cover is equal to this one. It takes no memory.
+    fn has_key(region: &Self::Region, key: &Self::Key) -> bool
+        ensures { result ≡ list_any (Self.Key.eq key.now) (cover_of region.now) };
 
     /// The keys under which the location is looked up.
     fn probes(alloc: Global, location: &Self::Location) -> Result<Self::Probes, AllocError>
@@ -78,7 +98,8 @@ pub trait Profile {
 
     /// The outline of the region. It takes no memory.
     fn outline(region: &Self::Region) -> Self::Outline
-        ensures { result ≡ outline_of region.now };
+        ensures outline { result ≡ outline_of region.now }
+        ensures is_region { is_region region.now };
 
     /// Whether a region with this outline may contain the location. It takes no memory.
     fn is_near(outline: &Self::Outline, location: &Self::Location) -> bool

@@ -48,9 +48,16 @@ impl Profile for Tokens {
         region.contains(location)
     }
 
-    /// All tokens of the set, in their order.
-    fn cover(alloc: Global, region: &TokenSet) -> Result<Vec<Token>, AllocError> {
-        region.tokens().to_vec(alloc)
+    /// The tokens of the set, in their order.
+    fn key_at(region: &TokenSet, position: usize) -> Option<Token> {
+        match region.tokens().get(position) {
+            Some(token) => Some(token.copy()),
+            None => None,
+        }
+    }
+
+    fn has_key(region: &TokenSet, key: &Token) -> bool {
+        region.contains(key)
     }
 
     /// The token, alone.
@@ -58,7 +65,10 @@ impl Profile for Tokens {
         Ok([location.copy()])
     }
 
-    fn outline(_region: &TokenSet) {}
+    fn outline(region: &TokenSet) {
+        // Shows to the proof that it is a token set.
+        let _tokens = region.tokens();
+    }
 
     fn is_near(_outline: &(), _location: &Token) -> bool {
         true

@@ -49,15 +49,18 @@ impl Profile for Tens {
     }
 
     /// The tens of the least number, and those of the greatest one where they differ.
-    fn cover(alloc: Global, region: &Stretch) -> Result<Vec<u32>, AllocError> {
+    fn key_at(region: &Stretch, position: usize) -> Option<u32> {
         let first = region.low() / 10;
         let last = region.high() / 10;
-        let mut keys = Vec::with_capacity(alloc, 2)?;
-        keys.push(first)?;
-        if first != last {
-            keys.push(last)?;
+        match position {
+            0 => Some(first),
+            1 if first != last => Some(last),
+            _ => None,
         }
-        Ok(keys)
+    }
+
+    fn has_key(region: &Stretch, key: &u32) -> bool {
+        *key == region.low() / 10 || *key == region.high() / 10
     }
 
     /// The tens of the number.

@@ -13,7 +13,7 @@ loop-one-preserved g c =
       marked = All-more_kept (λ region. HasKindsOf kind_of at.kinds (cover_of region)) (λ region. HasKindsOf kind_of new (cover_of region))
           c.args.kept.now at.one-index c.one-item.result (omega arith) c.one-item.is
           (λ region. HasKindsOf-kept g.P.Profile.is_region cover_of kind_of at.kinds new (cover_of region) c.mark_keys.ensures.keeps) at.invariant.marked
-          (subst (HasKindsOf kind_of new) c.keys.ensures c.mark_keys.ensures.marked);
+          c.mark_keys.ensures.marked;
       keeps = λ kind was. c.mark_keys.ensures.keeps kind (at.invariant.keeps kind was);
     }
 

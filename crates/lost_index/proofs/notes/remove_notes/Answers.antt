@@ -1,7 +1,7 @@
 -- Under the keys of one region more the number is noted for the regions that remain alone.
-use Rattle.std.proofs.Common.{◌+◌, take, subst, arith}
+use Rattle.std.proofs.Common.{◌+◌, take, arith}
 use Rattle.std.specs.List.{list_any}
-use Rattle.lost_index.specs.Notes.{covers, IsNotedOnlyFor}
+use Rattle.lost_index.specs.Notes.{covers}
 use Rattle.lost_index.proofs.OnlyLemmas.{TakesBack-two, only-two, any-next}
 use Rattle.lost_index.proofs.notes.remove_notes.Goals as goal
 
@@ -17,7 +17,6 @@ loop-one-preserved g c =
       gone = only-two eq same c.args.cells.now at.cells c.remove_notes_under.new.cells g.P.Profile.cover_of g.P.Profile.outline_of c.args.number c.args.remaining.now
           (covers eq g.P.Profile.cover_of (take at.one-index c.args.gone.now)) (λ key. list_any (eq key) (g.P.Profile.cover_of c.one-item.result))
           (covers eq g.P.Profile.cover_of (take (at.one-index + 1) c.args.gone.now)) at.invariant.gone taken.fewer.noted
-          (subst (λ keys. IsNotedOnlyFor eq same g.P.Profile.cover_of g.P.Profile.outline_of c.args.number c.args.remaining.now (λ key. list_any (eq key) keys) c.remove_notes_under.new.cells)
-          c.keys.ensures taken.gone)
+          taken.gone
           (λ key. any-next (λ region. list_any (eq key) (g.P.Profile.cover_of region)) c.args.gone.now at.one-index c.one-item.result (omega arith) c.one-item.is);
     }
