@@ -48,11 +48,13 @@ impl<P: Profile> Entry<P> {
         ensures refused { OnErr result (self.new ≡ self.old) }
         ensures given_back { OnErr result (more.new ≡ more.old) }
     {
+        self.kept.reserve_exact(more.kept.len())?;
         self.kept.append(&mut more.kept)?;
         Ok(())
     }
 
-    /// Keeps only the regions at the positions from `from` up to before `to`. It takes no memory.
+    /// Keeps only the regions at the positions from `from` up to before `to`. It takes no memory, and gives back what the
+    /// others took.
     pub(crate) fn cut(&mut self, from: usize, to: usize)
         requires in_order { from ≤ to }
         requires within { to ≤ length self.old }
@@ -61,6 +63,7 @@ impl<P: Profile> Entry<P> {
         self.kept.truncate(to);
         self.kept.rotate_left(from);
         self.kept.truncate(to - from);
+        self.kept.shrink_to_fit();
     }
 
     /// Whether some region contains the location.
