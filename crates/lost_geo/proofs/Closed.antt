@@ -7,7 +7,8 @@ use Rattle.std.proofs.lemmas.Cmp.{int_eq_equiv}
 use Rattle.lost_spec.specs.Place.{point_of}
 use Rattle.lost_spec.specs.Ring.{Point, same_point, last_after, is_closed}
 
-get_or-last : (p : Point) (rest : List Point) (d : Point) → get_or (p ∷ rest) (length rest) d ≡ last_after p rest
+-- the last position, by its place
+pub get_or-last : (p : Point) (rest : List Point) (d : Point) → get_or (p ∷ rest) (length rest) d ≡ last_after p rest
 get_or-last p [] d = refl
 get_or-last p (q ∷ rest) d = get_or-last q rest d
 

@@ -5,16 +5,16 @@ use Rattle.std.proofs.Math.Numerals.{add-one}
 use Rattle.std.proofs.Math.Seq.{drop-cons, drop-nil}
 use Rattle.std.proofs.lemmas.Int.{ints}
 use Rattle.std.proofs.lemmas.List.{drop_all, drop-drop, length-drop}
-use Rattle.lost_spec.specs.Ring.{Point, edges, crosses}
-use Rattle.lost_geo.specs.declared.run.Run.{Run}
-use Rattle.lost_geo.specs.Bounds.{lats, least, greatest}
+use Rattle.lost_spec.specs.Ring.{Point, edges, spans, crosses}
+use Rattle.lost_geo.specs.declared.bounds.Bounds.{Bounds}
+use Rattle.lost_geo.specs.Bounds.{bounds_of, AreExact}
 use Rattle.lost_geo.specs.Laws.{is_just_one}
-use Rattle.lost_geo.specs.Runs.{run_of, is_spanned, AreRunsOf}
+use Rattle.lost_geo.specs.Runs.{is_spanned, AreRunsOf}
 use Rattle.lost_geo.proofs.Cuts.{odd_along}
-use Rattle.lost_geo.proofs.Exact.{IsLeast-least, IsGreatest-greatest}
-use Rattle.lost_geo.proofs.Parity.{odd_count-cons, just_one_assoc, just_one_of_false, just_one_with_false}
+use Rattle.lost_geo.proofs.Exact.{AreExact-bounds_of}
+use Rattle.lost_geo.proofs.Parity.{odd_count, odd_count-cons, just_one_assoc, just_one_of_false, just_one_with_false}
 use Rattle.lost_geo.proofs.Walk.{just_one-beq}
-use Rattle.lost_geo.proofs.Within.{none_crosses, both_above, both_not_above, above_place, not_above_place, not_le}
+use Rattle.lost_geo.proofs.Within.{odd_count-same, none_crosses, both_above, both_not_above, both_west, both_east, above_place, below_place, not_above_place, not_le}
 
 -- ---- a run and the positions from its end on
 
@@ -47,36 +47,61 @@ not_lt a b test = grind (arith, ints)
 
 -- where the first test fails, and where the second one does
 none_beyond : (a : Point) (rest : List Point) (p : Point) (begun : Bool) →
-    int_le (least (lats (a ∷ rest))) p.lat ≡ begun → (begun && int_lt p.lat (greatest (lats (a ∷ rest)))) ≡ false → odd_along (a ∷ rest) p ≡ false
+    int_le (bounds_of (a ∷ rest)).lat_min p.lat ≡ begun → (begun && int_lt p.lat (bounds_of (a ∷ rest)).lat_max) ≡ false → odd_along (a ∷ rest) p ≡ false
 none_beyond a rest p false begins ends =
+    let bounds = bounds_of (a ∷ rest) in
     none_crosses (λ q. p.lat <ℤ q.lat) p (λ q r. both_above q r p) (a ∷ rest)
-    (above_place (least (lats (a ∷ rest))) (λ q. q.lat) p (a ∷ rest) (not_le (least (lats (a ∷ rest))) p.lat begins) (IsLeast-least a.lat (lats rest)).1)
+    (above_place bounds.lat_min (λ q. q.lat) p (a ∷ rest) (not_le bounds.lat_min p.lat begins) (AreExact-bounds_of a rest).lat_min.1)
 none_beyond a rest p true begins ends =
+    let bounds = bounds_of (a ∷ rest) in
     none_crosses (λ q. q.lat ≤ℤ p.lat) p (λ q r. both_not_above q r p) (a ∷ rest)
-    (not_above_place (greatest (lats (a ∷ rest))) (λ q. q.lat) p (a ∷ rest) (not_lt p.lat (greatest (lats (a ∷ rest))) ends) (IsGreatest-greatest a.lat (lats rest)).1)
+    (not_above_place bounds.lat_max (λ q. q.lat) p (a ∷ rest) (not_lt p.lat bounds.lat_max ends) (AreExact-bounds_of a rest).lat_max.1)
 
-pub none_where_not_spanned : (run : Run) (positions : List Point) (p : Point) →
-    run ≡ run_of positions → is_spanned run p.lat ≡ false → odd_along positions p ≡ false
+pub none_where_not_spanned : (run : Bounds) (positions : List Point) (p : Point) →
+    run ≡ bounds_of positions → is_spanned run p.lat ≡ false → odd_along positions p ≡ false
 none_where_not_spanned run [] p is beyond = refl
 none_where_not_spanned run (a ∷ rest) p is beyond =
-    none_beyond a rest p (int_le (least (lats (a ∷ rest))) p.lat) refl (sym (ap (λ (r : Run). is_spanned r p.lat) is) ∙ beyond)
+    none_beyond a rest p (int_le (bounds_of (a ∷ rest)).lat_min p.lat) refl (sym (ap (λ (r : Bounds). is_spanned r p.lat) is) ∙ beyond)
+
+-- ---- a run beside the place
+
+is_lt : (a b : ℤ) → int_lt a b ≡ true → a <ℤ b
+is_lt a b test = grind (arith, ints)
+
+pub none_where_left : (run : Bounds) (positions : List Point) (p : Point) →
+    run ≡ bounds_of positions → int_lt run.lon_max p.lon ≡ true → odd_along positions p ≡ false
+none_where_left run [] p is beside = refl
+none_where_left run (a ∷ rest) p is beside =
+    let bounds = bounds_of (a ∷ rest) in
+    none_crosses (λ q. q.lon <ℤ p.lon) p (λ q r. both_west q r p) (a ∷ rest)
+    (below_place bounds.lon_max (λ q. q.lon) p (a ∷ rest)
+    (is_lt bounds.lon_max p.lon (sym (ap (λ (r : Bounds). int_lt r.lon_max p.lon) is) ∙ beside)) (AreExact-bounds_of a rest).lon_max.1)
+
+pub spanned_where_right : (run : Bounds) (positions : List Point) (p : Point) →
+    run ≡ bounds_of positions → int_lt p.lon run.lon_min ≡ true → odd_along positions p ≡ odd_count (λ e. spans e p) (edges positions)
+spanned_where_right run [] p is beside = refl
+spanned_where_right run (a ∷ rest) p is beside =
+    let bounds = bounds_of (a ∷ rest) in
+    odd_count-same (λ q. p.lon <ℤ q.lon) (λ e. crosses e p) (λ e. spans e p) (λ q r. both_east q r p) (a ∷ rest)
+    (above_place bounds.lon_min (λ q. q.lon) p (a ∷ rest)
+    (is_lt p.lon bounds.lon_min (sym (ap (λ (r : Bounds). int_lt p.lon r.lon_min) is) ∙ beside)) (AreExact-bounds_of a rest).lon_min.1)
 
 -- ---- a walk over the runs
 
 -- the runs from one on: edges are left, and behind it the runs to come are those of the positions behind
-pub record IsAtRun (size : ℕ) (runs : List Run) (i : ℕ) (ring : List Point) (begin : ℕ) : Type 0 where
+pub record IsAtRun (size : ℕ) (runs : List Bounds) (i : ℕ) (ring : List Point) (begin : ℕ) : Type 0 where
   pub within : begin < length ring
   pub behind : AreRunsOf size (drop (i + 1) runs) (drop (begin + size) ring)
 
 not_past : (ring : List Point) (begin : ℕ) → 1 < length (drop begin ring) → begin < length ring
 not_past ring begin some = omega (arith, simp length-drop at some)
 
-pub at_a_run : (size : ℕ) (runs : List Run) (i : ℕ) (ring : List Point) (begin : ℕ) → i < length runs →
+pub at_a_run : (size : ℕ) (runs : List Bounds) (i : ℕ) (ring : List Point) (begin : ℕ) → i < length runs →
     AreRunsOf size (drop i runs) (drop begin ring) → IsAtRun size runs i ring begin
 at_a_run size [] i ring begin below are = absurd (omega arith)
 at_a_run size (run ∷ runs) i ring begin below are =
     let first : drop i (run ∷ runs) ≡ get_or (run ∷ runs) i run ∷ drop (i + 1) (run ∷ runs) = rw (add-one i, drop-cons (run ∷ runs) i run) refl in
-    let parts : AreRunsOf size (get_or (run ∷ runs) i run ∷ drop (i + 1) (run ∷ runs)) (drop begin ring) = subst (λ (rs : List Run). AreRunsOf size rs (drop begin ring)) first are in
+    let parts : AreRunsOf size (get_or (run ∷ runs) i run ∷ drop (i + 1) (run ∷ runs)) (drop begin ring) = subst (λ (rs : List Bounds). AreRunsOf size rs (drop begin ring)) first are in
     record {
       within = not_past ring begin parts.0;
       behind = subst (AreRunsOf size (drop (i + 1) (run ∷ runs))) (drop-drop size begin ring) parts.2;
@@ -101,8 +126,8 @@ no_edge (a ∷ []) p short = refl
 no_edge (a ∷ b ∷ rest) p short = absurd (omega arith)
 
 -- the end of the walk
-pub walk_all : (size : ℕ) (odd total : Bool) (runs : List Run) (i : ℕ) (ring : List Point) (p : Point) → length runs ≤ i →
+pub walk_all : (size : ℕ) (odd total : Bool) (runs : List Bounds) (i : ℕ) (ring : List Point) (p : Point) → length runs ≤ i →
     AreRunsOf size (drop i runs) ring → is_just_one odd (odd_along ring p) ≡ total → odd ≡ total
 walk_all size odd total runs i ring p past are before =
-    let short : length ring ≤ 1 = subst (λ (rs : List Run). AreRunsOf size rs ring) (drop_all i runs past) are in
+    let short : length ring ≤ 1 = subst (λ (rs : List Bounds). AreRunsOf size rs ring) (drop_all i runs past) are in
     sym (just_one_with_false odd) ∙ ap (is_just_one odd) (sym (no_edge ring p short)) ∙ before

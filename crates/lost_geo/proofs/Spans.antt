@@ -1,9 +1,9 @@
 -- Edges that span a latitude: a closed ring has an even number of them.
-use Rattle.std.proofs.Common.{◌≡◌, refl, sym, ◌∙◌, ap, Bool, true, false, ◌&&◌, cond, List, [], ◌∷◌, ℤ, int_le, int_lt, arith}
+use Rattle.std.proofs.Common.{◌≡◌, refl, sym, ◌∙◌, ap, ℕ, ◌-◌, ◌<◌, Bool, true, false, ◌&&◌, cond, List, [], ◌∷◌, length, get_or, ℤ, int_le, int_lt, arith}
 use Rattle.std.proofs.lemmas.Int.{ints}
 use Rattle.lost_spec.specs.Ring.{Point, edges, spans, last_after}
 use Rattle.lost_geo.specs.Laws.{is_just_one, SpannedEvenly}
-use Rattle.lost_geo.proofs.Closed.{lat-last_after}
+use Rattle.lost_geo.proofs.Closed.{get_or-last, lat-last_after}
 use Rattle.lost_geo.proofs.Parity.{odd_count, odd_count-cons}
 
 -- from low up to before high: at or above just one of the two
@@ -51,3 +51,15 @@ spanned_evenly (a ∷ rest) p closed =
     spanned a rest p
     ∙ ap (λ (z : ℤ). is_just_one (int_le a.lat p.lat) (int_le z p.lat)) (lat-last_after a rest closed)
     ∙ sym (just_one_same (int_le a.lat p.lat))
+
+-- the same, of the positions that stand at the two ends
+pub spanned-ends : (ring : List Point) (first last p : Point) → 0 < length ring →
+    first ≡ get_or ring 0 first → last ≡ get_or ring (length ring - 1) last →
+    is_just_one (int_le first.lat p.lat) (int_le last.lat p.lat) ≡ odd_count (λ e. spans e p) (edges ring)
+spanned-ends [] first last p some at_first at_last = absurd (omega arith)
+spanned-ends (a ∷ rest) first last p some at_first at_last =
+    let place : length (a ∷ rest) - 1 ≡ length rest = omega arith in
+    let is_last : last ≡ last_after a rest = at_last ∙ ap (λ (k : ℕ). get_or (a ∷ rest) k last) place ∙ get_or-last a rest last in
+    ap (λ (q : Point). is_just_one (int_le q.lat p.lat) (int_le last.lat p.lat)) at_first
+    ∙ ap (λ (q : Point). is_just_one (int_le a.lat p.lat) (int_le q.lat p.lat)) is_last
+    ∙ sym (spanned a rest p)

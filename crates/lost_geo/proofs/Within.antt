@@ -17,7 +17,7 @@ use Rattle.lost_geo.proofs.Spans.{spans-is, spanned_evenly}
 
 -- ---- two tests that agree at each edge between such positions
 
-odd_count-same : (P : Point → Type 0) (f g : Edge → Bool) (same : (a b : Point) → P a → P b → f (a, b) ≡ g (a, b)) →
+pub odd_count-same : (P : Point → Type 0) (f g : Edge → Bool) (same : (a b : Point) → P a → P b → f (a, b) ≡ g (a, b)) →
     (ring : List Point) → All P ring → odd_count f (edges ring) ≡ odd_count g (edges ring)
 odd_count-same P f g same [] all = refl
 odd_count-same P f g same (a ∷ []) all = refl
@@ -76,7 +76,7 @@ left_of_east true lo hi p spans lo_west hi_west =
     not_below-mul (p.lon -ℤ lo.lon) (hi.lon -ℤ lo.lon) (hi.lat -ℤ lo.lat) (p.lat -ℤ lo.lat)
     (omega (arith, ints)) (omega (arith, ints)) (grind (arith, ints)) (grind (arith, ints))
 
-both_west : (a b p : Point) → a.lon <ℤ p.lon → b.lon <ℤ p.lon → crosses (a, b) p ≡ false
+pub both_west : (a b p : Point) → a.lon <ℤ p.lon → b.lon <ℤ p.lon → crosses (a, b) p ≡ false
 both_west a b p west_a west_b =
     left_of_east (spans (a, b) p) (low_end (a, b)) (high_end (a, b)) p refl
     (low_end-of (λ q. q.lon <ℤ p.lon) a b west_a west_b) (high_end-of (λ q. q.lon <ℤ p.lon) a b west_a west_b)
@@ -91,7 +91,7 @@ left_of_west true lo hi p spans lo_east hi_east =
     below-mul (p.lon -ℤ lo.lon) (hi.lon -ℤ lo.lon) (hi.lat -ℤ lo.lat) (p.lat -ℤ lo.lat)
     (omega (arith, ints)) (omega (arith, ints)) (grind (arith, ints)) (grind (arith, ints))
 
-both_east : (a b p : Point) → p.lon <ℤ a.lon → p.lon <ℤ b.lon → crosses (a, b) p ≡ spans (a, b) p
+pub both_east : (a b p : Point) → p.lon <ℤ a.lon → p.lon <ℤ b.lon → crosses (a, b) p ≡ spans (a, b) p
 both_east a b p east_a east_b =
     left_of_west (spans (a, b) p) (low_end (a, b)) (high_end (a, b)) p refl
     (low_end-of (λ q. p.lon <ℤ q.lon) a b east_a east_b) (high_end-of (λ q. p.lon <ℤ q.lon) a b east_a east_b)
@@ -110,7 +110,7 @@ pub above_place : (m : ℤ) (f : Point → ℤ) (p : Point) (ring : List Point) 
 above_place m f p ring beyond all =
     All-weaker (λ q. m ≤ℤ f q) (λ q. f p <ℤ f q) (λ q above. omega (arith, ints)) ring (All-of_map f (λ z. m ≤ℤ z) ring all)
 
-below_place : (m : ℤ) (f : Point → ℤ) (p : Point) (ring : List Point) → m <ℤ f p → All (λ z. z ≤ℤ m) (map f ring) → All (λ q. f q <ℤ f p) ring
+pub below_place : (m : ℤ) (f : Point → ℤ) (p : Point) (ring : List Point) → m <ℤ f p → All (λ z. z ≤ℤ m) (map f ring) → All (λ q. f q <ℤ f p) ring
 below_place m f p ring beyond all =
     All-weaker (λ q. f q ≤ℤ m) (λ q. f q <ℤ f p) (λ q above. omega (arith, ints)) ring (All-of_map f (λ z. z ≤ℤ m) ring all)
 

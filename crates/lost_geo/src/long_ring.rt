@@ -3,16 +3,17 @@
 ghost use Rattle.std.specs.Prelude.{◌≡◌, IfOk};
 ghost use Rattle.lost_spec.specs.Ring.{edges, crossings, is_odd};
 
+use crate::bounds::Bounds;
 use crate::point::GeoPoint;
-use crate::run::{self, Run};
+use crate::run;
 use std::alloc::{AllocError, Global};
 use std::marker::Model;
 
-/// The positions of a ring, and the runs of its edges. Contracts see it as the list of its positions.
+/// The positions of a ring, and the bounds of the runs of its edges. Contracts see it as the list of its positions.
 #[derive(Debug, Drop)]
 pub(crate) struct LongRing {
     positions: Vec<GeoPoint>,
-    runs: Vec<Run>,
+    runs: Vec<Bounds>,
 }
 
 impl Model for LongRing {

@@ -1,77 +1,104 @@
-//! The runs of a ring's edges, with the least and the greatest latitude of each: a place is compared with a run before
-//! it is compared with the run's edges.
+//! The runs of a ring's edges, with the bounds of each: a place is compared with the bounds of a run before it is compared
+//! with the run's edges, and mostly in their stead.
 
-ghost use Rattle.std.specs.Prelude.{◌≡◌, ℕ, ◌+◌, ◌-◌, ◌<◌, ◌≤◌, length, take, drop, IfOk};
-ghost use Rattle.lost_spec.specs.Ring.{edges, crossings, is_odd};
-ghost use Rattle.lost_geo.specs.Runs.{edges_of_a_run, run_of, is_spanned, AreRunsOf};
+ghost use Rattle.std.specs.Prelude.{◌≡◌, ℕ, ◌+◌, ◌-◌, ◌<◌, ◌≤◌, length, filter, take, drop, int_le, int_lt, IfOk};
+ghost use Rattle.lost_spec.specs.Ring.{edges, spans as edge_spans, crossings, is_odd};
+ghost use Rattle.lost_geo.specs.Bounds.{bounds_of};
+ghost use Rattle.lost_geo.specs.Runs.{edges_of_a_run, is_spanned, AreRunsOf};
 
 use crate::bounds::Bounds;
 use crate::edge;
 use crate::point::GeoPoint;
 use std::alloc::{AllocError, Global};
 
-/// The least and the greatest latitude of a run's positions, in whole 1e-7 degrees.
-#[derive(Clone, Copy, Debug)]
-pub(crate) struct Run {
-    /// The least latitude.
-    pub lat_min: i32,
-    /// The greatest latitude.
-    pub lat_max: i32,
+/// Whether an odd number of the edges between the positions of a run, which has these bounds, cross at the place. No edge
+/// to the left of the place crosses there. One to the right does just where it spans the place's latitude.
+fn run_has_odd_crossings(run: &Bounds, positions: &[GeoPoint], place: &GeoPoint) -> bool
+    requires some { 0 < length positions.now }
+    requires run { run.now ≡ bounds_of positions.now }
+    ensures { result ≡ is_odd (crossings (edges positions.now) place.now) }
+{
+    if !spans(run, place) {
+        return false;
+    }
+    if is_left(run, place) {
+        return false;
+    }
+    if is_right(run, place) {
+        return is_spanned_oddly(positions, place);
+    }
+    edge::has_odd_crossings(positions, place)
 }
 
-impl Run {
-    /// The run whose edges join these positions.
-    fn of(positions: &[GeoPoint]) -> Run
-        requires { 0 < length positions.now }
-        ensures { result ≡ run_of positions.now }
-    {
-        let bounds = Bounds::of(&positions[0], &positions[1..]);
-        Run {
-            lat_min: bounds.lat_min,
-            lat_max: bounds.lat_max,
-        }
-    }
-
-    /// Whether an odd number of the edges between the run's positions cross at the place.
-    fn has_odd_crossings(self, positions: &[GeoPoint], place: &GeoPoint) -> bool
-        requires { self ≡ run_of positions.now }
-        ensures { result ≡ is_odd (crossings (edges positions.now) place.now) }
-    {
-        self.spans(place) && edge::has_odd_crossings(positions, place)
-    }
-
-    /// Whether the latitude of the place lies from the least one up to before the greatest one. Where it does not, no
-    /// edge of the run crosses at the place.
-    fn spans(self, place: &GeoPoint) -> bool
-        ensures { result ≡ is_spanned self place.now.lat }
-    {
-        let lat = place.lat();
-        i64::from(self.lat_min) <= lat && lat < i64::from(self.lat_max)
-    }
+/// Whether the latitude of the place lies from the run's least one up to before its greatest one. Where it does not, no
+/// edge of the run crosses at the place.
+fn spans(run: &Bounds, place: &GeoPoint) -> bool
+    ensures { result ≡ is_spanned run.now place.now.lat }
+{
+    let lat = place.lat();
+    i64::from(run.lat_min) <= lat && lat < i64::from(run.lat_max)
 }
 
-/// The runs of a list of positions.
-pub(crate) fn runs_of(alloc: Global, positions: &[GeoPoint]) -> Result<Vec<Run>, AllocError>
+/// Whether the run is to the left of the place.
+fn is_left(run: &Bounds, place: &GeoPoint) -> bool
+    ensures { result ≡ int_lt run.now.lon_max place.now.lon }
+{
+    i64::from(run.lon_max) < place.lon()
+}
+
+/// Whether the run is to the right of the place.
+fn is_right(run: &Bounds, place: &GeoPoint) -> bool
+    ensures { result ≡ int_lt place.now.lon run.now.lon_min }
+{
+    place.lon() < i64::from(run.lon_min)
+}
+
+/// Whether an odd number of the edges between the positions span the latitude of the place: just where it lies between
+/// those of the first and the last position.
+fn is_spanned_oddly(positions: &[GeoPoint], place: &GeoPoint) -> bool
+    requires { 0 < length positions.now }
+    ensures { result ≡ is_odd (length (filter (λ e. edge_spans e place.now) (edges positions.now))) }
+{
+    is_low(&positions[0], place) != is_low(&positions[positions.len() - 1], place)
+}
+
+/// Whether the position's latitude is at most that of the place.
+fn is_low(position: &GeoPoint, place: &GeoPoint) -> bool
+    ensures { result ≡ int_le position.now.lat place.now.lat }
+{
+    position.lat() <= place.lat()
+}
+
+/// The bounds of the runs of a list of positions.
+pub(crate) fn runs_of(alloc: Global, positions: &[GeoPoint]) -> Result<Vec<Bounds>, AllocError>
     ensures { IfOk result (λ runs. AreRunsOf edges_of_a_run runs.items positions.now) }
 {
     let mut runs = Vec::with_capacity(alloc, positions.len().div_ceil(run_len()))?;
     let mut rest = positions;
     while rest.len() > 1 {
-        runs.push(Run::of(first_run(rest)))?;
+        runs.push(bounds_of_run(first_run(rest)))?;
         rest = behind_run(rest);
     }
     Ok(runs)
 }
 
+/// The bounds of the run whose edges join these positions.
+fn bounds_of_run(positions: &[GeoPoint]) -> Bounds
+    requires { 0 < length positions.now }
+    ensures { result ≡ bounds_of positions.now }
+{
+    Bounds::of(&positions[0], &positions[1..])
+}
+
 /// Whether an odd number of the edges between the positions cross at the place.
-pub(crate) fn has_odd_crossings(runs: &[Run], positions: &[GeoPoint], place: &GeoPoint) -> bool
+pub(crate) fn has_odd_crossings(runs: &[Bounds], positions: &[GeoPoint], place: &GeoPoint) -> bool
     requires { AreRunsOf edges_of_a_run runs.now positions.now }
     ensures { result ≡ is_odd (crossings (edges positions.now) place.now) }
 {
     let mut odd = false;
     let mut begin = 0;
     for run in runs {
-        odd ^= run.has_odd_crossings(run_at(positions, begin), place);
+        odd ^= run_has_odd_crossings(run, run_at(positions, begin), place);
         begin += run_len();
     }
     odd
@@ -80,14 +107,17 @@ pub(crate) fn has_odd_crossings(runs: &[Run], positions: &[GeoPoint], place: &Ge
 /// The positions of the run that begins with the position at this place of the list.
 fn run_at(positions: &[GeoPoint], begin: usize) -> &[GeoPoint]
     requires { begin < length positions.now }
-    ensures { result.now ≡ take (edges_of_a_run + 1) (drop begin positions.now) }
+    ensures value { result.now ≡ take (edges_of_a_run + 1) (drop begin positions.now) }
+    ensures some { 0 < length result.now }
 {
     first_run(&positions[begin..])
 }
 
 /// The positions of the first run: those that its edges begin at, and the last one's end.
 fn first_run(positions: &[GeoPoint]) -> &[GeoPoint]
+    requires { 0 < length positions.now }
     ensures value { result.now ≡ take (edges_of_a_run + 1) positions.now }
+    ensures some { 0 < length result.now }
 {
     if positions.len() > run_len() {
         &positions[..=run_len()]

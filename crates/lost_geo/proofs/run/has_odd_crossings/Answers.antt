@@ -18,8 +18,8 @@ pub loop-run-preserved : goal.loop-run-preserved
 loop-run-preserved c = record {
   crossed =
       rw c.run_len-begin.ensures.value
-      (walk_more edges_of_a_run c.loop-run.odd c.has_odd_crossings-odd.result (odd_along c.args.positions.now c.args.place.now) c.args.positions.now c.loop-run.begin
-      c.run_at.result.now c.args.place.now c.run_at.ensures c.has_odd_crossings-odd.ensures c.loop-run.invariant.crossed);
+      (walk_more edges_of_a_run c.loop-run.odd c.run_has_odd_crossings-odd.result (odd_along c.args.positions.now c.args.place.now) c.args.positions.now c.loop-run.begin
+      c.run_at.result.now c.args.place.now c.run_at.ensures.value c.run_has_odd_crossings-odd.ensures c.loop-run.invariant.crossed);
   left =
       rw c.run_len-begin.ensures.value
       (at_a_run edges_of_a_run c.args.runs.now c.loop-run.run-index c.args.positions.now c.loop-run.begin c.loop-run-test.true c.loop-run.invariant.left).behind;
