@@ -25,9 +25,9 @@ use std::marker::Model;
 /// Contracts see the record of the three lists.
 #[derive(Drop)]
 pub struct Regions {
-    polygons: Vec<Polygon>,
-    patterns: Vec<CivicPattern>,
     token_sets: Vec<TokenSet>,
+    patterns: Vec<CivicPattern>,
+    polygons: Vec<Polygon>,
 }
 
 impl Model for Regions {

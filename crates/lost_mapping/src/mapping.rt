@@ -40,15 +40,16 @@ pub struct Mapping {
 struct Fields {
     identity: Identity,
     stamp: Stamp,
-    expires: Expires,
-    service: ServiceUrn,
     uris: Vec<String>,
     number: Option<String>,
-    regions: Regions,
-    is_default: bool,
     display_names: Vec<DisplayName>,
     key: Option<String>,
+    // What a search looks at lies together, from the polygons of the regions on.
+    regions: Regions,
+    service: ServiceUrn,
     reference_text: Option<Vec<u8>>,
+    is_default: bool,
+    expires: Expires,
 }
 
 impl Model for Mapping {
