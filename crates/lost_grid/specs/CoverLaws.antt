@@ -97,6 +97,6 @@ cover_is_distinct same tells ring =
     (numbers_apart (line_of level bounds.lon_min) (line_of level bounds.lon_max +ℤ pos 1))
     (numbers_apart (line_of level bounds.lat_min) (line_of level bounds.lat_max +ℤ pos 1))
 
--- BOUND: a cover has at most 64 cells
-pub cover_is_bounded : (ring : List Point) → IsArea ring → length (cover_of ring) ≤ 64
+-- BOUND: a cover has at most eight cells
+pub cover_is_bounded : (ring : List Point) → IsArea ring → length (cover_of ring) ≤ 8
 cover_is_bounded ring area = cells_within_few (bounds_of ring) area.in_range

@@ -18,11 +18,11 @@ cell_of level p = record { level = level; row = line_of level p.lat; column = li
 
 -- ---- the cover of a ring
 
--- the bounds meet at most 64 cells of the level
+-- the bounds meet at most eight cells of the level
 abbrev pub are_few : Bounds → ℕ → Bool
-are_few bounds level = nat_le (length (rows level bounds) * length (columns level bounds)) 64
+are_few bounds level = nat_le (length (rows level bounds) * length (columns level bounds)) 8
 
--- the least level at which the bounds meet at most 64 cells
+-- the least level at which the bounds meet at most eight cells
 abbrev pub level_of : Bounds → ℕ
 level_of bounds = unwrap_or (find (are_few bounds) levels) 6
 

@@ -46,7 +46,7 @@ lines_at_most low high least greatest order from upto n apart =
     length-up_to (line_of 6 low) (line_of 6 high +ℤ pos 1) (omega (arith, ints)) in
     omega (arith, ints)
 
-few_product : (m n : ℕ) → m ≤ 2 → n ≤ 4 → nat_le (m * n) 64 ≡ true
+few_product : (m n : ℕ) → m ≤ 2 → n ≤ 4 → nat_le (m * n) 8 ≡ true
 few_product m n two four =
     let product : m * n ≤ 2 * 4 = mul-le-mul two four in
     grind (arith, nat_tests)
@@ -70,10 +70,10 @@ length-cells level cs (r ∷ rs) =
     let later = length-cells level cs rs in
     simp length-append (omega (arith, here, later))
 
-few_counted : (product count : ℕ) → nat_le product 64 ≡ true → count ≡ product → count ≤ 64
+few_counted : (product count : ℕ) → nat_le product 8 ≡ true → count ≡ product → count ≤ 8
 few_counted product count few is = grind (arith, nat_tests)
 
-pub cells_within_few : (bounds : Bounds) → AreInRange bounds → length (cells_within (level_of bounds) bounds) ≤ 64
+pub cells_within_few : (bounds : Bounds) → AreInRange bounds → length (cells_within (level_of bounds) bounds) ≤ 8
 cells_within_few bounds in_range =
     let few : are_few bounds (level_of bounds) ≡ true = found_passes (are_few bounds) levels 6 (few_largest bounds in_range) in
     let count = length-cells (level_of bounds) (columns (level_of bounds) bounds) (rows (level_of bounds) bounds) in

@@ -1,4 +1,4 @@
-//! The cells that bounds meet, at the least level at which they are at most 64.
+//! The cells that bounds meet, at the least level at which they are at most eight.
 
 ghost use Rattle.std.specs.Prelude.{◌≡◌, ◌≤◌, slice_get};
 ghost use Rattle.std.specs.List.{list_any};
@@ -10,8 +10,9 @@ use crate::cell::Cell;
 use crate::lines::{Lines, MAX_LEVEL};
 use lost_geo::Bounds;
 
-/// The greatest number of cells of a cover.
-pub(crate) const MAX_CELLS: u32 = 64;
+/// The greatest number of cells of a cover: as many as the level of the largest cells has. With few, a ring takes few notes,
+/// and the cells of a large map are so few that they stay near the processor.
+pub(crate) const MAX_CELLS: u32 = 8;
 
 /// The cell at a position among those that bounds meet at the least level at which they are at most [`MAX_CELLS`], by row
 /// and then by column.

@@ -18,7 +18,7 @@ use lost_profile::{KINDS, Profile};
 use std::alloc::{AllocError, Global};
 
 /// Points among rings (RFC 5222, section 12.2). A ring is kept under the cells that its bounds meet, at the least level
-/// at which they are at most 64, and a point is looked up under the cells of its normal form at each level. An outline
+/// at which they are at most eight, and a point is looked up under the cells of its normal form at each level. An outline
 /// is the bounds of the ring.
 pub struct Geodetic2d;
 
@@ -33,7 +33,7 @@ impl Profile for Geodetic2d {
 
     type Outline = Bounds;
 
-    ghost COVER_MAX = { 64 };
+    ghost COVER_MAX = { 8 };
 
     const NAME: &'static str = "geodetic-2d";
 
@@ -60,7 +60,7 @@ impl Profile for Geodetic2d {
         region.inside(location)
     }
 
-    /// The cells that the ring's bounds meet, at the least level at which they are at most 64, by row, then by column.
+    /// The cells that the ring's bounds meet, at the least level at which they are at most eight, by row, then by column.
     fn key_at(region: &Polygon, position: usize) -> Option<Cell> {
         cell_at(&region.bounds(), position)
     }
@@ -107,12 +107,12 @@ fn is_within(bounds: &Bounds, place: &GeoPoint) -> bool
     ensures { result ≡ is_within_bounds bounds.now place.now }
 {
     is_from_to(bounds.lat_min, bounds.lat_max, place.lat())
-        && is_from_to(bounds.lon_min, bounds.lon_max, place.lon())
+        & is_from_to(bounds.lon_min, bounds.lon_max, place.lon())
 }
 
 /// Whether the number lies from `low` to `high`, both included.
 fn is_from_to(low: i32, high: i32, number: i64) -> bool
     ensures { result ≡ is_in_order low high number }
 {
-    i64::from(low) <= number && number <= i64::from(high)
+    (i64::from(low) <= number) & (number <= i64::from(high))
 }

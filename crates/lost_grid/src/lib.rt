@@ -1,5 +1,5 @@
 //! Cells of seven sizes over the plane of latitudes and longitudes. A ring is kept under the cells that its bounds
-//! meet, at the least level at which they are at most 64. A point is looked up in its one cell of each level.
+//! meet, at the least level at which they are at most eight. A point is looked up in its one cell of each level.
 #![tactic(auto)]
 
 pub use cell::Cell;

@@ -2,12 +2,12 @@
 
 ghost use Rattle.lost_grid.specs.Rows.{CoversRow, FarRow, PolesRow, FullRow, NextLevelRow};
 
-/// A square of a degree is kept under nine cells of level 2, and a point is looked up under one cell of each level.
+/// A square of a degree is kept under one cell of level 3, and a point is looked up under one cell of each level.
 pub fn covers()
     ensures { CoversRow }
 {}
 
-/// A square that meets other lines of the grid is kept under sixteen cells of level 2.
+/// A square that meets lines of the grid is kept under four cells of level 3.
 pub fn far()
     ensures { FarRow }
 {}
@@ -17,12 +17,12 @@ pub fn poles()
     ensures { PolesRow }
 {}
 
-/// A square of a little under eight cells of level 2 is kept under 64 of them.
+/// What is a little under two cells of level 2 high and under four of them wide is kept under these eight.
 pub fn full()
     ensures { FullRow }
 {}
 
-/// A square that reaches a ninth row of level 2 is kept under nine cells of level 3.
+/// What reaches a third row of level 2 is kept under one cell of level 3.
 pub fn next_level()
     ensures { NextLevelRow }
 {}

@@ -1,6 +1,6 @@
 //! Covers and probes.
 
-use crate::rings::{Corners, EARTH, EIGHT, FAR, NEAR, UNDER_EIGHT, point, square};
+use crate::rings::{Corners, EARTH, FAR, NEAR, TWO, UNDER_TWO, point, square};
 use lost_grid::{Cell, Geodetic2d};
 use lost_profile::Profile;
 use std::io;
@@ -9,8 +9,8 @@ use std::io;
 pub(crate) fn print_all<R: Print + AllocGlobal>(rt: &R) -> io::Result<()> {
     print_cover(rt, "a square of a degree", NEAR)?;
     print_cover(rt, "one far from it", FAR)?;
-    print_cover(rt, "a little under eight cells of level 2", UNDER_EIGHT)?;
-    print_cover(rt, "eight cells of level 2", EIGHT)?;
+    print_cover(rt, "a little under two cells of level 2 high", UNDER_TWO)?;
+    print_cover(rt, "two cells of level 2 high", TWO)?;
     print_cover(rt, "the earth", EARTH)?;
     print_probes(rt)
 }
