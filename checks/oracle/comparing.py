@@ -8,7 +8,7 @@ from collections import Counter
 from oracle import Replay, cut
 
 TOP = os.path.dirname(os.path.dirname(os.path.dirname(os.path.realpath(__file__))))
-PROGRAM = f"{TOP}/crates/lostd/out/lostd"
+PROGRAM = os.environ.get("LOSTD", f"{TOP}/crates/lostd/out/lostd")
 MOST_STEPS, MOST_TRIES = 30, 100
 
 

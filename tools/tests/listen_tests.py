@@ -1,5 +1,4 @@
-"""Where `lostd serve` listens: addresses of IPv6, names, and Unix sockets with the rights of their files. The program of the
-gate has rows of what every machine has; here is what a machine may lack, and what takes two processes."""
+"""Where `lostd serve` listens: addresses of TCP, names, and Unix sockets with the rights of their files."""
 from __future__ import annotations
 
 import os
@@ -97,14 +96,30 @@ class Addresses(unittest.TestCase):
         port = free_port(family, address)
         self.reach(f"localhost:{port}", (family, (address, port)))
 
+    def said(self, queries: str) -> str:
+        """What a server that cannot listen says behind the address."""
+        ran = subprocess.run(words_of(queries), capture_output=True, timeout=PATIENCE)
+        self.assertEqual((ran.returncode, ran.stdout), (1, b""), queries)
+        front, said = f"lostd: --queries '{queries}' ", ran.stderr.decode()
+        self.assertTrue(said.startswith(front), said)
+        return said[len(front) :]
+
     def test_no_address(self) -> None:
-        for queries in ("[::1]", "[::1]:65536", "localhost", "no-such-host.invalid:5222"):
-            ran = subprocess.run(words_of(queries), capture_output=True, timeout=PATIENCE)
-            self.assertEqual((ran.returncode, ran.stdout), (1, b""), queries)
+        texts = ["127.0.0.1", "127.0.0.1:65536", "127.0.0.1:lost", "[::1]", "[::1]:65536", "localhost", "no-such-host.invalid:5222", ""]
+        for queries in texts:
             self.assertEqual(
-                ran.stderr.decode(),
-                f"lostd: --queries '{queries}' cannot be used: it must be an address or a name of this machine and a port, as 127.0.0.1:5222\n",
+                self.said(queries),
+                "cannot be used: it must be an address or a name of this machine and a port, as 127.0.0.1:5222\n",
+                queries,
             )
+
+    def test_an_address_of_another_machine(self) -> None:
+        self.assertEqual(self.said("192.0.2.1:0"), "is no address of this machine\n")
+
+    def test_a_port_that_is_in_use(self) -> None:
+        with socket.create_server(("127.0.0.1", 0)) as listener:
+            queries = f"127.0.0.1:{listener.getsockname()[1]}"
+            self.assertEqual(self.said(queries), "is in use: another program listens there\n")
 
 
 class Watch:
@@ -186,10 +201,19 @@ class UnixSockets(unittest.TestCase):
             self.assertTrue(os.path.exists(self.path))
 
     def test_a_file_in_the_way_stays(self) -> None:
-        with open(self.path, "w", encoding="ascii") as file:
+        """A file, a folder, and links, one of which leads to a socket."""
+        with open(f"{self.folder}/file", "w", encoding="ascii") as file:
             file.write("kept")
-        self.assertEqual(self.said(f"unix:{self.path}"), (1, "cannot be used: something that is no socket stands there"))
-        with open(self.path, encoding="ascii") as file:
+        os.mkdir(f"{self.folder}/folder")
+        os.symlink("queries.sock", f"{self.folder}/link")
+        os.symlink("nowhere", f"{self.folder}/broken")
+        with Running(f"unix:{self.path}", **self.how) as server:
+            self.assertTrue(server.is_ready())
+            for name in ("file", "folder", "link", "broken"):
+                told = (1, "cannot be used: something that is no socket stands there")
+                self.assertEqual(self.said(f"unix:{self.folder}/{name}"), told, name)
+            self.assertEqual(sorted(os.listdir(self.folder)), ["broken", "file", "folder", "link", "queries.sock"])
+        with open(f"{self.folder}/file", encoding="ascii") as file:
             self.assertEqual(file.read(), "kept")
 
     @unittest.skipUnless(os.geteuid() == 0, "this user is not root, and cannot be another one")
@@ -203,10 +227,18 @@ class UnixSockets(unittest.TestCase):
             self.assertEqual(self.said(f"unix:{self.path}", **nobody), (1, rights))
             self.assertTrue(ask(socket.AF_UNIX, self.path))
 
+    def test_the_longest_path(self) -> None:
+        with Running(f"unix:{'x' * 96}", **self.how) as server:
+            self.assertTrue(server.is_ready())
+            self.assertEqual(os.listdir(self.folder), ["x" * 96])
+
     def test_paths_that_cannot_be(self) -> None:
+        with open(f"{self.folder}/file", "w", encoding="ascii") as file:
+            file.write("no folder")
         for path, cause in (
             ("", "cannot be used: a path must stand behind unix:, as unix:/run/lostd/desk.sock"),
             ("none/queries.sock", "cannot be used: its folder is not there"),
+            ("file/queries.sock", "cannot be used: its folder is not there"),
             ("x" * 97, "cannot be used: the path of a socket has at most 96 bytes"),
         ):
             self.assertEqual(self.said(f"unix:{path}"), (1, cause))

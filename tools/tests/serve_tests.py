@@ -6,96 +6,12 @@ import select
 import signal
 import socket
 import stat
-import subprocess
 import tempfile
 import time
 import unittest
-from typing import List, Tuple
 
-from tests.running import TOP, has_ipv6, lostd, serve_has
-
-PATIENCE = 60
-FREE = "127.0.0.1:0"
-READY = b"ready\n"
-
-
-def has_maps() -> bool:
-    """Whether the built program reads a map at its start."""
-    path = lostd()
-    return path is not None and b"--map <FILE>" in subprocess.run([path, "serve", "--help"], capture_output=True, timeout=10).stdout
-
-
-class Server:
-    """A server that is started with these words, and what it says."""
-
-    def __init__(self, words: List[str], given: bytes = b"") -> None:
-        command = [str(lostd()), "serve", "--name", "lost.example", "--workers", "2", *words]
-        pipes = {"stdin": subprocess.PIPE, "stdout": subprocess.PIPE, "stderr": subprocess.PIPE}
-        # A shell may have begun this with SIGHUP ignored.
-        self.process = subprocess.Popen(command, **pipes, preexec_fn=lambda: signal.signal(signal.SIGHUP, signal.SIG_DFL))
-        if self.process.stdin:
-            try:
-                self.process.stdin.write(given)
-                self.process.stdin.close()
-            except BrokenPipeError:
-                pass
-            self.process.stdin = None
-
-    def __enter__(self) -> Server:
-        return self
-
-    def __exit__(self, *_: object) -> None:
-        self.process.kill()
-        self.process.wait(PATIENCE)
-        for pipe in (self.process.stdout, self.process.stderr):
-            if pipe:
-                pipe.close()
-
-    def first_line(self) -> bytes:
-        """The first line on standard output; empty where there is none."""
-        output = self.process.stdout
-        assert output is not None
-        if not select.select([output], [], [], PATIENCE)[0]:
-            return b""
-        return output.readline()
-
-    def end(self) -> Tuple[int, List[str]]:
-        """The status, once it has ended by itself, and the lines on standard error."""
-        _, said = self.process.communicate(timeout=PATIENCE)
-        return self.process.returncode, said.decode().splitlines()
-
-
-def ask(connection: socket.socket, line: str) -> str:
-    """The reply to a line."""
-    connection.settimeout(PATIENCE)
-    connection.sendall(line.encode())
-    reply = b""
-    while not reply.endswith(b"\n"):
-        piece = connection.recv(65_536)
-        if not piece:
-            raise EOFError(f"the server closed after {reply!r}")
-        reply += piece
-    return reply.decode()
-
-
-def unix(path: str) -> socket.socket:
-    """A connection to a Unix socket."""
-    connection = socket.socket(socket.AF_UNIX)
-    connection.connect(path)
-    return connection
-
-
-def ended(connection: socket.socket) -> bool:
-    """Whether the server ends a connection soon; what comes before is passed over."""
-    connection.settimeout(PATIENCE)
-    try:
-        while connection.recv(65_536):
-            pass
-    except ConnectionResetError:
-        pass
-    except socket.timeout:
-        return False
-    return True
+from tests.running import TOP, has_ipv6, serve_has
+from tests.server import FREE, PATIENCE, READY, Server, ask, ended, has_maps, unix
 
 
 @unittest.skipUnless(has_maps(), "no program with --map is built")
@@ -126,8 +42,8 @@ class ServeTests(unittest.TestCase):
         queries = self.path("queries.sock")
         with Server(["--map", "-", "--queries", f"unix:{queries}"], (self.publish + self.commit).encode()) as server:
             self.assertEqual(server.first_line(), READY)
-            with unix(queries) as client:
-                self.assertIn('"findServiceResponse":{"edition":1', ask(client, self.question))
+            with open(f"{TOP}/examples/one-mapping.expected", encoding="utf-8") as replies, unix(queries) as client:
+                self.assertEqual(ask(client, self.question), replies.readlines()[2])
 
     def test_refused_lines(self) -> None:
         """Each refused line is said with its number, code and cause, and nothing is listened on."""
@@ -141,6 +57,24 @@ class ServeTests(unittest.TestCase):
         self.assertRegex(said[2], r"^lostd: --map '.*map\.jsonl': 2 lines refused, 0 edits after the last commit")
         self.assertEqual(len(said), 3)
         self.assertFalse(os.path.exists(queries))
+
+    def test_no_commit(self) -> None:
+        """A map that ends without a commit is refused too."""
+        queries = self.path("queries.sock")
+        with Server(["--map", self.map(self.publish), "--queries", f"unix:{queries}"]) as server:
+            status, said = server.end()
+        self.assertEqual((status, len(said)), (3, 1))
+        self.assertRegex(said[0], r"^lostd: --map '.*map\.jsonl': 0 lines refused, 1 edits? after the last commit")
+        self.assertFalse(os.path.exists(queries))
+
+    def test_no_map(self) -> None:
+        """A file that is not there is no map, and a folder is none."""
+        for path in (self.path("nothing.jsonl"), self.folder.name):
+            with Server(["--map", path, "--queries", f"unix:{self.path('queries.sock')}"]) as server:
+                status, said = server.end()
+            self.assertEqual((status, len(said)), (1, 1))
+            self.assertIn(path, said[0])
+        self.assertEqual(os.listdir(self.folder.name), [])
 
     def test_keep_going(self) -> None:
         """With --keep-going the same map starts a server with what was accepted."""
