@@ -1,8 +1,11 @@
 // Loaded before the C library: counts the bytes that a program holds of those that malloc and realloc gave, and says the most
-// of them at once on standard error at the end. A program of the kit takes memory by these two calls alone.
+// of them at once on standard error at the end. A program of the kit takes memory by these two calls alone, and ends by _exit.
+#define _GNU_SOURCE
 #include <malloc.h>
 #include <stdio.h>
 #include <stdlib.h>
+#include <sys/syscall.h>
+#include <unistd.h>
 
 extern void *__libc_malloc(size_t size);
 extern void *__libc_realloc(void *block, size_t size);
@@ -10,9 +13,11 @@ extern void __libc_free(void *block);
 
 static size_t held, most;
 
-__attribute__((destructor)) static void end(void)
+void _exit(int status)
 {
     fprintf(stderr, "%zu\n", most);
+    syscall(SYS_exit_group, status);
+    __builtin_unreachable();
 }
 
 static void *given(void *block)
