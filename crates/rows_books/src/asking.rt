@@ -104,7 +104,10 @@ fn place(degrees: i64) -> Result<Place, AllocError> {
 
 /// The service of a text.
 fn service(alloc: Global, text: &str) -> Result<ServiceUrn, AllocError> {
-    ServiceUrn::parse(alloc, text.as_bytes()).map_err(|_| AllocError)
+    match ServiceUrn::parse(alloc, text.as_bytes()) {
+        Ok(service) => Ok(service),
+        Err(_) => Err(AllocError),
+    }
 }
 
 /// Adds a name and its list of positions.

@@ -27,3 +27,8 @@ pub(crate) fn print_calls<R: Files + Print + AllocGlobal, A: Kind, B: Kind>(
     }
     Ok(())
 }
+
+/// A value is not as it should be, or memory was refused.
+pub(crate) fn unfit() -> io::Error {
+    io::Error::from(io::ErrorKind::InvalidData)
+}

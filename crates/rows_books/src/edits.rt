@@ -1,7 +1,6 @@
 //! The edits of the input, each applied to two books.
 use crate::asking::answers;
 use crate::kinds::Kind;
-use crate::pair::Pair;
 use crate::traces::Publishes;
 use lost_book::{Edit, EditError, Limits};
 use lost_json::{DeskLine, read_desk};
@@ -17,8 +16,7 @@ pub(crate) fn edit_books<R: Input + Print + AllocGlobal, A: Kind, B: Kind>(
     let publishes = Publishes::new(rt.alloc())?;
     let mut limits = Limits::widest();
     for _ in 0..u64::MAX {
-        let mut pair = Pair::<A, B>::empty(rt.alloc(), limits)?;
-        match edit_pair(rt, &mut pair, &publishes)? {
+        match edit_anew::<R, A, B>(rt, limits, &publishes)? {
             Some(next) => limits = next,
             None => break,
         }
@@ -26,11 +24,23 @@ pub(crate) fn edit_books<R: Input + Print + AllocGlobal, A: Kind, B: Kind>(
     Ok(())
 }
 
+/// Applies the edits to two new books of these limits, as [`edit_both`] does.
+fn edit_anew<R: Input + Print + AllocGlobal, A: Kind, B: Kind>(
+    rt: &R,
+    limits: Limits,
+    publishes: &Publishes,
+) -> io::Result<Option<Limits>> {
+    let mut first = A::empty(rt.alloc(), limits)?;
+    let mut second = B::empty(rt.alloc(), limits)?;
+    edit_both(rt, &mut first, &mut second, publishes)
+}
+
 /// Applies the edits up to a line that begins both books anew, and gives their limits. At the end of the input, prints
 /// how many edits were accepted, and gives `None`.
-fn edit_pair<R: Input + Print + AllocGlobal, A: Kind, B: Kind>(
+fn edit_both<R: Input + Print + AllocGlobal, A: Kind, B: Kind>(
     rt: &R,
-    pair: &mut Pair<A, B>,
+    first: &mut A,
+    second: &mut B,
     publishes: &Publishes,
 ) -> io::Result<Option<Limits>> {
     let mut line = String::new(rt.alloc());
@@ -47,15 +57,11 @@ fn edit_pair<R: Input + Print + AllocGlobal, A: Kind, B: Kind>(
             }
             println!(rt; "not allowed: {numbers}")?;
         } else {
-            edit_one(rt, &mut pair.first, publishes, order.as_bytes())?;
-            edit_one(rt, &mut pair.second, publishes, order.as_bytes())?;
+            edit_one(rt, first, publishes, order.as_bytes())?;
+            edit_one(rt, second, publishes, order.as_bytes())?;
         }
     }
-    println!(rt;
-        "{} and {} edits",
-        pair.first.edition(),
-        pair.second.edition()
-    )?;
+    println!(rt; "{} and {} edits", first.edition(), second.edition())?;
     Ok(None)
 }
 

@@ -80,5 +80,8 @@ fn standby(alloc: Global, source: &str, source_id: &str, day: u64) -> Result<Map
         display_names: Vec::new(alloc),
         key: None,
     };
-    Mapping::build(alloc, parts).map_err(|_| AllocError)
+    match Mapping::build(alloc, parts) {
+        Ok(mapping) => Ok(mapping),
+        Err(_) => Err(AllocError),
+    }
 }

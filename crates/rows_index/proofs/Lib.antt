@@ -1,3 +1,1 @@
-pub mod PlainLemmas
 pub mod RowLemmas
-pub mod TownLemmas

@@ -4,8 +4,6 @@ ghost use Rattle.std.specs.Prelude.{◌≡◌, IfOk, length};
 
 use crate::reading::{address, pattern, required};
 use crate::rings::{FAR, NEAR, point, square};
-use crate::tens::profile::Tens;
-use crate::tens::stretch::Stretch;
 use crate::tokens::{token, two};
 use lost_civic::CivicPattern;
 use lost_civicdex::{Civic, References};
@@ -13,7 +11,7 @@ use lost_geo::Polygon;
 use lost_grid::Geodetic2d;
 use lost_index::Index;
 use lost_profile::{Profile, Tokens};
-use std::alloc::{AllocError, Global};
+use std::alloc::Global;
 use std::io;
 
 /// The address of the questions, and its required elements.
@@ -32,8 +30,6 @@ pub(crate) fn print_all<R: Print + AllocGlobal>(rt: &R, are_made: bool) -> io::R
     print_calls::<R, Civic>(rt, patterns(alloc)?, &asked, &place, are_made)?;
     let place = required(alloc, REQUIRED).ok_or_else(unreadable)?;
     print_calls::<R, References>(rt, patterns(alloc)?, &asked, &place, are_made)?;
-    let asked = stretches(alloc)?;
-    print_calls::<R, Tens>(rt, stretches(alloc)?, &asked, &21, are_made)?;
     let place = token(alloc, "t2")?;
     let asked = two(alloc, "t1 t2", "t3")?;
     print_calls::<R, Tokens>(rt, two(alloc, "t1 t2", "t3")?, &asked, &place, are_made)
@@ -81,16 +77,6 @@ fn patterns(alloc: Global) -> io::Result<Vec<CivicPattern>>
     let mut regions = Vec::new(alloc);
     regions.push(pattern(alloc, "country=US;A3=Leonia").ok_or_else(unreadable)?)?;
     regions.push(pattern(alloc, "country=US;A3=Fort Lee").ok_or_else(unreadable)?)?;
-    Ok(regions)
-}
-
-/// A stretch that holds the number of the questions, and one that is far from it.
-fn stretches(alloc: Global) -> Result<Vec<Stretch>, AllocError>
-    ensures { IfOk result (λ regions. length regions.items ≡ 2) }
-{
-    let mut regions = Vec::new(alloc);
-    regions.push(Stretch::of(15, 9))?;
-    regions.push(Stretch::of(1_000, 9))?;
     Ok(regions)
 }
 

@@ -6,6 +6,8 @@
 //! - `reference-cover PATTERN` and `reference-probes ADDRESS / ELEMENTS`: the keys of the profile of references, where
 //!   these elements of the address are required.
 //! - `refers PATTERN / ADDRESS / ELEMENTS`: whether the pattern contains the address, with these elements required.
+//! - `near PATTERN / ADDRESS` and `reference-near PATTERN / ADDRESS / ELEMENTS`: whether the pattern's outline says that
+//!   it may. It must where the pattern contains the address, and it refuses most others.
 
 use crate::reading::{address, pattern, required};
 use lost_civic::Element;
@@ -42,7 +44,7 @@ fn answer(alloc: Global, line: &str) -> Option<String> {
                 rest,
             )
         }
-        "contains" => contains(alloc, rest),
+        "contains" | "near" => with_address(alloc, question, rest),
         "reference-cover" => {
             let region = pattern(alloc, rest)?;
             written(
@@ -60,23 +62,32 @@ fn answer(alloc: Global, line: &str) -> Option<String> {
                 pairs,
             )
         }
-        "refers" => refers(alloc, rest),
+        "refers" | "reference-near" => with_required(alloc, question, rest),
         _ => None,
     }
 }
 
-fn contains(alloc: Global, text: &str) -> Option<String> {
+/// Whether a pattern contains an address, or its outline says that it may.
+fn with_address(alloc: Global, question: &str, text: &str) -> Option<String> {
     let (region, location) = text.split_once(" / ")?;
     let region = pattern(alloc, region)?;
     let location = address(alloc, location)?;
-    said(alloc, Civic::contains(&region, &location))
+    said(alloc, held::<Civic>(question, &region, &location))
 }
 
-fn refers(alloc: Global, text: &str) -> Option<String> {
+/// The same of an address with required elements.
+fn with_required(alloc: Global, question: &str, text: &str) -> Option<String> {
     let (region, location) = text.split_once(" / ")?;
     let region = pattern(alloc, region)?;
     let location = required(alloc, location)?;
-    said(alloc, References::contains(&region, &location))
+    said(alloc, held::<References>(question, &region, &location))
+}
+
+fn held<P: Profile>(question: &str, region: &P::Region, location: &P::Location) -> bool {
+    match question {
+        "contains" | "refers" => P::contains(region, location),
+        _ => P::is_near(&P::outline(region), location),
+    }
 }
 
 fn said(alloc: Global, holds: bool) -> Option<String> {

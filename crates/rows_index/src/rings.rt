@@ -30,10 +30,16 @@ pub(crate) fn square(alloc: Global, corners: Corners) -> io::Result<Polygon> {
     ring.push(point(north, east)?)?;
     ring.push(point(north, west)?)?;
     ring.push(point(south, west)?)?;
-    Polygon::new(ring).map_err(|_| io::Error::from(io::ErrorKind::InvalidInput))
+    match Polygon::new(ring) {
+        Ok(polygon) => Ok(polygon),
+        Err(_) => Err(io::Error::from(io::ErrorKind::InvalidInput)),
+    }
 }
 
 /// The position at a latitude and a longitude.
 pub(crate) fn point(lat: i64, lon: i64) -> io::Result<GeoPoint> {
-    GeoPoint::new(lat, lon).map_err(|_| io::Error::from(io::ErrorKind::InvalidInput))
+    match GeoPoint::new(lat, lon) {
+        Ok(point) => Ok(point),
+        Err(_) => Err(io::Error::from(io::ErrorKind::InvalidInput)),
+    }
 }

@@ -2,8 +2,6 @@
 ghost use Rattle.std.specs.Prelude.{◌≡◌, [], IfOk, length};
 
 use crate::rings::{FAR, NEAR, point, square};
-use crate::tens::profile::Tens;
-use crate::tens::stretch::Stretch;
 use crate::tokens::{set, token};
 use lost_geo::Polygon;
 use lost_grid::Geodetic2d;
@@ -35,20 +33,6 @@ impl Row for Geodetic2d {
 
     fn asked(_alloc: Global, index: &Index<Geodetic2d>) -> io::Result<Vec<u64>> {
         Ok(index.holding(&point(5_000_000, 5_000_000)?)?)
-    }
-}
-
-impl Row for Tens {
-    fn near(_alloc: Global) -> io::Result<Stretch> {
-        Ok(Stretch::of(15, 9))
-    }
-
-    fn far(_alloc: Global) -> io::Result<Stretch> {
-        Ok(Stretch::of(1_000, 9))
-    }
-
-    fn asked(_alloc: Global, index: &Index<Tens>) -> io::Result<Vec<u64>> {
-        Ok(index.holding(&21)?)
     }
 }
 

@@ -1,11 +1,9 @@
 //! Rows of lines. Each word of the command line is a command. The commands run in turn, and each prints below its word.
 //! The exit status is 1 where something is not as expected, and 2 where there is no word, or an unknown one.
 //!
-//! - `sessions`: each session of the folder `sessions` is replayed, and then answered by a desk and a reader that keeps
-//!   1, 2 and 1,024 places. `NAME.jsonl` has the lines, `NAME.expected` the replies. A desk has the limits that the
-//!   file `NAME.limits` gives; a session with such a file is not replayed, since a replay has the widest.
-//! - `checks`: the lines of each row of the folder `checks` are checked, and then those of four rows that are made.
-//!   `NAME.jsonl` has the lines, `NAME.expected` the report.
+//! - `sessions`: each session of the folder `sessions` is answered by a desk and a reader that keeps 1, 2 and 1,024
+//!   places. `NAME.jsonl` has the lines, `NAME.expected` the replies. A desk has the limits that the file `NAME.limits`
+//!   gives, or the widest. (`tools/test` has the program replay these sessions.)
 //! - `worlds`: runs the worlds of standard input, and prints the events of their steps, one a line. A line
 //!   `world W LIMITS` begins a world of so many workers, and each line after it is a step, until the next world:
 //!   `stage EDIT`, `publish`, `enter W`, `tell W N` or `answer W REQUEST`, with an edit and a request as lines of JSON.
@@ -15,15 +13,12 @@
 //! - `cache`: the lines of `cache.lines`, for a desk and two readers: one has a cache, the other counts what it finds.
 //!   A desk line goes to the desk, any other line to both. The line `next` ends a session, and the next one has a desk
 //!   of its own.
-//! - `many`: a desk's connection on which two thousand edits are staged before each of two commits.
-//! - `threads`: a desk in one thread and a reader in another, a thousand times.
 //! - `calls`: the calls that take no memory, on the desks of the table `calls.lines` and their readers. `prepared`
 //!   makes these alone.
 //!
 //! Limits are three numbers: the most mappings held, edits accepted and withdrawn identities remembered.
 #![tactic(auto)]
 
-mod checks;
 mod desks;
 mod limits;
 mod rows;
@@ -34,13 +29,10 @@ use std::io;
 use std::process::ExitCode;
 use std::rt::Files;
 use std::sync::Wait;
-use std::thread::Threads;
 use test_parts::given;
 
 /// The commands.
-const WORDS: [&str; 9] = [
-    "sessions", "checks", "worlds", "desk", "cache", "many", "threads", "calls", "prepared",
-];
+const WORDS: [&str; 6] = ["sessions", "worlds", "desk", "cache", "calls", "prepared"];
 
 fn main(rt: HostRuntime) -> io::Result<ExitCode> {
     let (words, mut end) = given(&rt, "rows_lines", &WORDS)?;
@@ -51,14 +43,13 @@ fn main(rt: HostRuntime) -> io::Result<ExitCode> {
 }
 
 /// Runs a command. Says whether all is as expected.
-fn run<R: Files + Input + Print + Threads + Wait + Sync + AllocGlobal + Clone + Drop>(
+fn run<R: Files + Input + Print + Wait + AllocGlobal + Clone + Drop>(
     rt: &R,
     command: &str,
 ) -> io::Result<bool> {
     println!(rt; "== {command}")?;
     match command {
         "sessions" => sessions::print_sessions(rt),
-        "checks" => checks::print_checks(rt),
         "worlds" => {
             worlds::print_worlds(rt)?;
             Ok(true)

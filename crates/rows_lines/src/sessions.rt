@@ -1,7 +1,6 @@
-//! Sessions, each answered in several ways, and the expected replies.
+//! Sessions, each answered by desks with readers that keep places, and the expected replies.
 
 mod cached;
-mod replayed;
 
 use crate::limits::limits;
 use crate::rows::{Row, names};
@@ -17,7 +16,7 @@ const FOLDER: &str = "sessions";
 /// How many places the readers keep.
 const PLACES: [u32; 3] = [1, 2, 1_024];
 
-/// Has each session answered in each way. Prints and returns whether all replies are as expected.
+/// Has each session answered. Prints and returns whether all replies are as expected.
 pub(crate) fn print_sessions<R: Files + Wait + Print + AllocGlobal + Clone + Drop>(
     rt: &R,
 ) -> io::Result<bool> {
@@ -31,24 +30,17 @@ pub(crate) fn print_sessions<R: Files + Wait + Print + AllocGlobal + Clone + Dro
     Ok(all)
 }
 
-/// Has one session answered in each way. Prints and returns whether the replies are as expected.
+/// Has one session answered by a reader of each kind. Prints and returns whether the replies are as expected.
 fn is_as_expected<R: Files + Wait + Print + AllocGlobal>(
     rt: &R,
     name: &str,
     setting: &Setting,
 ) -> io::Result<bool> {
     let row = Row::read(rt, FOLDER, name)?;
-    let limits = limits(rt, FOLDER, name)?;
-    if limits.is_none() {
-        let replies = replayed::replies(rt.alloc(), &row.lines, &setting.name, &setting.moment);
-        if !is_same(rt, name, "replayed", replies, &row.expected)? {
-            return Ok(false);
-        }
-    }
-    let limits = limits.unwrap_or(Limits::widest());
+    let limits = limits(rt, FOLDER, name)?.unwrap_or(Limits::widest());
     for places in PLACES {
         let replies = cached::replies(rt, &row.lines, setting, limits, places);
-        if !is_same(rt, name, "with places kept", replies, &row.expected)? {
+        if !is_same(rt, name, places, replies, &row.expected)? {
             return Ok(false);
         }
     }
@@ -60,17 +52,17 @@ fn is_as_expected<R: Files + Wait + Print + AllocGlobal>(
 fn is_same<R: Print>(
     rt: &R,
     name: &str,
-    how: &str,
+    places: u32,
     replies: Option<Vec<u8>>,
     expected: &[u8],
 ) -> io::Result<bool> {
     let Some(replies) = replies else {
-        println!(rt; "{name}, {how}: the run ended in a fault")?;
+        println!(rt; "{name}, {places} places kept: the run ended in a fault")?;
         return Ok(false);
     };
     let same = replies.as_slice() == expected;
     if !same {
-        println!(rt; "{name}, {how}: differs")?;
+        println!(rt; "{name}, {places} places kept: differs")?;
     }
     Ok(same)
 }

@@ -12,14 +12,12 @@
 //!   `worker` has one worker serve it twice, first where the first read fails. `faults` prints the texts of all faults,
 //!   and `marks` the answers where memory is refused.
 //! - `lines`: the script `lines.lines`, whose lines are answered by their lengths. [`lines`] says how it is written.
-//! - `command`: each row of `command.rows` is a command line, obeyed over a console in memory. The result is compared
-//!   with the row ([`command`] says how a row is written). Then come the texts of the exit reasons that no console can
-//!   cause.
+//! - `orders`: each row of `orders.rows` is a command line that orders a server. Prints the order, and then the texts of
+//!   exit reasons.
 //! - `status`: each row of `status.rows` is an HTTP request to a server after some events. The answer is compared with
 //!   the row ([`status`] says how a row is written). Then come clients that are cut off, and two workers that count at
 //!   once.
-//! - `sockets`: Unix sockets at paths of all kinds, in a folder that the command makes in the current one and removes;
-//!   TCP addresses; and bytes over connections of both kinds.
+//! - `serve`: a server with a desk and two clients, over TCP, and one that is told to end.
 //!
 //! Other lines of the first two scripts prepare the next stream. `line TEXT`, `last TEXT` (without byte 10),
 //! `long NUMBER` (so many bytes), `byte NUMBER`, `filled NUMBER TEXT` (with spaces after it, so many bytes in all) and
@@ -30,7 +28,6 @@
 mod always;
 mod bursts;
 mod by;
-mod command;
 mod faults;
 mod holding;
 mod hostile;
@@ -38,10 +35,11 @@ mod in_turn;
 mod lengths;
 mod lines;
 mod noting;
+mod orders;
 mod pair;
 mod plan;
+mod serve;
 mod sipping;
-mod sockets;
 mod spelled;
 mod status;
 mod stream;
@@ -60,18 +58,16 @@ use std::{fs, io};
 use test_parts::given;
 
 /// The commands.
-const WORDS: [&str; 6] = [
-    "streams", "hostile", "lines", "command", "status", "sockets",
-];
+const WORDS: [&str; 6] = ["streams", "hostile", "lines", "orders", "status", "serve"];
 
 fn main(rt: HostRuntime) -> io::Result<ExitCode> {
     let (words, end) = given(&rt, "rows_streams", &WORDS)?;
     for word in &words {
         println!(rt; "== {word}")?;
         match word.as_str() {
-            "command" => command::run(&rt)?,
+            "orders" => orders::run(&rt)?,
             "status" => status::run(&rt)?,
-            "sockets" => sockets::run(&rt)?,
+            "serve" => serve::run(&rt)?,
             script => run_script(&rt, script)?,
         }
     }

@@ -1,7 +1,7 @@
 //! Calls on books: what they hold, and each refusal but that of memory.
+use crate::calls::unfit;
 use crate::edits::edit_of;
 use crate::kinds::Kind;
-use crate::runs::words::unfit;
 use lost_book::{Edit, EditError};
 use lost_mapping::Moment;
 use lost_spec::Coded;

@@ -1,6 +1,6 @@
 //! Calls on services, points, rings, civic addresses, mappings, moments and limits.
+use crate::calls::unfit;
 use crate::edits::edit_of;
-use crate::runs::words::unfit;
 use lost_book::{Edit, Limits};
 use lost_civic::{CivicAddress, CivicPattern, Element};
 use lost_geo::{GeoPoint, Polygon};
@@ -96,7 +96,10 @@ impl Values {
 
 /// The service of a text.
 fn service(alloc: Global, text: &str) -> io::Result<ServiceUrn> {
-    ServiceUrn::parse(alloc, text.as_bytes()).map_err(|_| unfit())
+    match ServiceUrn::parse(alloc, text.as_bytes()) {
+        Ok(service) => Ok(service),
+        Err(_) => Err(unfit()),
+    }
 }
 
 /// The parts of a mapping, and of one whose number is invalid.
@@ -159,7 +162,10 @@ fn address(alloc: Global, town: &str) -> io::Result<CivicAddress> {
     for (name, value) in [("country", "US"), ("A3", town), ("FLR", "2")] {
         pairs.push(pair(alloc, name, value)?)?;
     }
-    CivicAddress::from_pairs(alloc, pairs).map_err(|_| unfit())
+    match CivicAddress::from_pairs(alloc, pairs) {
+        Ok(address) => Ok(address),
+        Err(_) => Err(unfit()),
+    }
 }
 
 /// A name and a value.

@@ -1,0 +1,164 @@
+//! Calls of lost_civic.
+use super::fields::Fields;
+use super::trouble::Trouble;
+use super::words::{checked, compared, owned, push_pairs, refused, text_pairs, yes_or_no};
+use lost_civic::{CivicAddress, CivicError, CivicPattern, Element};
+use lost_spec::Coded;
+use std::alloc::Global;
+
+/// The result of a call.
+pub(crate) fn said(alloc: Global, call: &str, fields: &Fields) -> Result<String, Trouble> {
+    let text = fields.text(1)?;
+    match call {
+        "civic elements" => elements(alloc),
+        "civic element" => by_name(alloc, text),
+        "civic order" => {
+            let other = element(fields.text(2)?)?;
+            owned(alloc, order(element(text)?, other))
+        }
+        "civic address" => new_address(alloc, text),
+        "civic pattern" => new_pattern(alloc, text),
+        "civic address check" => check_address(alloc, text),
+        "civic pattern check" => check_pattern(alloc, text),
+        "civic same addresses" => same_addresses(alloc, text, fields.text(2)?),
+        "civic same patterns" => same_patterns(alloc, text, fields.text(2)?),
+        "civic matches" => matches(alloc, text, fields.text(2)?),
+        _ => Err(Trouble::NoCase),
+    }
+}
+
+fn check_address(alloc: Global, text: &str) -> Result<String, Trouble> {
+    let pairs = text_pairs(alloc, text, ';')?;
+    let fault = CivicAddress::check(pairs.as_slice()).err();
+    checked(alloc, fault.map(CivicError::code))
+}
+
+fn check_pattern(alloc: Global, text: &str) -> Result<String, Trouble> {
+    let pairs = text_pairs(alloc, text, ';')?;
+    let fault = CivicPattern::check(pairs.as_slice()).err();
+    checked(alloc, fault.map(CivicError::code))
+}
+
+fn same_addresses(alloc: Global, text: &str, other: &str) -> Result<String, Trouble> {
+    let one = address(alloc, text)?;
+    owned(alloc, compared(&one, &address(alloc, other)?))
+}
+
+fn same_patterns(alloc: Global, text: &str, other: &str) -> Result<String, Trouble> {
+    let one = pattern(alloc, text)?;
+    owned(alloc, yes_or_no(one == pattern(alloc, other)?))
+}
+
+fn matches(alloc: Global, text: &str, address_text: &str) -> Result<String, Trouble> {
+    let pattern = pattern(alloc, text)?;
+    owned(
+        alloc,
+        yes_or_no(pattern.matches(&address(alloc, address_text)?)),
+    )
+}
+
+/// The address that pairs make.
+pub(crate) fn address(alloc: Global, text: &str) -> Result<CivicAddress, Trouble> {
+    match CivicAddress::from_pairs(alloc, text_pairs(alloc, text, ';')?) {
+        Ok(address) => Ok(address),
+        Err(CivicError::Memory) => Err(Trouble::Memory),
+        Err(_) => Err(Trouble::NoCase),
+    }
+}
+
+/// The pattern that pairs make.
+fn pattern(alloc: Global, text: &str) -> Result<CivicPattern, Trouble> {
+    match CivicPattern::from_pairs(alloc, text_pairs(alloc, text, ';')?) {
+        Ok(pattern) => Ok(pattern),
+        Err(CivicError::Memory) => Err(Trouble::Memory),
+        Err(_) => Err(Trouble::NoCase),
+    }
+}
+
+/// The names of all elements that stand at their index, each behind a space.
+fn elements(alloc: Global) -> Result<String, Trouble> {
+    let mut text = String::new(alloc);
+    for (position, element) in Element::ALL.iter().enumerate() {
+        if element.index() == position {
+            text.push_str(" ")?;
+            text.push_str(element.name())?;
+        }
+    }
+    Ok(text)
+}
+
+fn by_name(alloc: Global, name: &str) -> Result<String, Trouble> {
+    match Element::by_name(name) {
+        Some(element) => {
+            let (index, name) = (element.index(), element.name());
+            Ok(format!(in alloc; "{index} {name}")?)
+        }
+        None => owned(alloc, "none"),
+    }
+}
+
+fn element(name: &str) -> Result<Element, Trouble> {
+    Element::by_name(name).ok_or(Trouble::NoCase)
+}
+
+/// How one element compares with another.
+fn order(one: Element, other: Element) -> &'static str {
+    match compared(&one, &other) {
+        "same" => "same",
+        "other" if one < other => "before",
+        "other" if other < one => "after",
+        _ => "at odds",
+    }
+}
+
+/// The pairs of a copy of an address, and its comparison texts.
+fn new_address(alloc: Global, text: &str) -> Result<String, Trouble> {
+    match CivicAddress::from_pairs(alloc, text_pairs(alloc, text, ';')?) {
+        Ok(address) => shown_address(alloc, &address),
+        Err(CivicError::Memory) => Err(Trouble::Memory),
+        Err(refusal) => refused(alloc, refusal.code()),
+    }
+}
+
+fn shown_address(alloc: Global, address: &CivicAddress) -> Result<String, Trouble> {
+    let copy = address.clone()?;
+    let mut said = owned(alloc, compared(&copy, address))?;
+    said.push_str(" ")?;
+    push_pairs(&mut said, copy.pairs())?;
+    said.push_str(" as ")?;
+    for element in Element::ALL {
+        push_text(&mut said, element, copy.text(element))?;
+    }
+    Ok(said)
+}
+
+/// The pairs of a copy of a pattern, and its comparison texts.
+fn new_pattern(alloc: Global, text: &str) -> Result<String, Trouble> {
+    match CivicPattern::from_pairs(alloc, text_pairs(alloc, text, ';')?) {
+        Ok(pattern) => shown_pattern(alloc, &pattern),
+        Err(CivicError::Memory) => Err(Trouble::Memory),
+        Err(refusal) => refused(alloc, refusal.code()),
+    }
+}
+
+fn shown_pattern(alloc: Global, pattern: &CivicPattern) -> Result<String, Trouble> {
+    let copy = pattern.clone()?;
+    let mut said = owned(alloc, if copy == *pattern { "same " } else { "other " })?;
+    push_pairs(&mut said, copy.pairs())?;
+    said.push_str(" as ")?;
+    for element in Element::ALL {
+        push_text(&mut said, element, copy.text(element))?;
+    }
+    Ok(said)
+}
+
+/// Appends an element's comparison text, where it has one.
+fn push_text(said: &mut String, element: Element, text: Option<&str>) -> Result<(), Trouble> {
+    if let Some(text) = text {
+        said.push_str(element.name())?;
+        said.push_str("=")?;
+        said.push_str(text)?;
+        said.push_str(";")?;
+    }
+    Ok(())
+}

@@ -1,0 +1,52 @@
+//! The fields of a case: the texts between its bars, without the spaces around them.
+use super::spelling::spelled;
+use super::trouble::Trouble;
+use std::alloc::Global;
+
+/// The fields of a case as they are spelled, the call first.
+#[derive(Drop)]
+pub(crate) struct Fields {
+    fields: Vec<Vec<u8>>,
+}
+
+impl Fields {
+    /// The fields of a line.
+    pub(crate) fn read(alloc: Global, line: &str) -> Result<Fields, Trouble> {
+        let mut fields = Vec::new(alloc);
+        for field in line.split('|') {
+            fields.push(spelled(alloc, field.trim())?)?;
+        }
+        Ok(Fields { fields })
+    }
+
+    /// The wanted result: the last field.
+    pub(crate) fn wanted(&self) -> Result<&[u8], Trouble> {
+        match self.fields.last() {
+            Some(field) => Ok(field.as_slice()),
+            None => Err(Trouble::NoCase),
+        }
+    }
+
+    /// The field at a position, from 0, where the call stands.
+    pub(crate) fn bytes(&self, position: usize) -> Result<&[u8], Trouble> {
+        match self.fields.get(position) {
+            Some(field) => Ok(field.as_slice()),
+            None => Err(Trouble::NoCase),
+        }
+    }
+
+    /// The field at a position as text.
+    pub(crate) fn text(&self, position: usize) -> Result<&str, Trouble> {
+        str::from_utf8(self.bytes(position)?).map_err(|_| Trouble::NoCase)
+    }
+
+    /// The field at a position as a number.
+    pub(crate) fn number(&self, position: usize) -> Result<i64, Trouble> {
+        self.text(position)?.parse().map_err(|_| Trouble::NoCase)
+    }
+
+    /// The field at a position as a number that is not negative.
+    pub(crate) fn count(&self, position: usize) -> Result<u64, Trouble> {
+        self.text(position)?.parse().map_err(|_| Trouble::NoCase)
+    }
+}

@@ -1,0 +1,137 @@
+//! Calls of lost_profile: tokens, sets of them, and the profile of tokens.
+use super::fields::Fields;
+use super::trouble::Trouble;
+use super::words::{MARK, compared, copy_of, owned, refused, texts, yes_or_no};
+use lost_profile::{Profile, Token, TokenError, TokenSet, Tokens, is_id, is_token_set};
+use lost_spec::Coded;
+use std::alloc::Global;
+use std::cmp::Ordering;
+
+/// What a call gives.
+pub(crate) fn said(alloc: Global, call: &str, fields: &Fields) -> Result<String, Trouble> {
+    match call {
+        "token parse" => parse(alloc, fields.bytes(1)?),
+        "token id" => owned(alloc, yes_or_no(is_id(fields.text(1)?))),
+        "token order" => two_tokens(alloc, fields.bytes(1)?, fields.bytes(2)?),
+        "token set" => new_set(alloc, fields.text(1)?),
+        "token texts" => read_set(alloc, fields.text(1)?),
+        "token same sets" => same_sets(alloc, fields.text(1)?, fields.text(2)?),
+        "token contains" => contains(alloc, fields.text(1)?, fields.bytes(2)?),
+        "token cover" => shown_tokens(alloc, &Tokens::cover(alloc, &set(alloc, fields.text(1)?)?)?),
+        "token probes" => shown_tokens(
+            alloc,
+            &Tokens::probes(alloc, &token(alloc, fields.bytes(1)?)?)?,
+        ),
+        "token profile" => profile(alloc),
+        _ => Err(Trouble::NoCase),
+    }
+}
+
+/// The text of a copy of a copy, by the method and by the trait.
+fn parse(alloc: Global, text: &[u8]) -> Result<String, Trouble> {
+    match Token::parse(text) {
+        Ok(token) => {
+            let copy = copy_of(&token.clone()?)?;
+            let (text, same) = (copy.text(), compared(&copy, &token));
+            Ok(format!(in alloc; "{text} {same}")?)
+        }
+        Err(TokenError::Memory) => Err(Trouble::Memory),
+        Err(refusal) => refused(alloc, refusal.code()),
+    }
+}
+
+/// The token of a text that is one.
+pub(crate) fn token(alloc: Global, text: &[u8]) -> Result<Token, Trouble> {
+    match Token::parse(text) {
+        Ok(token) => Ok(token),
+        Err(TokenError::Memory) => Err(Trouble::Memory),
+        Err(TokenError::Bad) => Err(Trouble::NoCase),
+    }
+}
+
+fn two_tokens(alloc: Global, text: &[u8], other: &[u8]) -> Result<String, Trouble> {
+    let one = token(alloc, text)?;
+    owned(alloc, order(&one, &token(alloc, other)?))
+}
+
+/// How one token lies to another by each way of comparing.
+fn order(one: &Token, other: &Token) -> &'static str {
+    let same = compared(one, other);
+    let order = one.cmp(other);
+    if one.partial_cmp(other) != Some(order) {
+        return "at odds";
+    }
+    match order {
+        Ordering::Less if one < other && same == "other" => "before",
+        Ordering::Equal if same == "same" => "same",
+        Ordering::Greater if one > other && same == "other" => "after",
+        _ => "at odds",
+    }
+}
+
+/// The tokens of a field with a comma between each two; none of an empty one.
+fn tokens(alloc: Global, text: &str) -> Result<Vec<Token>, Trouble> {
+    let mut tokens = Vec::new(alloc);
+    for text in &texts(alloc, text)? {
+        tokens.push(token(alloc, text.as_bytes())?)?;
+    }
+    Ok(tokens)
+}
+
+/// The tokens of a copy of a set.
+fn new_set(alloc: Global, text: &str) -> Result<String, Trouble> {
+    match TokenSet::new(alloc, tokens(alloc, text)?) {
+        Ok(set) => shown_tokens(alloc, set.clone()?.tokens()),
+        Err(TokenError::Memory) => Err(Trouble::Memory),
+        Err(refusal) => refused(alloc, refusal.code()),
+    }
+}
+
+/// The tokens of the set that texts are, if the check of the texts says the same.
+fn read_set(alloc: Global, text: &str) -> Result<String, Trouble> {
+    let texts = texts(alloc, text)?;
+    let is_set = is_token_set(texts.as_slice());
+    match TokenSet::parse(alloc, texts.as_slice()) {
+        Ok(set) if is_set => shown_tokens(alloc, set.tokens()),
+        Err(TokenError::Memory) => Err(Trouble::Memory),
+        Err(refusal) if !is_set => refused(alloc, refusal.code()),
+        _ => owned(alloc, "at odds with the check"),
+    }
+}
+
+/// The set of tokens that are one.
+fn set(alloc: Global, text: &str) -> Result<TokenSet, Trouble> {
+    match TokenSet::new(alloc, tokens(alloc, text)?) {
+        Ok(set) => Ok(set),
+        Err(TokenError::Memory) => Err(Trouble::Memory),
+        Err(TokenError::Bad) => Err(Trouble::NoCase),
+    }
+}
+
+fn same_sets(alloc: Global, text: &str, other: &str) -> Result<String, Trouble> {
+    let one = set(alloc, text)?;
+    owned(alloc, yes_or_no(one == set(alloc, other)?))
+}
+
+fn contains(alloc: Global, text: &str, location: &[u8]) -> Result<String, Trouble> {
+    let (region, location) = (set(alloc, text)?, token(alloc, location)?);
+    owned(alloc, yes_or_no(Tokens::contains(&region, &location)))
+}
+
+/// The tokens with a comma between each two.
+pub(crate) fn shown_tokens(alloc: Global, tokens: &[Token]) -> Result<String, Trouble> {
+    let mut text = String::new(alloc);
+    for token in tokens {
+        if !text.is_empty() {
+            text.push(MARK)?;
+        }
+        text.push_str(token.text())?;
+    }
+    Ok(text)
+}
+
+/// The name of the profile, and the greatest number of keys of a cover.
+fn profile(alloc: Global) -> Result<String, Trouble> {
+    let (name, most) = (Tokens::NAME, Tokens::COVER_MAX);
+    Ok(format!(in alloc; "{name} {most}")?)
+}

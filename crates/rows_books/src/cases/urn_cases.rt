@@ -1,0 +1,99 @@
+//! Calls of lost_urn.
+ghost use Rattle.std.specs.Prelude.{◌≤◌, IfOk, length};
+
+use super::fields::Fields;
+use super::trouble::Trouble;
+use super::words::{checked, compared, copy_of, owned, refused, yes_or_no};
+use lost_spec::Coded;
+use lost_urn::{ServiceUrn, UrnError};
+use std::alloc::Global;
+use std::cmp::Ordering;
+
+/// The result of a call.
+pub(crate) fn said(alloc: Global, call: &str, fields: &Fields) -> Result<String, Trouble> {
+    let text = fields.bytes(1)?;
+    match call {
+        "urn parse" => parse(alloc, text),
+        "urn check" => checked(alloc, ServiceUrn::check(text).err().map(UrnError::code)),
+        "urn cut" => cut(alloc, &service(alloc, text)?, fields.count(2)?),
+        "urn front" => front(alloc, &service(alloc, text)?, fields.count(2)?),
+        "urn at or below" => at_or_below(alloc, text, fields.bytes(2)?),
+        "urn order" => two_services(alloc, text, fields.bytes(2)?),
+        _ => Err(Trouble::NoCase),
+    }
+}
+
+fn at_or_below(alloc: Global, text: &[u8], other: &[u8]) -> Result<String, Trouble> {
+    let one = service(alloc, text)?;
+    owned(
+        alloc,
+        yes_or_no(one.is_at_or_below(&service(alloc, other)?)),
+    )
+}
+
+fn two_services(alloc: Global, text: &[u8], other: &[u8]) -> Result<String, Trouble> {
+    let one = service(alloc, text)?;
+    owned(alloc, order(&one, &service(alloc, other)?))
+}
+
+/// The service that a text spells.
+pub(crate) fn service(alloc: Global, text: &[u8]) -> Result<ServiceUrn, Trouble> {
+    match ServiceUrn::parse(alloc, text) {
+        Ok(service) => Ok(service),
+        Err(UrnError::Memory) => Err(Trouble::Memory),
+        Err(_) => Err(Trouble::NoCase),
+    }
+}
+
+fn parse(alloc: Global, text: &[u8]) -> Result<String, Trouble> {
+    match ServiceUrn::parse(alloc, text) {
+        Ok(service) => shown(alloc, &service),
+        Err(UrnError::Memory) => Err(Trouble::Memory),
+        Err(refusal) => refused(alloc, refusal.code()),
+    }
+}
+
+/// The text and the depth of a copy of a copy, by the method and by the trait.
+fn shown(alloc: Global, service: &ServiceUrn) -> Result<String, Trouble> {
+    let copy = copy_of(&service.clone()?)?;
+    let same = compared(&copy, service);
+    let (text, depth) = (copy.text(), copy.depth());
+    Ok(format!(in alloc; "{text} {depth} {same}")?)
+}
+
+/// A number of labels: at least 1, and at most those of the service.
+fn some_labels(service: &ServiceUrn, labels: u64) -> Result<usize, Trouble>
+    ensures { IfOk result (λ n. (1 ≤ n) × (n ≤ length service.now)) }
+{
+    let labels = usize::try_from(labels).map_err(|_| Trouble::NoCase)?;
+    if labels < 1 || labels > service.depth() {
+        return Err(Trouble::NoCase);
+    }
+    Ok(labels)
+}
+
+fn front(alloc: Global, service: &ServiceUrn, labels: u64) -> Result<String, Trouble> {
+    owned(alloc, service.front(some_labels(service, labels)?))
+}
+
+fn cut(alloc: Global, service: &ServiceUrn, labels: u64) -> Result<String, Trouble> {
+    let labels = some_labels(service, labels)?;
+    let front = service.cut(labels)?;
+    let (text, depth) = (front.text(), front.depth());
+    Ok(format!(in alloc; "{text} {depth}")?)
+}
+
+/// How one service compares with another; `at odds` where two ways of comparing differ.
+fn order(one: &ServiceUrn, other: &ServiceUrn) -> &'static str {
+    let same = compared(one, other);
+    let order = one.cmp(other);
+    if one.partial_cmp(other) != Some(order) {
+        return "at odds";
+    }
+    match order {
+        Ordering::Less if one < other && same == "other" => "before",
+        Ordering::Equal if same == "same" => "same",
+        Ordering::Greater if one > other && same == "other" => "after",
+        _ => "at odds",
+    }
+}

@@ -1,0 +1,104 @@
+//! Words and lists in the fields of cases, and words for the results of calls.
+use super::trouble::Trouble;
+use std::alloc::Global;
+use std::hash::{DefaultHasher, Hash, Hasher};
+
+/// `passes`, or the number of a refusal.
+pub(crate) fn checked(alloc: Global, refusal: Option<u8>) -> Result<String, Trouble> {
+    match refusal {
+        Some(code) => refused(alloc, code),
+        None => owned(alloc, "passes"),
+    }
+}
+
+/// An owned copy of a text.
+pub(crate) fn owned(alloc: Global, text: &str) -> Result<String, Trouble> {
+    Ok(String::from_str(alloc, text)?)
+}
+
+/// The text of a refusal.
+pub(crate) fn refused(alloc: Global, code: u8) -> Result<String, Trouble> {
+    Ok(format!(in alloc; "refused {code}")?)
+}
+
+/// The text of an answer.
+pub(crate) fn yes_or_no(answer: bool) -> &'static str {
+    if answer { "yes" } else { "no" }
+}
+
+/// `same` for two values that are equal and have one hash, `other` for two that are not equal and have two.
+pub(crate) fn compared<T: PartialEq + Hash>(one: &T, other: &T) -> &'static str {
+    match (one == other, hash_of(one) == hash_of(other)) {
+        (true, true) => "same",
+        (false, false) => "other",
+        _ => "at odds",
+    }
+}
+
+/// A copy by the trait.
+pub(crate) fn copy_of<T: Clone>(value: &T) -> Result<T, Trouble> {
+    Ok(value.clone()?)
+}
+
+fn hash_of<T: Hash>(value: &T) -> u64 {
+    let mut state = DefaultHasher::new();
+    value.hash(&mut state);
+    state.finish()
+}
+
+/// Two numbers with a comma between them.
+pub(crate) fn number_pair(text: &str) -> Result<(i64, i64), Trouble> {
+    let (first, second) = text.split_once(',').ok_or(Trouble::NoCase)?;
+    let first = first.parse().map_err(|_| Trouble::NoCase)?;
+    let second = second.parse().map_err(|_| Trouble::NoCase)?;
+    Ok((first, second))
+}
+
+/// Pairs of numbers with white space between each two.
+pub(crate) fn number_pairs(alloc: Global, text: &str) -> Result<Vec<(i64, i64)>, Trouble> {
+    let mut pairs = Vec::new(alloc);
+    for pair in text.split_whitespace() {
+        pairs.push(number_pair(pair)?)?;
+    }
+    Ok(pairs)
+}
+
+/// Pairs `NAME=VALUE`, with this mark between each two or after each.
+pub(crate) fn text_pairs(
+    alloc: Global,
+    text: &str,
+    mark: char,
+) -> Result<Vec<(String, String)>, Trouble> {
+    let mut pairs = Vec::new(alloc);
+    for pair in text.split(mark) {
+        if let Some((name, value)) = pair.split_once('=') {
+            pairs.push((owned(alloc, name)?, owned(alloc, value)?))?;
+        }
+    }
+    Ok(pairs)
+}
+
+/// What stands between two texts of a list.
+pub(crate) const MARK: char = ',';
+
+/// The texts of a list; none of an empty one.
+pub(crate) fn texts(alloc: Global, text: &str) -> Result<Vec<String>, Trouble> {
+    let mut texts = Vec::new(alloc);
+    if !text.is_empty() {
+        for part in text.split(MARK) {
+            texts.push(owned(alloc, part)?)?;
+        }
+    }
+    Ok(texts)
+}
+
+/// Appends pairs, each as `NAME=VALUE;`.
+pub(crate) fn push_pairs(text: &mut String, pairs: &[(String, String)]) -> Result<(), Trouble> {
+    for pair in pairs {
+        text.push_str(pair.0.as_str())?;
+        text.push_str("=")?;
+        text.push_str(pair.1.as_str())?;
+        text.push_str(";")?;
+    }
+    Ok(())
+}

@@ -1,8 +1,0 @@
--- The three steps leave the part.
-use Rattle.lost_index.proofs.CutLemmas.{slice_range-turned}
-use Rattle.rows_index.proofs.tens.line.Line.cut.Goals as goal
-
-pub returns : goal.returns
-returns c =
-    rw (c.truncate-2.ensures.items, c.rotate_left.ensures.items, c.truncate.ensures.items, c.self.view_is)
-    (slice_range-turned c.args.self.now c.args.from c.args.to c.requires.in_order c.requires.within)

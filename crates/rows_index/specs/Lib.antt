@@ -1,2 +1,0 @@
-pub mod Tens
-pub mod TensLaws

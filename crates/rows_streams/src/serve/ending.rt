@@ -1,0 +1,83 @@
+//! A server that is told to end, as the program's never is.
+use lost_mapping::Source;
+use lost_server::{
+    ClientLimits, ConnectionSettings, Counts, Doors, Ready, ServerFault, ServerOrder, run_server,
+};
+use lost_sockets::Listener;
+use std::fs::Files;
+use std::io;
+use std::net::{Net, TcpListener, TcpStream};
+use std::random::RandomSource;
+use std::sync::Wait;
+use std::sync::atomic::{AtomicBool, Ordering};
+use std::thread::Threads;
+use std::time::Clock;
+
+/// Any free port of this machine.
+const ANY_PORT: &str = "127.0.0.1:0";
+
+/// Tells a server to end as soon as it is ready, and makes one more connection, at which it sees that.
+#[derive(Drop)]
+struct Ending<'a, R> {
+    rt: &'a R,
+    is_over: &'a AtomicBool,
+}
+
+impl<R: Net<Listener = TcpListener, Stream = TcpStream>> Ready for Ending<'_, R> {
+    fn begins(&self, _status: &Listener) {}
+
+    fn ready(&self, doors: &Doors) -> io::Result<()> {
+        self.is_over.store(true, Ordering::SeqCst);
+        if let Listener::Tcp(listener) = &doors.queries {
+            drop(TcpStream::connect(self.rt, listener.local_addr()?)?);
+        }
+        Ok(())
+    }
+}
+
+/// The counts of a server without a map that is told to end.
+pub(super) fn ended<
+    R: Net<Listener = TcpListener, Stream = TcpStream>
+        + Threads
+        + Wait
+        + Clock
+        + Eprint
+        + Input
+        + Files
+        + RandomSource
+        + Clone
+        + Send
+        + Sync
+        + AllocGlobal
+        + 'static,
+>(rt: &R, name: &Source) -> Result<Counts, ServerFault> {
+    let is_over = AtomicBool::new(false);
+    let order = ServerOrder {
+        name,
+        map: None,
+        keeps_going: false,
+        queries: ANY_PORT,
+        desk: Some(ANY_PORT),
+        status: None,
+        socket_mode: 0o600,
+        workers: 2,
+        connections: None,
+        settings: ConnectionSettings {
+            idle: None,
+            desk_idle: None,
+            is_quiet: false,
+        },
+        limits: ClientLimits {
+            line_time: None,
+            reply_time: None,
+            most_connections: 1_000,
+            per_address: None,
+        },
+        shows_progress: false,
+    };
+    let ending = Ending {
+        rt,
+        is_over: &is_over,
+    };
+    run_server(rt, &order, &ending, &is_over)
+}
