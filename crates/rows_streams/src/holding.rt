@@ -1,17 +1,13 @@
 //! Gates that hold lines back.
 use lost_worker::Gate;
 use std::time::Clock;
-use test_parts::{Answered, Meeting};
+use test_parts::Meeting;
 
 /// A gate that holds lines back.
 #[derive(Drop)]
 pub(crate) enum Holding<'a, R: Clock> {
     /// Refuses the line with this number, and all after it.
     From(u64),
-    /// Holds each line until another connection has answered one, and refuses it where none is in time.
-    Until(&'a Answered<'a, R>),
-    /// Lets each line through, and counts it once it is answered.
-    Counting(&'a Answered<'a, R>),
     /// Holds the first line of several connections until another was answered, and refuses it where none is in time.
     First(Meeting<'a, R>),
 }
@@ -24,16 +20,13 @@ impl<R: Clock> Gate for Holding<'_, R> {
     fn before_reply(&self, line: u64) -> bool {
         match self {
             Holding::From(refused) => line < *refused,
-            Holding::Until(answered) => answered.wait(),
-            Holding::Counting(_) => true,
             Holding::First(meeting) => meeting.come(),
         }
     }
 
     fn after_reply(&self, _line: u64) {
         match self {
-            Holding::From(_) | Holding::Until(_) => {}
-            Holding::Counting(answered) => answered.count(),
+            Holding::From(_) => {}
             Holding::First(meeting) => meeting.leave(),
         }
     }

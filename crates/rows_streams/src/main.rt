@@ -1,10 +1,9 @@
 //! Serves streams, and prints how each went. Each word of the command line is a command. The commands run in turn:
 //!
 //! - `streams`: the script `streams.lines`, over a desk and two readers that stay. `desk` serves a stream by the desk,
-//!   `queries` by a reader, `pair` by two readers in two threads, of which the first waits until the second has
-//!   answered, and `workers` by two workers whose first line waits until another was answered. `bursts NUMBER` serves
-//!   it in bursts, cut at every byte, by an output that takes so many bytes at a time, and `cut NUMBER` cut at one
-//!   place; `turns` has one worker serve two connections in turn while the desk commits.
+//!   `queries` by a reader, and `workers` by two workers whose first line waits until another was answered. `bursts
+//!   NUMBER` serves it in bursts, cut at every byte, by an output that takes so many bytes at a time, and `cut NUMBER`
+//!   cut at one place; `in turn` has one worker serve two connections in turn while the desk commits.
 //! - `hostile`: the script `hostile.lines`, over readers and writers that fail. A command that begins with `replay`,
 //!   `desk` or `queries` has a stream served by a replay, by a desk or by a reader of a desk: `whole`; `bytes`, a byte
 //!   at a time; `reads NUMBER`, in pieces of so many bytes, once for each read, which fails; `writes`, once for each
@@ -36,7 +35,6 @@ mod lengths;
 mod lines;
 mod noting;
 mod orders;
-mod pair;
 mod plan;
 mod serve;
 mod sipping;

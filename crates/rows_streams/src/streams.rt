@@ -3,7 +3,6 @@ use crate::always::moments_of;
 use crate::bursts::{cut_everywhere, cut_once};
 use crate::holding::Holding;
 use crate::in_turn::take_turns;
-use crate::pair::serve_pair;
 use crate::stream::{Stream, no_command};
 use crate::telling::tell;
 use crate::workers::serve_two;
@@ -80,7 +79,6 @@ fn serve<R: Threads + Wait + Clock + Sync + Print + AllocGlobal>(
     match command {
         "desk" => serve_by_desk(rt, bench.desk, stream),
         "queries" => serve_queries(rt, bench.first, setting, stream),
-        "pair" => serve_pair(rt, bench.first, bench.second, setting, stream),
         "workers" => serve_two(rt, bench.first, bench.second, setting, stream),
         "in turn" => take_turns(rt, bench.desk, bench.first, setting),
         _ => serve_in_bursts(rt, bench, stream, command),

@@ -3,20 +3,20 @@
 //! calls, and fail at a given call; the limits of desks, a diary of such calls, and waits between two threads.
 #![tactic(auto)]
 
-mod answered;
 mod commands;
 mod desk_limits;
 mod diary;
 mod feed;
+mod meeting;
 mod setting;
 mod sink;
 mod spaces;
 
-pub use answered::{Answered, Meeting};
 pub use commands::{End, given};
 pub use desk_limits::{limits, limits_of};
 pub use diary::{Diary, Event, Noted};
 pub use feed::Feed;
+pub use meeting::Meeting;
 pub use setting::Setting;
 pub use sink::Sink;
 pub use spaces::Spaces;
