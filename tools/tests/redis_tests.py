@@ -13,8 +13,9 @@ import sys
 import tempfile
 import threading
 import unittest
-from typing import Callable, List, Tuple
+from typing import Callable, Tuple
 
+from tests import measuring
 from tests.running import TOP
 
 CHECKS = f"{TOP}/checks"
@@ -46,21 +47,11 @@ def serve(listener: socket.socket, spoil: Callable[[int, bytes], bytes]) -> None
         threading.Thread(target=answer, args=(peer, spoil), daemon=True).start()
 
 
-class Redis(unittest.TestCase):
+class Redis(measuring.Refusing):
     """Runs it where it measures nothing."""
 
-    def run_check(self, *words: str, front: Tuple[str, ...] = ()) -> Tuple[int, List[str]]:
-        ran = subprocess.run([*front, f"{CHECKS}/redis/run", *words], capture_output=True, text=True, timeout=60)
-        return ran.returncode, ran.stderr.splitlines()
-
-    def test_mistakes(self) -> None:
-        for words in (["--rounds", "0"], ["--mappings", "2"], ["--seconds", "x"], ["--only", "all"], ["more"]):
-            status, said = self.run_check(*words)
-            self.assertEqual((status, len(said)), (2, 1), said)
-
-    def test_no_program(self) -> None:
-        status, said = self.run_check("--lostd", f"{TOP}/README.md")
-        self.assertEqual((status, len(said)), (1, 1), said)
+    check = "redis/run"
+    mistakes = (["--rounds", "0"], ["--mappings", "2"], ["--seconds", "x"], ["--only", "all"], ["more"])
 
     @unittest.skipUnless(shutil.which("taskset"), "there is no taskset")
     def test_one_core(self) -> None:

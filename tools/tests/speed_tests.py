@@ -13,6 +13,7 @@ import time
 import unittest
 from typing import List, Tuple
 
+from tests import measuring
 from tests.running import TOP, has_serve, lostd
 
 CHECK = f"{TOP}/checks/speed"
@@ -36,21 +37,11 @@ def serve(listener: socket.socket) -> None:
             peer.sendall(b"line %d\n" % number)
 
 
-class Speed(unittest.TestCase):
+class Speed(measuring.Refusing):
     """Runs it where it measures nothing."""
 
-    def run_check(self, *words: str, front: Tuple[str, ...] = ()) -> Tuple[int, List[str]]:
-        ran = subprocess.run([*front, f"{CHECK}/run", *words], capture_output=True, text=True, timeout=60)
-        return ran.returncode, ran.stderr.splitlines()
-
-    def test_mistakes(self) -> None:
-        for words in (["--rounds", "0"], ["--sizes", "3"], ["--sizes", "30,x"], ["--edits", "2000"], ["--seconds", "x"], ["--only", "all"], ["more"]):
-            status, said = self.run_check(*words)
-            self.assertEqual((status, len(said)), (2, 1), said)
-
-    def test_no_program(self) -> None:
-        status, said = self.run_check("--lostd", f"{TOP}/README.md")
-        self.assertEqual((status, len(said)), (1, 1), said)
+    check = "speed/run"
+    mistakes = (["--rounds", "0"], ["--sizes", "3"], ["--sizes", "30,x"], ["--edits", "2000"], ["--seconds", "x"], ["--only", "all"], ["more"])
 
     @unittest.skipUnless(shutil.which("taskset"), "there is no taskset")
     def test_one_core(self) -> None:
