@@ -1,6 +1,13 @@
 -- The lines of Prometheus' text format, version 0.0.4.
 use Rattle.std.specs.Prelude.{ℕ, [], ◌∷◌, ◌++◌, codes, decimal}
 use Rattle.lost_spec.specs.Text.{Text}
+use Rattle.lost_status.specs.declared.exposition.MetricType.{MetricType}
+use Rattle.lost_status.specs.declared.exposition.MetricType.TheVariants.{Counter, Gauge}
+
+-- the name of a type of metrics
+abbrev pub type_name : MetricType → Text
+type_name Counter = codes "counter"
+type_name Gauge = codes "gauge"
 
 -- what a metric is for, and of which type it is
 abbrev pub description : (name kind help : Text) → Text

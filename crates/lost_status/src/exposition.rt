@@ -1,32 +1,58 @@
 //! The lines of Prometheus' text format, version 0.0.4.
-ghost use Rattle.std.specs.Prelude.{◌≡◌, ◌++◌, OnOk, codes, string_bytes};
-ghost use Rattle.lost_status.specs.Exposition.{description, sample};
+ghost use Rattle.std.specs.Prelude.{◌≡◌, ◌++◌, OnOk, string_bytes};
+ghost use Rattle.lost_status.specs.Exposition.{description, sample, type_name};
 
 use std::alloc::AllocError;
 use std::fmt::Write;
 
-/// Writes the help text and the type of a counter.
-pub(crate) fn describe_counter(text: &mut String, name: &str, help: &str) -> Result<(), AllocError>
-    ensures { OnOk result (string_bytes text.new
-        ≡ string_bytes text.old ++ description name.now (codes "counter") help.now) }
-{
-    describe(text, name, "counter", help)
+/// The type of a metric.
+#[derive(Clone, Copy, PartialEq, Eq, Debug)]
+pub(crate) enum MetricType {
+    /// A number that never falls.
+    Counter,
+    /// A number that rises and falls.
+    Gauge,
 }
 
-/// Writes the help text and the type of a gauge.
-pub(crate) fn describe_gauge(text: &mut String, name: &str, help: &str) -> Result<(), AllocError>
-    ensures { OnOk result (string_bytes text.new
-        ≡ string_bytes text.old ++ description name.now (codes "gauge") help.now) }
-{
-    describe(text, name, "gauge", help)
+impl MetricType {
+    /// The name of the type.
+    fn name(self) -> &'static str
+        ensures { result.now ≡ type_name self }
+    {
+        match self {
+            MetricType::Counter => "counter",
+            MetricType::Gauge => "gauge",
+        }
+    }
 }
 
 /// Writes the help text and the type of a metric.
-fn describe(text: &mut String, name: &str, kind: &str, help: &str) -> Result<(), AllocError>
+pub(crate) fn describe(
+    text: &mut String,
+    kind: MetricType,
+    name: &str,
+    help: &str,
+) -> Result<(), AllocError>
     ensures { OnOk result (string_bytes text.new
-        ≡ string_bytes text.old ++ description name.now kind.now help.now) }
+        ≡ string_bytes text.old ++ description name.now (type_name kind) help.now) }
 {
+    let kind = kind.name();
     write!(text, "# HELP {name} {help}\n# TYPE {name} {kind}\n")
+}
+
+/// Writes a metric without labels: its help text, its type and its value.
+pub(crate) fn write_metric(
+    text: &mut String,
+    kind: MetricType,
+    name: &str,
+    help: &str,
+    value: u64,
+) -> Result<(), AllocError>
+    ensures { OnOk result (string_bytes text.new
+        ≡ string_bytes text.old ++ description name.now (type_name kind) help.now ++ sample name.now value) }
+{
+    describe(text, kind, name, help)?;
+    write_sample(text, name, value)
 }
 
 /// Writes the value of a metric without labels.
@@ -34,32 +60,4 @@ fn write_sample(text: &mut String, name: &str, value: u64) -> Result<(), AllocEr
     ensures { OnOk result (string_bytes text.new ≡ string_bytes text.old ++ sample name.now value) }
 {
     write!(text, "{name} {value}\n")
-}
-
-/// Writes a counter.
-pub(crate) fn write_counter(
-    text: &mut String,
-    name: &str,
-    help: &str,
-    value: u64,
-) -> Result<(), AllocError>
-    ensures { OnOk result (string_bytes text.new
-        ≡ string_bytes text.old ++ description name.now (codes "counter") help.now ++ sample name.now value) }
-{
-    describe_counter(text, name, help)?;
-    write_sample(text, name, value)
-}
-
-/// Writes a gauge.
-pub(crate) fn write_gauge(
-    text: &mut String,
-    name: &str,
-    help: &str,
-    value: u64,
-) -> Result<(), AllocError>
-    ensures { OnOk result (string_bytes text.new
-        ≡ string_bytes text.old ++ description name.now (codes "gauge") help.now ++ sample name.now value) }
-{
-    describe_gauge(text, name, help)?;
-    write_sample(text, name, value)
 }

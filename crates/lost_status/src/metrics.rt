@@ -5,7 +5,8 @@ ghost use Rattle.lost_status.specs.Exposition.{counted, label, labelled};
 
 use crate::connection_counts::Connections;
 use crate::desk_state::{CODES, DeskNow, LAST_CODE};
-use crate::exposition::{describe_counter, describe_gauge, write_counter, write_gauge};
+use crate::exposition::MetricType::{Counter, Gauge};
+use crate::exposition::{describe, write_metric};
 use crate::reply_kind::{KINDS, ReplyKind};
 use crate::snapshot::Snapshot;
 use crate::status::VERSION;
@@ -30,20 +31,23 @@ pub(crate) fn metrics_text(alloc: Global, now: &Snapshot) -> Result<String, Allo
 
 /// Writes the version and the uptime.
 fn write_server(text: &mut String, now: &Snapshot) -> Result<(), AllocError> {
-    describe_gauge(
+    describe(
         text,
+        Gauge,
         "lostd_build_info",
         "The version of the program, as a label; the value is 1.",
     )?;
     write!(text, "lostd_build_info{{version=\"{VERSION}\"}} 1\n")?;
-    write_gauge(
+    write_metric(
         text,
+        Gauge,
         "lostd_ready",
         "Whether the server answers from its map: 1 once it does, 0 before.",
         u64::from(now.is_ready),
     )?;
-    write_gauge(
+    write_metric(
         text,
+        Gauge,
         "lostd_uptime_seconds",
         "For how long the server has run, in seconds.",
         now.uptime,
@@ -52,32 +56,37 @@ fn write_server(text: &mut String, now: &Snapshot) -> Result<(), AllocError> {
 
 /// Writes what the desk holds, and when it last committed.
 fn write_desk(text: &mut String, desk: &DeskNow) -> Result<(), AllocError> {
-    write_gauge(
+    write_metric(
         text,
+        Gauge,
         "lostd_edition",
         "The edition that is published: how many edits were accepted in all.",
         desk.edition,
     )?;
-    write_gauge(
+    write_metric(
         text,
+        Gauge,
         "lostd_mappings",
         "How many mappings are held.",
         desk.mappings,
     )?;
-    write_gauge(
+    write_metric(
         text,
+        Gauge,
         "lostd_pending",
         "How many edits are staged and not committed.",
         desk.pending,
     )?;
-    write_gauge(
+    write_metric(
         text,
+        Gauge,
         "lostd_last_commit_timestamp_seconds",
         "When the desk last committed, in seconds since 1970; 0 before its first commit.",
         desk.last_commit,
     )?;
-    write_gauge(
+    write_metric(
         text,
+        Gauge,
         "lostd_desk_connected",
         "Whether a desk is connected: 1 or 0.",
         u64::from(desk.is_open),
@@ -86,8 +95,9 @@ fn write_desk(text: &mut String, desk: &DeskNow) -> Result<(), AllocError> {
 
 /// Writes the number of replies by kind.
 fn write_replies(text: &mut String, replies: &[u64; KINDS]) -> Result<(), AllocError> {
-    describe_counter(
+    describe(
         text,
+        Counter,
         "lostd_replies_total",
         "Replies to request lines, by kind; each error is a kind of its own.",
     )?;
@@ -107,8 +117,9 @@ fn write_kind(text: &mut String, name: &str, count: u64) -> Result<(), AllocErro
 
 /// Writes the number of refused desk lines by code.
 fn write_refusals(text: &mut String, refusals: &[u64; CODES]) -> Result<(), AllocError> {
-    describe_counter(
+    describe(
         text,
+        Counter,
         "lostd_refusals_total",
         "Lines of the desk that were refused, by code.",
     )?;
@@ -134,32 +145,37 @@ fn write_code(text: &mut String, code: u8, count: u64) -> Result<(), AllocError>
 
 /// Writes the counts of query connections.
 fn write_connections(text: &mut String, connections: &Connections) -> Result<(), AllocError> {
-    write_counter(
+    write_metric(
         text,
+        Counter,
         "lostd_connections_total",
         "Query connections that were accepted.",
         connections.accepted,
     )?;
-    write_gauge(
+    write_metric(
         text,
+        Gauge,
         "lostd_connections_open",
         "Query connections that have not ended, those that wait included.",
         connections.open,
     )?;
-    write_gauge(
+    write_metric(
         text,
+        Gauge,
         "lostd_connections_waiting",
         "Query connections that wait for a worker.",
         connections.waiting,
     )?;
-    write_counter(
+    write_metric(
         text,
+        Counter,
         "lostd_faults_total",
         "Query connections that ended in a fault.",
         connections.faults,
     )?;
-    write_counter(
+    write_metric(
         text,
+        Counter,
         "lostd_connections_refused_total",
         "Query connections that were closed at once, past a limit.",
         connections.refused,
@@ -168,20 +184,23 @@ fn write_connections(text: &mut String, connections: &Connections) -> Result<(),
 
 /// Writes the counts of workers, and what they are doing.
 fn write_workers(text: &mut String, now: &Snapshot) -> Result<(), AllocError> {
-    write_gauge(
+    write_metric(
         text,
+        Gauge,
         "lostd_workers",
         "How many workers there are.",
         now.workers,
     )?;
-    write_gauge(
+    write_metric(
         text,
+        Gauge,
         "lostd_workers_busy",
         "How many workers serve a connection.",
         now.busy,
     )?;
-    write_counter(
+    write_metric(
         text,
+        Counter,
         "lostd_cache_hits_total",
         "How often a worker found the place of a request in its cache.",
         now.cache_hits,
