@@ -10,7 +10,7 @@ use Rattle.lost_lines.specs.Cutting.{newline, line_limit, with_byte, cut, ended_
 use Rattle.lost_lines.specs.Run.{Cut, Whole, TooLong, Unread, IsCut, Reply, Run, text_of}
 use Rattle.lost_lines.proofs.CuttingLemmas.{cut-join, cut-line, cut-piece, lines_of-cut}
 use Rattle.lost_lines.specs.declared.counts.Counts.{Counts}
-use Rattle.lost_lines.specs.Stream.{IsServed, IsCutOff}
+use Rattle.lost_lines.specs.Stream.{IsServed, IsCutOff, AppendsFront}
 use Rattle.lost_worker.specs.Lines.{Worker, Answers}
 use Rattle.lost_connections.specs.Steady.{IsBegun, AnswersAll, AnswersFront}
 
@@ -136,21 +136,18 @@ tail_of (l ∷ ls) = ls
 
 -- the same of a front of the lines
 front_long : (name : Text) (old new : Worker) (l m : Text) (ms : List Text) (unsent more : Text) → is_long l ≡ true → is_long m ≡ true → (lines others : List Text) (replies : List Reply)
-    → l ∷ ms ≡ lines ++ others → Run (Answers name) old lines replies new → (front rest : Text) → text_of replies ≡ front ++ rest → more ≡ unsent ++ front
+    → l ∷ ms ≡ lines ++ others → Run (Answers name) old lines replies new → AppendsFront (Some unsent) (Some more) (text_of replies)
     → AnswersFront name old new (m ∷ ms) unsent more
 unfolding head_of tail_of
-front_long name old new l m ms unsent more p q [] others replies begins run front rest texts after = record {
+front_long name old new l m ms unsent more p q [] others replies begins run after = record {
   lines = [];
   others = m ∷ ms;
   begins = refl;
   replies = replies;
   run = run;
-  front = front;
-  rest = rest;
-  texts = texts;
   behind = after;
 }
-front_long name old new l m ms unsent more p q (x ∷ xs) others replies begins run front rest texts after =
+front_long name old new l m ms unsent more p q (x ∷ xs) others replies begins run after =
     let first : l ≡ x = ap head_of begins in
     let later : ms ≡ xs ++ others = ap tail_of begins in
     record {
@@ -159,9 +156,6 @@ front_long name old new l m ms unsent more p q (x ∷ xs) others replies begins 
       begins = ap (λ (ls : List Text). m ∷ ls) later;
       replies = replies;
       run = run_other_line name old new l m xs replies p q (subst (λ (y : Text). Run (Answers name) old (y ∷ xs) replies new) (sym first) run);
-      front = front;
-      rest = rest;
-      texts = texts;
       behind = after;
     }
 
@@ -173,7 +167,7 @@ front_whole name old new kept piece g unsent more begun answers = ⊎_elim
     let on = first_goes_on g in
     subst (λ (ls : List Text). AnswersFront name old new ls unsent more) (sym (on.lines piece begun.is_open long.some_piece))
     (front_long name old new (kept ++ on.first) (piece ++ on.first) on.others unsent more (long.kept_long on.first) (long.piece_long on.first) answers.lines answers.others answers.replies
-    (sym (on.lines kept long.unbroken long.some) ∙ answers.begins) answers.run answers.front answers.rest answers.texts answers.behind))
+    (sym (on.lines kept long.unbroken long.some) ∙ answers.begins) answers.run answers.behind))
     (same_or_long kept piece begun)
 
 -- a front of no lines
@@ -184,10 +178,7 @@ front_none name worker all unsent = record {
   begins = refl;
   replies = [];
   run = refl;
-  front = [];
-  rest = [];
-  texts = refl;
-  behind = sym (append-nil unsent);
+  behind = ([], [], refl, sym (append-nil unsent));
 }
 
 -- lines that were answered are a front of more
@@ -198,10 +189,7 @@ front_of_more name old new all others unsent more answers = record {
   begins = refl;
   replies = answers.replies;
   run = answers.run;
-  front = text_of answers.replies;
-  rest = [];
-  texts = sym (append-nil (text_of answers.replies));
-  behind = answers.behind;
+  behind = (text_of answers.replies, [], sym (append-nil (text_of answers.replies)), answers.behind);
 }
 
 pub front_more : (name : Text) (old new : Worker) (all others : List Text) (unsent more : Text) → AnswersFront name old new all unsent more → AnswersFront name old new (all ++ others) unsent more
@@ -211,9 +199,6 @@ front_more name old new all others unsent more answers = record {
   begins = ap (λ (ls : List Text). ls ++ others) answers.begins ∙ append_assoc answers.lines answers.others others;
   replies = answers.replies;
   run = answers.run;
-  front = answers.front;
-  rest = answers.rest;
-  texts = answers.texts;
   behind = answers.behind;
 }
 
@@ -234,10 +219,7 @@ front_from_cut_off says name old new text unsent more s = record {
   begins = s.read.1;
   replies = s.replies;
   run = s.run;
-  front = s.written.0;
-  rest = s.written.1;
-  texts = s.written.2;
-  behind = s.written.3;
+  behind = s.written;
 }
 
 -- ---- the last byte 10 of bytes

@@ -28,15 +28,9 @@ goes_on name one later new (line ∷ lines) (reply ∷ replies) seen (cut, next,
 pub burst_is_stream : BurstIsStream
 burst_is_stream name old new a b steady piece begun =
     let s = steady piece begun in
-    let on = goes_on name old old new s.lines s.answers.replies (HasSeenMore-none old.reader old.reader refl) s.answers.run in
+    let on = goes_on name old old new s.came.lines s.answers.replies (HasSeenMore-none old.reader old.reader refl) s.answers.run in
     record {
-      bytes = s.bytes;
-      read = s.read;
-      none_after_end = s.none_after_end;
-      lines = s.lines;
-      rest = s.rest;
-      splits = s.splits;
-      begun = s.begun;
+      came = s.came;
       replies = s.answers.replies;
       last = on.last;
       run = on.run;
@@ -66,22 +60,24 @@ splits_joined true true piece bytes more ls ms p q end first second =
 pub bursts_are_stream : BurstsAreStream
 bursts_are_stream name old one later new a b c stream seen steady piece begun =
     let s = stream piece begun in
-    let t = steady s.rest s.begun in
-    let on = goes_on name s.last later new t.lines t.answers.replies (HasSeenMore-trans s.last.reader one.reader later.reader s.grown seen) t.answers.run in
+    let t = steady s.came.rest s.came.begun in
+    let on = goes_on name s.last later new t.came.lines t.answers.replies (HasSeenMore-trans s.last.reader one.reader later.reader s.grown seen) t.answers.run in
     record {
-      bytes = s.bytes ++ t.bytes;
-      read = Consumes-trans a.unread b.unread c.unread s.bytes t.bytes s.read t.read;
-      none_after_end = λ ended.
-          let first = s.none_after_end ended in
-          let second = t.none_after_end first.1 in
-          (ap (λ (x : Text). x ++ t.bytes) first.0 ∙ second.0, second.1);
-      lines = s.lines ++ t.lines;
-      rest = t.rest;
-      splits = splits_joined b.ended c.ended piece s.bytes t.bytes s.lines t.lines s.rest t.rest t.none_after_end s.splits t.splits;
-      begun = t.begun;
+      came = record {
+        bytes = s.came.bytes ++ t.came.bytes;
+        read = Consumes-trans a.unread b.unread c.unread s.came.bytes t.came.bytes s.came.read t.came.read;
+        none_after_end = λ ended.
+            let first = s.came.none_after_end ended in
+            let second = t.came.none_after_end first.1 in
+            (ap (λ (x : Text). x ++ t.came.bytes) first.0 ∙ second.0, second.1);
+        lines = s.came.lines ++ t.came.lines;
+        rest = t.came.rest;
+        splits = splits_joined b.ended c.ended piece s.came.bytes t.came.bytes s.came.lines t.came.lines s.came.rest t.came.rest t.came.none_after_end s.came.splits t.came.splits;
+        begun = t.came.begun;
+      };
       replies = s.replies ++ t.answers.replies;
       last = on.last;
-      run = Run-append (AnswersLater name) old s.last on.last s.lines t.lines s.replies t.answers.replies s.run on.run;
+      run = Run-append (AnswersLater name) old s.last on.last s.came.lines t.came.lines s.replies t.answers.replies s.run on.run;
       grown = on.grown;
       taken = s.taken ++ t.sent.taken;
       appended = Appends-trans a.written b.written c.written s.taken t.sent.taken s.appended t.sent.appended;

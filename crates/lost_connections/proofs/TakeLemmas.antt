@@ -22,13 +22,15 @@ splits_none true kept piece begun none =
 pub took_nothing : (name : Text) (worker : Worker) (a b : Connection) (piece : Text) → IsBegun a.kept piece → Consumes a.unread b.unread [] → b.kept ≡ a.kept → b.unsent ≡ a.unsent → b.written ≡ a.written → b.ended ≡ a.ended
     → (a.ended ≡ true → a.kept ≡ []) → TakesIn name worker worker a b piece
 took_nothing name worker a b piece begun read kept unsent written ended none = record {
-  bytes = [];
-  read = read;
-  none_after_end = λ over. (refl, ended ∙ over);
-  lines = [];
-  rest = piece;
-  splits = subst (λ (e : Bool). Splits e (piece ++ []) [] piece) (sym ended) (splits_none a.ended a.kept piece begun none);
-  begun = subst (λ (k : Text). IsBegun k piece) (sym kept) begun;
+  came = record {
+    bytes = [];
+    read = read;
+    none_after_end = λ over. (refl, ended ∙ over);
+    lines = [];
+    rest = piece;
+    splits = subst (λ (e : Bool). Splits e (piece ++ []) [] piece) (sym ended) (splits_none a.ended a.kept piece begun none);
+    begun = subst (λ (k : Text). IsBegun k piece) (sym kept) begun;
+  };
   answers = subst (λ (u : Text). AnswersAll name worker worker [] a.unsent u) (sym unsent) (none_answered name worker a.unsent);
   written = written;
 }
@@ -36,13 +38,15 @@ took_nothing name worker a b piece begun read kept unsent written ended none = r
 pub took_bytes : (name : Text) (old new : Worker) (a b : Connection) (piece bytes : Text) → Consumes a.unread b.unread bytes → b.written ≡ a.written → b.ended ≡ a.ended → a.ended ≡ false
     → AnswersBehind name old new piece bytes a.unsent b.unsent b.kept → TakesIn name old new a b piece
 took_bytes name old new a b piece bytes read written ended going answers = record {
-  bytes = bytes;
-  read = read;
-  none_after_end = λ over. absurd (true≢false (sym over ∙ going));
-  lines = answers.lines;
-  rest = answers.rest;
-  splits = subst (λ (e : Bool). Splits e (piece ++ bytes) answers.lines answers.rest) (sym (ended ∙ going)) answers.cuts;
-  begun = answers.begun;
+  came = record {
+    bytes = bytes;
+    read = read;
+    none_after_end = λ over. absurd (true≢false (sym over ∙ going));
+    lines = answers.lines;
+    rest = answers.rest;
+    splits = subst (λ (e : Bool). Splits e (piece ++ bytes) answers.lines answers.rest) (sym (ended ∙ going)) answers.cuts;
+    begun = answers.begun;
+  };
   answers = answers.answers;
   written = written;
 }
@@ -50,13 +54,15 @@ took_bytes name old new a b piece bytes read written ended going answers = recor
 pub took_end : (name : Text) (old new : Worker) (a b : Connection) (piece : Text) → Consumes a.unread b.unread [] → b.written ≡ a.written → b.ended ≡ true → a.ended ≡ false → b.kept ≡ []
     → AnswersAll name old new (lines_of piece) a.unsent b.unsent → TakesIn name old new a b piece
 took_end name old new a b piece read written ended going kept answers = record {
-  bytes = [];
-  read = read;
-  none_after_end = λ over. absurd (true≢false (sym over ∙ going));
-  lines = lines_of piece;
-  rest = [];
-  splits = subst (λ (e : Bool). Splits e (piece ++ []) (lines_of piece) []) (sym ended) (ap lines_of (sym (append-nil piece)), refl);
-  begun = subst (λ (k : Text). IsBegun k []) (sym kept) begun_none;
+  came = record {
+    bytes = [];
+    read = read;
+    none_after_end = λ over. absurd (true≢false (sym over ∙ going));
+    lines = lines_of piece;
+    rest = [];
+    splits = subst (λ (e : Bool). Splits e (piece ++ []) (lines_of piece) []) (sym ended) (ap lines_of (sym (append-nil piece)), refl);
+    begun = subst (λ (k : Text). IsBegun k []) (sym kept) begun_none;
+  };
   answers = answers;
   written = written;
 }
@@ -81,13 +87,15 @@ broke_end name old new a b piece read written answers = record {
 pub steady_after : (name : Text) (old new : Worker) (a m b : Connection) (piece : Text) → TakesIn name old new a m piece → Sent m.written b.written m.unsent b.unsent
     → b.unread ≡ m.unread → b.kept ≡ m.kept → b.ended ≡ m.ended → SteadyAfter name old new a b piece
 steady_after name old new a m b piece t s unread kept ended = record {
-  bytes = t.bytes;
-  read = subst (λ (u : Option Text). Consumes a.unread u t.bytes) (sym unread) t.read;
-  none_after_end = λ over. ((t.none_after_end over).0, ended ∙ (t.none_after_end over).1);
-  lines = t.lines;
-  rest = t.rest;
-  splits = subst (λ (e : Bool). Splits e (piece ++ t.bytes) t.lines t.rest) (sym ended) t.splits;
-  begun = subst (λ (k : Text). IsBegun k t.rest) (sym kept) t.begun;
+  came = record {
+    bytes = t.came.bytes;
+    read = subst (λ (u : Option Text). Consumes a.unread u t.came.bytes) (sym unread) t.came.read;
+    none_after_end = λ over. ((t.came.none_after_end over).0, ended ∙ (t.came.none_after_end over).1);
+    lines = t.came.lines;
+    rest = t.came.rest;
+    splits = subst (λ (e : Bool). Splits e (piece ++ t.came.bytes) t.came.lines t.came.rest) (sym ended) t.came.splits;
+    begun = subst (λ (k : Text). IsBegun k t.came.rest) (sym kept) t.came.begun;
+  };
   waiting = m.unsent;
   answers = t.answers;
   sent = subst (λ (w : Option Text). Sent w b.written m.unsent b.unsent) t.written s;
@@ -100,11 +108,11 @@ lines_begin true text lines rest splits = sym splits.0 ∙ sym (append-nil lines
 
 pub broken_sending : (name : Text) (old new : Worker) (a m b : Connection) (piece : Text) → TakesIn name old new a m piece → Sent m.written b.written m.unsent b.unsent → b.unread ≡ m.unread → BrokenAfter name old new a b piece
 broken_sending name old new a m b piece t s unread = record {
-  bytes = t.bytes;
-  read = subst (λ (u : Option Text). Consumes a.unread u t.bytes) (sym unread) t.read;
+  bytes = t.came.bytes;
+  read = subst (λ (u : Option Text). Consumes a.unread u t.came.bytes) (sym unread) t.came.read;
   waiting = m.unsent;
-  answers = front_of_same name old new (t.lines ++ piece_lines t.rest) (lines_of (piece ++ t.bytes)) a.unsent m.unsent (lines_begin m.ended (piece ++ t.bytes) t.lines t.rest t.splits)
-      (front_of_more name old new t.lines (piece_lines t.rest) a.unsent m.unsent t.answers);
+  answers = front_of_same name old new (t.came.lines ++ piece_lines t.came.rest) (lines_of (piece ++ t.came.bytes)) a.unsent m.unsent (lines_begin m.ended (piece ++ t.came.bytes) t.came.lines t.came.rest t.came.splits)
+      (front_of_more name old new t.came.lines (piece_lines t.came.rest) a.unsent m.unsent t.answers);
   taken = s.taken;
   left = b.unsent;
   appended = subst (λ (w : Option Text). Appends w b.written s.taken) t.written s.appended;

@@ -1,10 +1,10 @@
 -- What the bursts of a connection come to, while its worker serves others in between. (Own.)
-use Rattle.std.specs.Prelude.{◌≡◌, ◌++◌, List, true, []}
-use Rattle.std.specs.Io.KnownBytes.{Appends, Consumes}
+use Rattle.std.specs.Prelude.{◌≡◌, ◌++◌, List}
+use Rattle.std.specs.Io.KnownBytes.{Appends}
 use Rattle.lost_spec.specs.Text.{Text}
 use Rattle.lost_lines.specs.Run.{Cut, Reply, Run, text_of}
 use Rattle.lost_worker.specs.Lines.{Worker, Answers, HasSeenMore}
-use Rattle.lost_connections.specs.Steady.{Connection, IsBegun, Splits, Steady}
+use Rattle.lost_connections.specs.Steady.{Connection, IsBegun, Comes, Steady}
 
 -- a line is answered, once the worker has seen as much as it had seen before or more
 abbrev pub AnswersLater : Text → Worker → Cut → Reply → Worker → Type 0
@@ -12,16 +12,10 @@ AnswersLater name old cut reply new = (now : Worker) × HasSeenMore old.reader n
 
 -- bytes came behind the line that was begun, each line that they end was answered in order, from a list that begins with those of all lines before it, and of the replies that waited, these last, a front was written
 pub record StreamAfter (name : Text) (old new : Worker) (a b : Connection) (piece : Text) : Type 0 where
-  pub bytes : Text
-  pub read : Consumes a.unread b.unread bytes
-  pub none_after_end : a.ended ≡ true → (bytes ≡ []) × (b.ended ≡ true)
-  pub lines : List Text
-  pub rest : Text
-  pub splits : Splits b.ended (piece ++ bytes) lines rest
-  pub begun : IsBegun b.kept rest
+  pub came : Comes a b piece
   pub replies : List Reply
   pub last : Worker
-  pub run : Run (AnswersLater name) old lines replies last
+  pub run : Run (AnswersLater name) old came.lines replies last
   pub grown : HasSeenMore last.reader new.reader
   pub taken : Text
   pub appended : Appends a.written b.written taken

@@ -1,9 +1,10 @@
 -- What a burst does to a connection: the lines that have come are answered in order, and their replies stand behind those that wait. (Own.)
-use Rattle.std.specs.Prelude.{◌≡◌, ◌≢◌, ◌+◌, Bool, true, false, List, [], ◌++◌, take, All, Option}
+use Rattle.std.specs.Prelude.{◌≡◌, ◌≢◌, ◌+◌, Bool, true, false, List, [], ◌++◌, take, All, Option, Some}
 use Rattle.std.specs.Io.KnownBytes.{Appends, Consumes}
 use Rattle.lost_spec.specs.Text.{Text}
 use Rattle.lost_lines.specs.Cutting.{newline, line_limit, cut, lines_of}
 use Rattle.lost_lines.specs.Run.{Reply, Run, text_of}
+use Rattle.lost_lines.specs.Stream.{AppendsFront}
 use Rattle.lost_worker.specs.Lines.{Worker, Answers}
 
 -- some bytes of a list of replies went to the output, and the others are left
@@ -43,10 +44,7 @@ pub record AnswersFront (name : Text) (old new : Worker) (all : List Text) (unse
   pub begins : all ≡ lines ++ others
   pub replies : List Reply
   pub run : Run (Answers name) old lines replies new
-  pub front : Text
-  pub rest : Text
-  pub texts : text_of replies ≡ front ++ rest
-  pub behind : more ≡ unsent ++ front
+  pub behind : AppendsFront (Some unsent) (Some more) (text_of replies)
 
 -- a connection: what is kept of the line that was begun, the replies that wait, what is known to be left to read, and what is known to be written
 pub record Connection : Type 0 where
@@ -56,8 +54,8 @@ pub record Connection : Type 0 where
   pub written : Option Text
   pub ended : Bool
 
--- the first half of a burst: bytes were read behind the line that was begun, and the replies to the lines that they end stand behind those that waited
-pub record TakesIn (name : Text) (old new : Worker) (a b : Connection) (piece : Text) : Type 0 where
+-- bytes came behind the line that was begun, none after the input's end: they end lines, and a line is begun by what stands behind them
+pub record Comes (a b : Connection) (piece : Text) : Type 0 where
   pub bytes : Text
   pub read : Consumes a.unread b.unread bytes
   pub none_after_end : a.ended ≡ true → (bytes ≡ []) × (b.ended ≡ true)
@@ -65,7 +63,11 @@ pub record TakesIn (name : Text) (old new : Worker) (a b : Connection) (piece : 
   pub rest : Text
   pub splits : Splits b.ended (piece ++ bytes) lines rest
   pub begun : IsBegun b.kept rest
-  pub answers : AnswersAll name old new lines a.unsent b.unsent
+
+-- the first half of a burst: bytes were read behind the line that was begun, and the replies to the lines that they end stand behind those that waited
+pub record TakesIn (name : Text) (old new : Worker) (a b : Connection) (piece : Text) : Type 0 where
+  pub came : Comes a b piece
+  pub answers : AnswersAll name old new came.lines a.unsent b.unsent
   pub written : b.written ≡ a.written
 
 -- a fault came in it: a front of the lines was answered
@@ -77,15 +79,9 @@ pub record BreaksIn (name : Text) (old new : Worker) (a b : Connection) (piece :
 
 -- Steady: bytes were read behind the line that was begun, the lines that they end were answered in order by one worker, each from a list that begins with all that it had seen before, and of all replies that waited, these last, a front was written
 pub record SteadyAfter (name : Text) (old new : Worker) (a b : Connection) (piece : Text) : Type 0 where
-  pub bytes : Text
-  pub read : Consumes a.unread b.unread bytes
-  pub none_after_end : a.ended ≡ true → (bytes ≡ []) × (b.ended ≡ true)
-  pub lines : List Text
-  pub rest : Text
-  pub splits : Splits b.ended (piece ++ bytes) lines rest
-  pub begun : IsBegun b.kept rest
+  pub came : Comes a b piece
   pub waiting : Text
-  pub answers : AnswersAll name old new lines a.unsent waiting
+  pub answers : AnswersAll name old new came.lines a.unsent waiting
   pub sent : Sent a.written b.written waiting b.unsent
 
 -- the same, whatever line was begun
