@@ -64,7 +64,7 @@ impl CivicPattern {
     /// where a name is that of no element; `NoKnownElement` where there is no pair; `Memory`.
     pub fn from_pairs(
         alloc: Global,
-        pairs: Vec<(String, String)>,
+        mut pairs: Vec<(String, String)>,
     ) -> Result<CivicPattern, CivicError>
         ensures pairs { IfOk result (λ pattern. pattern ≡ seen_pairs pairs.items) }
         ensures lawful { OnOk result (pattern_fault (seen_pairs pairs.items) ≡ None) }
@@ -80,6 +80,7 @@ impl CivicPattern {
         let Ok(compared) = compare_pairs(alloc, pairs.as_slice()) else {
             return Err(CivicError::Memory);
         };
+        pairs.shrink_to_fit();
         match Arc::new(alloc, Fields { pairs, compared }) {
             Ok(inner) => Ok(CivicPattern { inner }),
             Err(_) => Err(CivicError::Memory),

@@ -1,4 +1,5 @@
 pub mod Place
+pub mod Polygons
 pub mod Body
 pub mod Region
 pub mod Counted

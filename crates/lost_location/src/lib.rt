@@ -6,7 +6,9 @@
 mod body;
 mod counts;
 mod kinds;
+mod lists;
 mod place;
+mod polygons;
 mod region;
 mod regions;
 mod rings;

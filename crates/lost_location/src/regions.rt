@@ -1,19 +1,19 @@
 //! The regions of a mapping.
-ghost use Rattle.std.specs.Prelude.{◌≡◌, [], ◌∷◌, ◌++◌, not, IfOk, OnOk, None};
-ghost use Rattle.std.specs.List.{list_all, list_any};
-ghost use Rattle.std.specs.Option.{option_to_list};
+ghost use Rattle.std.specs.Prelude.{◌≡◌, IfOk};
+ghost use Rattle.std.specs.List.{list_any};
 ghost use lib.Pointwise.{pointwise};
 ghost use Rattle.lost_spec.specs.Ring.{same_point, inside};
 ghost use Rattle.lost_spec.specs.Civic.{matches};
 ghost use Rattle.lost_spec.specs.Token.{contains_token};
-ghost use Rattle.lost_spec.specs.Place.{is_region, polygon_of, pattern_of, token_set_of, by_kind, no_regions, contains, same_regions};
+ghost use Rattle.lost_spec.specs.Place.{by_kind, contains, same_regions};
 ghost use Rattle.lost_location.specs.Place.{place_of};
-ghost use Rattle.lost_location.specs.Refusals.{Refuses, fault_if, regions_fault};
-ghost use Rattle.lost_location.specs.Region.{region_of, regions_of};
+ghost use Rattle.lost_location.specs.Refusals.{Refuses, regions_fault};
+ghost use Rattle.lost_location.specs.Region.{regions_of};
 
+use crate::lists::RegionLists;
 use crate::place::Place;
+use crate::polygons::Polygons;
 use crate::region::Region;
-use crate::rings::{read_pattern, read_polygon, read_token_set};
 use lost_civic::{CivicAddress, CivicPattern};
 use lost_geo::{GeoPoint, Polygon};
 use lost_profile::{Token, TokenSet};
@@ -27,29 +27,19 @@ use std::marker::Model;
 pub struct Regions {
     token_sets: Vec<TokenSet>,
     patterns: Vec<CivicPattern>,
-    polygons: Vec<Polygon>,
+    polygons: Polygons,
 }
 
 impl Model for Regions {
     ghost use Rattle.lost_spec.specs.Place as spec;
+    ghost use Rattle.lost_location.specs.Polygons.{polygons_in};
 
     ghost Value = { spec.Regions };
 
-    ghost view = { λ r. record { polygons = r.polygons.items; patterns = r.patterns.items; token_sets = r.token_sets.items } };
+    ghost view = { λ r. record { polygons = polygons_in r.polygons; patterns = r.patterns.items; token_sets = r.token_sets.items } };
 }
 
 impl Regions {
-    /// No regions. It takes no memory.
-    fn new(alloc: Global) -> Regions
-        ensures { result ≡ no_regions }
-    {
-        Regions {
-            polygons: Vec::new(alloc),
-            patterns: Vec::new(alloc),
-            token_sets: Vec::new(alloc),
-        }
-    }
-
     /// The regions that were handed in, by kind.
     ///
     /// # Errors
@@ -60,71 +50,25 @@ impl Regions {
         ensures regions { IfOk result (λ read. read ≡ by_kind (regions_of regions.items)) }
         ensures refuses { Refuses result (regions_fault (regions_of regions.items)) }
     {
-        let mut read = Regions::new(alloc);
-        for region in regions {
-            read.add(alloc, region)?;
-        }
-        read.polygons.shrink_to_fit();
-        read.patterns.shrink_to_fit();
-        read.token_sets.shrink_to_fit();
-        Ok(read)
-    }
-
-    fn add(&mut self, alloc: Global, region: Region) -> Result<(), MappingError>
-        ensures polygons { OnOk result (self.new.polygons ≡ self.old.polygons ++ option_to_list (polygon_of (region_of region))) }
-        ensures patterns { OnOk result (self.new.patterns ≡ self.old.patterns ++ option_to_list (pattern_of (region_of region))) }
-        ensures token_sets { OnOk result (self.new.token_sets ≡ self.old.token_sets ++ option_to_list (token_set_of (region_of region))) }
-        ensures refuses { Refuses result (fault_if (not (is_region (region_of region))) MappingError.BadRegion) }
-    {
-        match region {
-            Region::Ring(positions) => self.add_polygon(read_polygon(alloc, &positions)?),
-            Region::Pattern(pairs) => self.add_pattern(read_pattern(alloc, pairs)?),
-            Region::Tokens(texts) => self.add_token_set(read_token_set(alloc, &texts)?),
-            Region::Unreadable => Err(MappingError::BadRegion),
-        }
-    }
-
-    fn add_polygon(&mut self, polygon: Polygon) -> Result<(), MappingError>
-        ensures polygons { OnOk result (self.new.polygons ≡ self.old.polygons ++ polygon ∷ []) }
-        ensures patterns { OnOk result (self.new.patterns ≡ self.old.patterns) }
-        ensures token_sets { OnOk result (self.new.token_sets ≡ self.old.token_sets) }
-        ensures refuses { Refuses result None }
-    {
-        match self.polygons.push(polygon) {
-            Ok(()) => Ok(()),
-            Err(_) => Err(MappingError::Memory),
-        }
-    }
-
-    fn add_pattern(&mut self, pattern: CivicPattern) -> Result<(), MappingError>
-        ensures polygons { OnOk result (self.new.polygons ≡ self.old.polygons) }
-        ensures patterns { OnOk result (self.new.patterns ≡ self.old.patterns ++ pattern ∷ []) }
-        ensures token_sets { OnOk result (self.new.token_sets ≡ self.old.token_sets) }
-        ensures refuses { Refuses result None }
-    {
-        match self.patterns.push(pattern) {
-            Ok(()) => Ok(()),
-            Err(_) => Err(MappingError::Memory),
-        }
-    }
-
-    fn add_token_set(&mut self, set: TokenSet) -> Result<(), MappingError>
-        ensures polygons { OnOk result (self.new.polygons ≡ self.old.polygons) }
-        ensures patterns { OnOk result (self.new.patterns ≡ self.old.patterns) }
-        ensures token_sets { OnOk result (self.new.token_sets ≡ self.old.token_sets ++ set ∷ []) }
-        ensures refuses { Refuses result None }
-    {
-        match self.token_sets.push(set) {
-            Ok(()) => Ok(()),
-            Err(_) => Err(MappingError::Memory),
-        }
+        let RegionLists {
+            polygons,
+            mut patterns,
+            mut token_sets,
+        } = RegionLists::read(alloc, regions)?;
+        patterns.shrink_to_fit();
+        token_sets.shrink_to_fit();
+        Ok(Regions {
+            polygons: Polygons::of(polygons),
+            patterns,
+            token_sets,
+        })
     }
 
     /// The polygons, in the order given (RFC 5222, section 5.5).
     pub fn polygons(&self) -> &[Polygon]
         ensures { result.now ≡ self.now.polygons }
     {
-        &self.polygons
+        self.polygons.as_slice()
     }
 
     /// The civic patterns, in the order given (RFC 5222, section 5.5).
@@ -156,7 +100,7 @@ impl Regions {
     fn has_inside(&self, point: &GeoPoint) -> bool
         ensures { result ≡ list_any (λ ring. inside ring point.now) self.now.polygons }
     {
-        self.polygons.iter().any(|polygon| polygon.inside(point))
+        self.polygons().iter().any(|polygon| polygon.inside(point))
     }
 
     fn matches(&self, address: &CivicAddress) -> bool
@@ -176,7 +120,7 @@ impl Regions {
     pub fn is_same(&self, other: &Regions) -> bool
         ensures { result ≡ same_regions self.now other.now }
     {
-        are_same_polygons(&self.polygons, &other.polygons)
+        are_same_polygons(self.polygons(), other.polygons())
             && self.patterns == other.patterns
             && self.token_sets == other.token_sets
     }

@@ -16,25 +16,33 @@ use lost_spec::faults::MappingError;
 use std::alloc::{AllocError, Global};
 use std::hash::{Hash, Hasher};
 use std::marker::Model;
+use std::sync::Arc;
 
 /// The source and the sourceId of a mapping, which name it over the whole server (RFC 5222, section 5.1; own scope).
-/// A sourceId is 1 to 128 bytes without bytes below 32 and without byte 127, and is compared byte for byte.
+/// A sourceId is 1 to 128 bytes without bytes below 32 and without byte 127, and is compared byte for byte. It never
+/// changes and is shared, so a copy costs a pointer.
 #[derive(Drop, Debug)]
 pub struct Identity {
+    inner: Arc<Fields>,
+}
+
+#[derive(Drop, Debug)]
+struct Fields {
     source: Source,
     source_id: String,
 }
 
 impl Model for Identity {
     ghost use Rattle.std.specs.Prelude.{string_bytes};
+    ghost use Rattle.std.specs.Arc.{arc_value};
     ghost use Rattle.lost_spec.specs.Book as spec;
     ghost use Rattle.lost_mapping.specs.Identity.{IsWellFormed};
 
     ghost Value = { spec.Identity };
 
-    ghost view = { λ i. record { source = i.source; source_id = string_bytes i.source_id } };
+    ghost view = { λ i. record { source = (arc_value i.inner).source; source_id = string_bytes (arc_value i.inner).source_id } };
 
-    ghost invariant = { λ i. IsWellFormed i.source (string_bytes i.source_id) };
+    ghost invariant = { λ i. IsWellFormed (arc_value i.inner).source (string_bytes (arc_value i.inner).source_id) };
 }
 
 impl Identity {
@@ -69,9 +77,12 @@ impl Identity {
         ensures { IfOk result
             (λ i. i ≡ record { source = lowered source.now; source_id = source_id.now }) }
     {
-        Ok(Identity {
+        let fields = Fields {
             source: Source::lowered(alloc, source.as_bytes())?,
             source_id: String::from_str(alloc, source_id)?,
+        };
+        Ok(Identity {
+            inner: Arc::new(alloc, fields)?,
         })
     }
 
@@ -80,7 +91,7 @@ impl Identity {
         ensures value { result.now ≡ self.now.source }
         ensures well_formed { IsTrue (is_source self.now.source) }
     {
-        &self.source
+        &self.inner.source
     }
 
     /// The sourceId, as it was given.
@@ -88,16 +99,15 @@ impl Identity {
         ensures text { result.now ≡ self.now.source_id }
         ensures well_formed { IsTrue (is_id self.now.source_id) }
     {
-        self.source_id.as_str()
+        self.inner.source_id.as_str()
     }
 
-    /// A copy.
+    /// A copy. It costs a pointer.
     pub fn clone(&self) -> Result<Identity, AllocError>
         ensures { IfOk result (λ i. i ≡ self.now) }
     {
         Ok(Identity {
-            source: self.source.clone()?,
-            source_id: self.source_id.clone()?,
+            inner: Arc::try_clone(&self.inner)?,
         })
     }
 }
@@ -108,7 +118,7 @@ impl PartialEq for Identity {
     ghost laws = { Prim.search (comparing, rules) };
 
     fn eq(&self, other: &Identity) -> bool {
-        self.source == other.source && self.source_id() == other.source_id()
+        self.source() == other.source() && self.source_id() == other.source_id()
     }
 }
 
@@ -122,7 +132,7 @@ impl Hash for Identity {
     ghost respects_eq = { Prim.search (hashing, rules) };
 
     fn hash<H: Hasher>(&self, state: &mut H) {
-        self.source.hash(state);
+        self.source().hash(state);
         self.source_id().hash(state);
     }
 }

@@ -4,7 +4,7 @@ use Rattle.std.proofs.lemmas.Result.{err_from_is_err_and}
 use Rattle.lost_spec.specs.Place.{is_region}
 use Rattle.lost_location.specs.Region.{region_of, regions_of}
 use Rattle.lost_location.proofs.RegionLemmas.{refused_with_part}
-use Rattle.lost_location.proofs.regions.Regions.read.Goals as goal
+use Rattle.lost_location.proofs.lists.RegionLists.read.Goals as goal
 
 pub returns-in_err-add-clause-refuses : goal.returns-in_err-add-clause-refuses
 returns-in_err-add-clause-refuses c =

@@ -3,7 +3,7 @@ use Rattle.std.specs.List.{list_all}
 use Rattle.std.specs.Vec.Iter.{into_iter_items, into_iter_len}
 use Rattle.lost_spec.specs.Place.{is_region, by_kind}
 use Rattle.lost_location.specs.Region.{regions_of}
-use Rattle.lost_location.proofs.regions.Regions.read.Given as goal
+use Rattle.lost_location.proofs.lists.RegionLists.read.Given as goal
 
 abbrev pub invariant-loop-region : goal.invariant-loop-region
 invariant-loop-region l =
