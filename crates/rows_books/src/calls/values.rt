@@ -41,12 +41,12 @@ pub(crate) struct Values {
     mapping: Mapping,
     parts: Vec<Parts>,
     long: String,
-    above: ServiceUrn,
-    same: ServiceUrn,
-    ring: Vec<GeoPoint>,
-    three: Vec<GeoPoint>,
-    near: CivicAddress,
-    far: CivicAddress,
+    /// The service above that of the mapping, and the same one.
+    services: Vec<ServiceUrn>,
+    /// A ring, and too few points for one.
+    rings: Vec<Vec<GeoPoint>>,
+    /// An address in the town of the mapping, and one in another town.
+    addresses: Vec<CivicAddress>,
 }
 
 impl Values {
@@ -59,47 +59,50 @@ impl Values {
             mapping,
             parts: parts(alloc)?,
             long: long_text(alloc)?,
-            above: service(alloc, "urn:service:sos")?,
-            same: service(alloc, "urn:service:sos.police")?,
-            ring: points(alloc, &RING)?,
-            three: points(alloc, &RING[..3])?,
-            near: address(alloc, " leonia")?,
-            far: address(alloc, "Fort Lee")?,
+            services: services(alloc)?,
+            rings: rings(alloc)?,
+            addresses: addresses(alloc)?,
         })
     }
 
     /// Makes the calls, and prints the answers.
     pub(crate) fn print<R: Print>(self, rt: &R) -> io::Result<()> {
-        let Values {
-            mapping,
-            parts,
-            long,
-            above,
-            same,
-            ring,
-            three,
-            near,
-            far,
-        } = self;
-        print_services(rt, mapping.service(), &above, &same)?;
+        self.print_calls(rt)?;
+        for points in self.rings {
+            print_polygon(rt, points)?;
+        }
+        Ok(())
+    }
+
+    /// Makes the calls that consume nothing, and prints the answers.
+    fn print_calls<R: Print>(&self, rt: &R) -> io::Result<()> {
+        for service in &self.services {
+            print_services(rt, self.mapping.service(), service)?;
+        }
         print_points(rt)?;
-        print_rings(rt, ring, three)?;
-        print_civic(rt, &mapping, &near, &far)?;
-        print_pairs(rt, long.as_str())?;
-        print_checks(rt, parts.as_slice())?;
-        print_mapping(rt, &mapping)?;
-        print_lists(rt, &mapping)?;
-        print_moments(rt, &mapping)?;
+        print_elements(rt)?;
+        for address in &self.addresses {
+            print_matches(rt, &self.mapping, address)?;
+        }
+        print_pairs(rt, self.long.as_str())?;
+        print_checks(rt, self.parts.as_slice())?;
+        print_mapping(rt, &self.mapping)?;
+        print_lists(rt, &self.mapping)?;
+        print_moments(rt, &self.mapping)?;
         print_limits(rt)
     }
 }
 
-/// The service of a text.
-fn service(alloc: Global, text: &str) -> io::Result<ServiceUrn> {
-    match ServiceUrn::parse(alloc, text.as_bytes()) {
-        Ok(service) => Ok(service),
-        Err(_) => Err(unfit()),
+/// The service above that of the mapping, and the same one.
+fn services(alloc: Global) -> io::Result<Vec<ServiceUrn>> {
+    let mut services = Vec::new(alloc);
+    for text in ["urn:service:sos", "urn:service:sos.police"] {
+        match ServiceUrn::parse(alloc, text.as_bytes()) {
+            Ok(service) => services.push(service)?,
+            Err(_) => return Err(unfit()),
+        }
     }
+    Ok(services)
 }
 
 /// The parts of a mapping, and of one whose number is invalid.
@@ -113,26 +116,36 @@ fn parts(alloc: Global) -> Result<Vec<Parts>, AllocError> {
 
 /// The parts of a mapping with a number.
 fn parts_with(alloc: Global, number: &str) -> Result<Parts, AllocError> {
-    let mut regions = Vec::new(alloc);
-    regions.push(Region::Ring(Vec::from_slice(alloc, &RING)?))?;
-    let mut pairs = Vec::new(alloc);
-    pairs.push(pair(alloc, "A3", "Leonia")?)?;
-    regions.push(Region::Pattern(pairs))?;
-    let mut uris = Vec::new(alloc);
-    uris.push(String::from_str(alloc, "sip:A@map.example")?)?;
     Ok(Parts {
         source: String::from_str(alloc, "map.example")?,
         source_id: String::from_str(alloc, "A")?,
         last_updated: String::from_str(alloc, "2025-12-01T00:00:00Z")?,
         expires: String::from_str(alloc, "NO-EXPIRATION")?,
         service: String::from_str(alloc, "urn:service:sos.police")?,
-        uris,
+        uris: uris(alloc)?,
         number: Some(String::from_str(alloc, number)?),
-        regions,
+        regions: regions(alloc)?,
         is_default: false,
         display_names: Vec::new(alloc),
         key: Some(String::from_str(alloc, "A-1")?),
     })
+}
+
+/// A ring, and the pattern of a town.
+fn regions(alloc: Global) -> Result<Vec<Region>, AllocError> {
+    let mut regions = Vec::new(alloc);
+    regions.push(Region::Ring(Vec::from_slice(alloc, &RING)?))?;
+    let mut pairs = Vec::new(alloc);
+    pairs.push(pair(alloc, "A3", "Leonia")?)?;
+    regions.push(Region::Pattern(pairs))?;
+    Ok(regions)
+}
+
+/// One URI.
+fn uris(alloc: Global) -> Result<Vec<String>, AllocError> {
+    let mut uris = Vec::new(alloc);
+    uris.push(String::from_str(alloc, "sip:A@map.example")?)?;
+    Ok(uris)
 }
 
 /// A text that is too long for a pattern.
@@ -142,6 +155,15 @@ fn long_text(alloc: Global) -> Result<String, AllocError> {
         text.push('x')?;
     }
     Ok(text)
+}
+
+/// A ring, and too few points for one.
+fn rings(alloc: Global) -> io::Result<Vec<Vec<GeoPoint>>> {
+    let mut rings = Vec::new(alloc);
+    for count in [RING.len(), 3] {
+        rings.push(points(alloc, &RING[..count])?)?;
+    }
+    Ok(rings)
 }
 
 /// The points of positions.
@@ -154,6 +176,15 @@ fn points(alloc: Global, positions: &[(i64, i64)]) -> io::Result<Vec<GeoPoint>> 
         }
     }
     Ok(points)
+}
+
+/// An address in the town of the mapping, and one in another town.
+fn addresses(alloc: Global) -> io::Result<Vec<CivicAddress>> {
+    let mut addresses = Vec::new(alloc);
+    for town in [" leonia", "Fort Lee"] {
+        addresses.push(address(alloc, town)?)?;
+    }
+    Ok(addresses)
 }
 
 /// An address in a town.
@@ -176,27 +207,21 @@ fn pair(alloc: Global, name: &str, value: &str) -> Result<(String, String), Allo
     ))
 }
 
-/// Prints a service, one above it and the same one once more.
-fn print_services<R: Print>(
-    rt: &R,
-    service: &ServiceUrn,
-    above: &ServiceUrn,
-    same: &ServiceUrn,
-) -> io::Result<()> {
+/// Prints how a service and another one compare.
+fn print_services<R: Print>(rt: &R, service: &ServiceUrn, other: &ServiceUrn) -> io::Result<()> {
     println!(rt;
         "service {}, {} labels, below {} {}, and the other way {}",
         service.text(),
         service.depth(),
-        above.text(),
-        service.is_at_or_below(above),
-        above.is_at_or_below(service)
+        other.text(),
+        service.is_at_or_below(other),
+        other.is_at_or_below(service)
     )?;
     println!(rt;
-        "equal {}, before {}, the same equal {}, with an equal hash {}",
-        service == above,
-        service.cmp(above) == Ordering::Less,
-        service == same,
-        hash_of(service) == hash_of(same)
+        "equal {}, before {}, with one hash where equal {}",
+        service == other,
+        service.cmp(other) == Ordering::Less,
+        service != other || hash_of(service) == hash_of(other)
     )
 }
 
@@ -228,15 +253,12 @@ fn print_points<R: Print>(rt: &R) -> io::Result<()> {
     Ok(())
 }
 
-/// Prints what rings these points make.
-fn print_rings<R: Print>(rt: &R, ring: Vec<GeoPoint>, three: Vec<GeoPoint>) -> io::Result<()> {
-    for points in [ring, three] {
-        match Polygon::new(points) {
-            Ok(polygon) => print_ring(rt, &polygon)?,
-            Err(error) => println!(rt; "ring refused {}", error.code())?,
-        }
+/// Prints what ring these points make.
+fn print_polygon<R: Print>(rt: &R, points: Vec<GeoPoint>) -> io::Result<()> {
+    match Polygon::new(points) {
+        Ok(polygon) => print_ring(rt, &polygon),
+        Err(error) => println!(rt; "ring refused {}", error.code()),
     }
-    Ok(())
 }
 
 /// Prints how many positions a ring has, its bounds, and whether its corners are inside.
@@ -256,25 +278,21 @@ fn print_ring<R: Print>(rt: &R, polygon: &Polygon) -> io::Result<()> {
     println!(rt)
 }
 
-/// Prints which names are elements, and which addresses the patterns of a mapping match.
-fn print_civic<R: Print>(
-    rt: &R,
-    mapping: &Mapping,
-    near: &CivicAddress,
-    far: &CivicAddress,
-) -> io::Result<()> {
+/// Prints which names are elements.
+fn print_elements<R: Print>(rt: &R) -> io::Result<()> {
     for name in ["A3", "a3"] {
         match Element::by_name(name) {
             Some(element) => println!(rt; "element {}", element.name())?,
             None => println!(rt; "no element")?,
         }
     }
+    Ok(())
+}
+
+/// Prints whether the patterns of a mapping match an address.
+fn print_matches<R: Print>(rt: &R, mapping: &Mapping, address: &CivicAddress) -> io::Result<()> {
     for pattern in mapping.patterns() {
-        println!(rt;
-            "pattern matches {} {}",
-            pattern.matches(near),
-            pattern.matches(far)
-        )?;
+        println!(rt; "pattern matches {}", pattern.matches(address))?;
     }
     Ok(())
 }
