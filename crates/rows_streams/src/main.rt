@@ -16,7 +16,6 @@
 //! - `status`: each row of `status.rows` is an HTTP request to a server after some events. The answer is compared with
 //!   the row ([`status`] says how a row is written). Then come clients that are cut off, and two workers that count at
 //!   once.
-//! - `serve`: a server with a desk and two clients, over TCP, and one that is told to end.
 //!
 //! Other lines of the first two scripts prepare the next stream. `line TEXT`, `last TEXT` (without byte 10),
 //! `long NUMBER` (so many bytes), `byte NUMBER`, `filled NUMBER TEXT` (with spaces after it, so many bytes in all) and
@@ -28,7 +27,6 @@ mod always;
 mod bursts;
 mod by;
 mod faults;
-mod holding;
 mod hostile;
 mod in_turn;
 mod lengths;
@@ -36,7 +34,6 @@ mod lines;
 mod noting;
 mod orders;
 mod plan;
-mod serve;
 mod sipping;
 mod spelled;
 mod status;
@@ -56,7 +53,7 @@ use std::{fs, io};
 use test_parts::given;
 
 /// The commands.
-const WORDS: [&str; 6] = ["streams", "hostile", "lines", "orders", "status", "serve"];
+const WORDS: [&str; 5] = ["streams", "hostile", "lines", "orders", "status"];
 
 fn main(rt: HostRuntime) -> io::Result<ExitCode> {
     let (words, end) = given(&rt, "rows_streams", &WORDS)?;
@@ -65,7 +62,6 @@ fn main(rt: HostRuntime) -> io::Result<ExitCode> {
         match word.as_str() {
             "orders" => orders::run(&rt)?,
             "status" => status::run(&rt)?,
-            "serve" => serve::run(&rt)?,
             script => run_script(&rt, script)?,
         }
     }

@@ -1,8 +1,8 @@
 //! The commands of the script of streams: what is served, and by whom.
 use crate::always::moments_of;
 use crate::bursts::{cut_everywhere, cut_once};
-use crate::holding::Holding;
 use crate::in_turn::take_turns;
+use crate::noting::Noting;
 use crate::stream::{Stream, no_command};
 use crate::telling::tell;
 use crate::workers::serve_two;
@@ -13,7 +13,7 @@ use std::io;
 use std::sync::Wait;
 use std::thread::Threads;
 use std::time::Clock;
-use test_parts::{Setting, limits};
+use test_parts::{Diary, Setting, limits};
 
 /// A desk and two of its readers.
 #[derive(Drop)]
@@ -117,7 +117,7 @@ fn serve_by_desk<R: Wait + Print + AllocGlobal>(
 }
 
 /// Serves a stream by a reader, through a gate where a line is refused.
-fn serve_queries<R: Clock + Print + AllocGlobal, P: Replier>(
+fn serve_queries<R: Print + AllocGlobal, P: Replier>(
     rt: &R,
     replier: &mut P,
     setting: &Setting,
@@ -125,7 +125,11 @@ fn serve_queries<R: Clock + Print + AllocGlobal, P: Replier>(
 ) -> io::Result<()> {
     match stream.refused {
         Some(refused) => {
-            let gate: Holding<'_, R> = Holding::From(refused);
+            let diary = Diary::new(rt.alloc());
+            let gate = Noting {
+                diary: &diary,
+                refused,
+            };
             serve_through(rt, replier, setting, &gate, stream)
         }
         None => serve_through(rt, replier, setting, &NoGate, stream),

@@ -2,7 +2,6 @@
 ghost use Rattle.std.specs.Thread.{IsSync};
 
 use crate::always::moments_of;
-use crate::holding::Holding;
 use crate::stream::Stream;
 use crate::telling::tell_counts;
 use crossbeam_channel::{Receiver, unbounded};
@@ -27,7 +26,7 @@ struct Working<'a, R: Clock> {
     reader: &'a mut Reader,
     setting: &'a Setting,
     connections: Receiver<InMemory>,
-    gate: &'a Holding<'a, R>,
+    gate: &'a Meeting<'a, R>,
     stream: &'a Stream,
 }
 
@@ -41,7 +40,7 @@ pub(crate) fn serve_two<R: Threads + Wait + Clock + Sync + Print + AllocGlobal>(
     stream: &Stream,
 ) -> io::Result<()> {
     let connections = twice(rt, stream)?;
-    let gate = Holding::First(Meeting::new(rt));
+    let gate = Meeting::new(rt);
     let mut one = Working {
         alloc: rt.alloc(),
         reader: first,

@@ -1,6 +1,6 @@
 //! What the programs of rows share (own rules), and nothing else uses: the server of every row, and its moment; the
 //! commands of the command line; readers and writers in memory that move at most so many bytes at once, count their
-//! calls, and fail at a given call; the limits of desks, a diary of such calls, and waits between two threads.
+//! calls, and fail at a given call; the limits of desks, a diary of such calls, and a gate at which lines wait.
 #![tactic(auto)]
 
 mod commands;

@@ -1,4 +1,5 @@
-//! Where a line waits for another one.
+//! A gate at which a line waits for another one.
+use lost_lines::Gate;
 use std::sync::atomic::{AtomicU64, Ordering};
 use std::thread::sleep;
 use std::time::{Clock, Duration};
@@ -6,7 +7,8 @@ use std::time::{Clock, Duration};
 /// How often a wait looks whether a line was answered.
 const TURNS: u64 = 10_000;
 
-/// Where the first of several lines waits until another one was answered.
+/// The gate of several connections: it holds the first line until another one was answered, for at most 10,000 short
+/// sleeps, and refuses it where none is in time.
 #[derive(Drop)]
 pub struct Meeting<'r, R: Clock> {
     rt: &'r R,
@@ -23,9 +25,14 @@ impl<'r, R: Clock> Meeting<'r, R> {
             answered: AtomicU64::new(0),
         }
     }
+}
 
-    /// Holds the first line until another was answered, for at most 10,000 short sleeps. False where none is in time.
-    pub fn come(&self) -> bool {
+impl<R: Clock> Gate for Meeting<'_, R> {
+    ghost says = { λ _ _ _. Unit {0} };
+
+    const IS_OPEN: bool = false;
+
+    fn before_reply(&self, _line: u64) -> bool {
         if self.asked.fetch_add(1, Ordering::SeqCst) > 0 {
             return true;
         }
@@ -38,8 +45,7 @@ impl<'r, R: Clock> Meeting<'r, R> {
         false
     }
 
-    /// Notes that a line was answered.
-    pub fn leave(&self) {
+    fn after_reply(&self, _line: u64) {
         self.answered.fetch_add(1, Ordering::SeqCst);
     }
 }

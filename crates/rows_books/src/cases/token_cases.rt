@@ -1,11 +1,10 @@
 //! Calls of lost_profile: tokens, sets of them, and the profile of tokens.
 use super::fields::Fields;
 use super::trouble::Trouble;
-use super::words::{MARK, compared, copy_of, owned, refused, texts, yes_or_no};
+use super::words::{MARK, compared, copy_of, order, owned, refused, texts, yes_or_no};
 use lost_profile::{Profile, Token, TokenError, TokenSet, Tokens, is_id, is_token_set};
 use lost_spec::Coded;
 use std::alloc::Global;
-use std::cmp::Ordering;
 
 /// What a call gives.
 pub(crate) fn said(alloc: Global, call: &str, fields: &Fields) -> Result<String, Trouble> {
@@ -52,21 +51,6 @@ pub(crate) fn token(alloc: Global, text: &[u8]) -> Result<Token, Trouble> {
 fn two_tokens(alloc: Global, text: &[u8], other: &[u8]) -> Result<String, Trouble> {
     let one = token(alloc, text)?;
     owned(alloc, order(&one, &token(alloc, other)?))
-}
-
-/// How one token lies to another by each way of comparing.
-fn order(one: &Token, other: &Token) -> &'static str {
-    let same = compared(one, other);
-    let order = one.cmp(other);
-    if one.partial_cmp(other) != Some(order) {
-        return "at odds";
-    }
-    match order {
-        Ordering::Less if one < other && same == "other" => "before",
-        Ordering::Equal if same == "same" => "same",
-        Ordering::Greater if one > other && same == "other" => "after",
-        _ => "at odds",
-    }
 }
 
 /// The tokens of a field with a comma between each two; none of an empty one.

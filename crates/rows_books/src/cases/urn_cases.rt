@@ -3,11 +3,10 @@ ghost use Rattle.std.specs.Prelude.{◌≤◌, IfOk, length};
 
 use super::fields::Fields;
 use super::trouble::Trouble;
-use super::words::{checked, compared, copy_of, owned, refused, yes_or_no};
+use super::words::{checked, compared, copy_of, order, owned, refused, yes_or_no};
 use lost_spec::Coded;
 use lost_urn::{ServiceUrn, UrnError};
 use std::alloc::Global;
-use std::cmp::Ordering;
 
 /// The result of a call.
 pub(crate) fn said(alloc: Global, call: &str, fields: &Fields) -> Result<String, Trouble> {
@@ -81,19 +80,4 @@ fn cut(alloc: Global, service: &ServiceUrn, labels: u64) -> Result<String, Troub
     let front = service.cut(labels)?;
     let (text, depth) = (front.text(), front.depth());
     Ok(format!(in alloc; "{text} {depth}")?)
-}
-
-/// How one service compares with another; `at odds` where two ways of comparing differ.
-fn order(one: &ServiceUrn, other: &ServiceUrn) -> &'static str {
-    let same = compared(one, other);
-    let order = one.cmp(other);
-    if one.partial_cmp(other) != Some(order) {
-        return "at odds";
-    }
-    match order {
-        Ordering::Less if one < other && same == "other" => "before",
-        Ordering::Equal if same == "same" => "same",
-        Ordering::Greater if one > other && same == "other" => "after",
-        _ => "at odds",
-    }
 }

@@ -1,6 +1,7 @@
 //! Words and lists in the fields of cases, and words for the results of calls.
 use super::trouble::Trouble;
 use std::alloc::Global;
+use std::cmp::Ordering;
 use std::hash::{DefaultHasher, Hash, Hasher};
 
 /// `passes`, or the number of a refusal.
@@ -31,6 +32,21 @@ pub(crate) fn compared<T: PartialEq + Hash>(one: &T, other: &T) -> &'static str 
     match (one == other, hash_of(one) == hash_of(other)) {
         (true, true) => "same",
         (false, false) => "other",
+        _ => "at odds",
+    }
+}
+
+/// How one value compares with another; `at odds` where two ways of comparing differ.
+pub(crate) fn order<T: Ord + Hash>(one: &T, other: &T) -> &'static str {
+    let same = compared(one, other);
+    let order = one.cmp(other);
+    if one.partial_cmp(other) != Some(order) {
+        return "at odds";
+    }
+    match order {
+        Ordering::Less if one < other && same == "other" => "before",
+        Ordering::Equal if same == "same" => "same",
+        Ordering::Greater if one > other && same == "other" => "after",
         _ => "at odds",
     }
 }

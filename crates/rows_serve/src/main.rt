@@ -1,16 +1,17 @@
 //! A server with a desk and two clients, over connections of this machine. Two workers answer the clients, and the first
 //! line waits until the other one was answered. The desk stays meanwhile. Then a server that is told to end.
+#![tactic(auto)]
+
 mod client;
 mod ending;
 
-use crate::holding::Holding;
 use client::{Client, Doors};
+use ending::ended;
 use lost_server::{ConnectionSettings, Counts, Gate, RunFault, serve};
 use std::alloc::Global;
 use std::io;
 use std::net::{Net, TcpListener, TcpStream};
 use std::random::RandomSource;
-use std::rt::Files;
 use std::sync::Wait;
 use std::thread::{Threads, join};
 use std::time::{Clock, Duration};
@@ -30,29 +31,34 @@ const COMMIT: &[u8] = b"{\"commit\":{}}\n";
 const QUESTION: &[u8] =
     b"{\"findService\":{\"location\":[{\"id\":\"p\",\"pos\":[5000000,5000000],\"profile\":\"geodetic-2d\"}],\"service\":\"urn:service:sos.police\"}}\n";
 
-/// Has the server answer, and prints the replies and the counts.
-pub(crate) fn run<
+fn main(rt: HostRuntime) -> io::Result<()> {
+    let setting = Setting::new(rt.alloc())?;
+    answer(&rt, &setting)?;
+    match ended(&rt, &setting.name) {
+        Ok(counts) => println!(rt; "ended: lines {} faults {}", counts.lines, counts.faults),
+        Err(_) => println!(rt; "not ended as told"),
+    }
+}
+
+/// Has the server answer a desk and two clients, and prints the replies and the counts.
+fn answer<
     R: Net<Listener = TcpListener, Stream = TcpStream>
         + Threads
         + Wait
         + Clock
         + Eprint
         + Print
-        + Input
-        + Files
         + RandomSource
         + Clone
         + Send
         + Sync
-        + AllocGlobal
-        + 'static,
->(rt: &R) -> io::Result<()> {
-    let setting = Setting::new(rt.alloc())?;
+        + AllocGlobal,
+>(rt: &R, setting: &Setting) -> io::Result<()> {
     let doors = Doors::new(rt)?;
-    let gate = Holding::First(Meeting::new(rt));
+    let gate = Meeting::new(rt);
     let (counts, replies) = join(
         rt,
-        || served(rt, &setting, &doors, &gate),
+        || served(rt, setting, &doors, &gate),
         || replies_of(rt, rt.alloc(), &doors),
     );
     for reply in replies?.iter() {
@@ -64,10 +70,6 @@ pub(crate) fn run<
             counts.lines, counts.long_lines, counts.memory, counts.faults
         ),
         Err(fault) => println!(rt; "{fault:?}"),
-    }?;
-    match ending::ended(rt, &setting.name) {
-        Ok(counts) => println!(rt; "ended: lines {} faults {}", counts.lines, counts.faults),
-        Err(_) => println!(rt; "not ended as told"),
     }
 }
 

@@ -36,7 +36,7 @@ impl<R: Net<Listener = TcpListener, Stream = TcpStream>> Ready for Ending<'_, R>
 }
 
 /// The counts of a server without a map that is told to end.
-pub(super) fn ended<
+pub(crate) fn ended<
     R: Net<Listener = TcpListener, Stream = TcpStream>
         + Threads
         + Wait
