@@ -1,7 +1,6 @@
 -- The numbers that are found are held; all with a region that contains the location are among them, and a test keeps these.
 use Rattle.std.proofs.Common.{◌≡◌, ℕ, Bool, true, false, ◌&&◌, ◌||◌, Option, None, Some, is_some, List, [], ◌∷◌, map, filter, All, Contains, get_or, nat_eq, nat_cmp, cond, refl, sym, ap, subst, suc, arith, ◌∙◌}
-use Rattle.std.specs.BTreeMap as tree
-use Rattle.std.specs.BTreeMap.{BTreeMap, is_at}
+use Rattle.std.specs.BTreeMap.{is_at}
 use Rattle.std.specs.Cmp.{nat_eq_equiv}
 use Rattle.std.specs.HashMap.{HashMap, get}
 use Rattle.std.specs.List.{list_any, flat_map, dedup}
@@ -16,12 +15,14 @@ use Rattle.std.proofs.lemmas.Map.Lookups.{btree_set_from_contains, exact_unsigne
 use Rattle.std.proofs.lemmas.Bool.{false≢true}
 use Rattle.std.proofs.lemmas.Bool.Decides.{nat_tests}
 use Rattle.std.proofs.lemmas.List.Folds.{list_any-append, Any-from_list_any}
-use Rattle.std.proofs.lemmas.Map.Views.{any-filter_same, Contains-from_any, list_any-from_Contains, btree_map_contains_key_iff, btree_map_get_iff}
+use Rattle.std.proofs.lemmas.Map.Views.{any-filter_same, Contains-from_any, list_any-from_Contains, Contains-keys_from_lookup, lookup-from_Contains}
 use Rattle.lost_profile.specs.Keys.{SharesKey}
-use Rattle.lost_index.specs.Entries.{numbers, holders, IsHeld}
+use Rattle.lost_index.specs.Chunks.{AreRising}
+use Rattle.lost_index.specs.Entries.{numbers, regions_of, holders, is_holder, IsHeld}
 use Rattle.lost_index.specs.declared.note.Note.{Note}
-use Rattle.lost_index.specs.Notes.{notes_of, is_note, has_note, covers_with, numbers_near, is_holder, IsIndexed}
+use Rattle.lost_index.specs.Notes.{notes_of, is_note, has_note, covers_with, numbers_near, IsIndexed}
 use Rattle.lost_index.proofs.EntryLemmas.{at_same}
+use Rattle.lost_index.proofs.RisingLemmas.{rising_distinct, rising_sorted}
 use Rattle.lost_index.proofs.NoteChangeLemmas.{any-from_contained, any-alike}
 
 same_number : (n k : ℕ) → nat_eq n k ≡ true → n ≡ k
@@ -137,7 +138,7 @@ pub there_if : {X : Type 0} (f : X → Bool) (o : Option X) → option_map_or f 
 there_if f None h = absurd (false≢true h)
 there_if f (Some x) h = (x, refl, h)
 
-module _ {R L : Type 0} (holds : R → L → Bool) (location : L) (held : BTreeMap ℕ (List R)) where
+module _ {R L : Type 0} (holds : R → L → Bool) (location : L) (held : List (ℕ × List R)) where
   abbrev passes : ℕ → Bool
   passes = is_holder holds location held
 
@@ -145,51 +146,51 @@ module _ {R L : Type 0} (holds : R → L → Bool) (location : L) (held : BTreeM
   some_holds regions = list_any (λ region. holds region location) regions
 
   -- a number that passes is held
-  stands_held : (n : ℕ) → passes n ≡ true → list_any (nat_eq n) (numbers held.entries) ≡ true
+  stands_held : (n : ℕ) → passes n ≡ true → list_any (nat_eq n) (numbers held) ≡ true
   stands_held n h =
-      let there = there_if some_holds (tree.get nat_cmp held n) h in
-      list_any-from_Contains nat_eq_equiv n (numbers held.entries)
-      ((btree_map_contains_key_iff nat_cmp_total exact_unsigned held n).0 (ap is_some there.1))
+      let there = there_if some_holds (regions_of held n) h in
+      list_any-from_Contains nat_eq_equiv n (numbers held)
+      (Contains-keys_from_lookup same_number n held (ap is_some there.1))
 
-  module _ (ordered : tree.IsOrdered nat_cmp held) where
-    alike : All (λ e. passes e.0 ≡ some_holds e.1) held.entries
+  module _ (ordered : AreRising held) where
+    alike : All (λ e. passes e.0 ≡ some_holds e.1) held
     alike k d within =
-        let e = get_or held.entries k d in
+        let e = get_or held k d in
         ap (λ o. option_map_or some_holds o false)
-        ((btree_map_get_iff nat_cmp_total exact_unsigned held ordered e.0 e.1).1 (Contains-get_or held.entries k d within))
+        (lookup-from_Contains nat_eq_equiv e.0 e.1 held (rising_distinct held ordered) (Contains-get_or held k d within))
 
-    holders_filter : holders holds location held.entries ≡ filter passes (numbers held.entries)
-    holders_filter = numbers-filter passes (λ e. some_holds e.1) held.entries alike
+    holders_filter : holders holds location held ≡ filter passes (numbers held)
+    holders_filter = numbers-filter passes (λ e. some_holds e.1) held alike
 
     -- the holders are the numbers that pass
-    pub holder_passes : (n : ℕ) → Contains (holders holds location held.entries) n → passes n ≡ true
+    pub holder_passes : (n : ℕ) → Contains (holders holds location held) n → passes n ≡ true
     holder_passes n stands =
-        left_of_and (passes n) (list_any (nat_eq n) (numbers held.entries))
-        (sym (stands-filter passes n (numbers held.entries)) ∙ ap (list_any (nat_eq n)) (sym holders_filter)
-        ∙ list_any-from_Contains nat_eq_equiv n (holders holds location held.entries) stands)
+        left_of_and (passes n) (list_any (nat_eq n) (numbers held))
+        (sym (stands-filter passes n (numbers held)) ∙ ap (list_any (nat_eq n)) (sym holders_filter)
+        ∙ list_any-from_Contains nat_eq_equiv n (holders holds location held) stands)
 
-    passes_holder : (n : ℕ) → passes n ≡ true → Contains (holders holds location held.entries) n
+    passes_holder : (n : ℕ) → passes n ≡ true → Contains (holders holds location held) n
     passes_holder n h =
-        Contains-from_any same_number n (holders holds location held.entries)
-        (ap (list_any (nat_eq n)) holders_filter ∙ stands-filter passes n (numbers held.entries)
-        ∙ both_and (passes n) (list_any (nat_eq n) (numbers held.entries)) h (stands_held n h))
+        Contains-from_any same_number n (holders holds location held)
+        (ap (list_any (nat_eq n)) holders_filter ∙ stands-filter passes n (numbers held)
+        ∙ both_and (passes n) (list_any (nat_eq n) (numbers held)) h (stands_held n h))
 
     -- of rising numbers among which all holders are, those that pass are the holders
     pub holding_is : (near result : List ℕ) → IsStrictlyIncreasing near
-        → ((n : ℕ) → Contains (holders holds location held.entries) n → Contains near n)
-        → result ≡ filter passes near → result ≡ holders holds location held.entries
+        → ((n : ℕ) → Contains (holders holds location held) n → Contains near n)
+        → result ≡ filter passes near → result ≡ holders holds location held
     holding_is near result rising among kept =
-        kept ∙ same_rising (filter passes near) (filter passes (numbers held.entries))
+        kept ∙ same_rising (filter passes near) (filter passes (numbers held))
         (IsStrictlySortedBy-filter nat_cmp passes near (sorted_from_strictly_increasing near rising))
-        (IsStrictlySortedBy-filter nat_cmp passes (numbers held.entries) ordered)
+        (IsStrictlySortedBy-filter nat_cmp passes (numbers held) (rising_sorted held ordered))
         (λ n. stands-filter passes n near
-        ∙ and_alike (passes n) (list_any (nat_eq n) near) (list_any (nat_eq n) (numbers held.entries))
+        ∙ and_alike (passes n) (list_any (nat_eq n) near) (list_any (nat_eq n) (numbers held))
         (λ h. list_any-from_Contains nat_eq_equiv n near (among n (passes_holder n h))) (stands_held n)
-        ∙ sym (stands-filter passes n (numbers held.entries)))
+        ∙ sym (stands-filter passes n (numbers held)))
         ∙ sym holders_filter
 
 module _ {R K O S : Type 0} (is_region : R → Type 0) (cover_of : R → List K) (outline_of : R → O) (eq : K → K → Bool) (same : O → O → Bool)
-    (near : O → Bool) (probes : List K) (held : BTreeMap ℕ (List R)) (cells : HashMap K (List (Note O)) S)
+    (near : O → Bool) (probes : List K) (held : List (ℕ × List R)) (cells : HashMap K (List (Note O)) S)
     (indexed : IsIndexed is_region cover_of outline_of eq same held cells)
     (found sorted result : List ℕ)
     (is : found ≡ flat_map (λ key. numbers_near near (notes_of (get eq cells key))) probes)
@@ -198,14 +199,14 @@ module _ {R K O S : Type 0} (is_region : R → Type 0) (cover_of : R → List K)
   found_under key = numbers_near near (notes_of (get eq cells key))
 
   -- ---- what is found is held
-  noted_held : (same_itself : (o : O) → same o o ≡ true) (n : ℕ) → list_any (nat_eq n) (flat_map found_under probes) ≡ true → IsHeld n held.entries
+  noted_held : (same_itself : (o : O) → same o o ≡ true) (n : ℕ) → list_any (nat_eq n) (flat_map found_under probes) ≡ true → IsHeld n held
   noted_held same_itself n stands =
       let noted = found_noted near n (λ key. notes_of (get eq cells key)) probes same same_itself stands in
-      let there = there_if (λ regions. covers_with eq same cover_of outline_of regions noted.0 noted.1) (tree.get nat_cmp held n)
+      let there = there_if (λ regions. covers_with eq same cover_of outline_of regions noted.0 noted.1) (regions_of held n)
       (indexed.only_notes noted.0 n noted.1 noted.2) in
-      (btree_map_contains_key_iff nat_cmp_total exact_unsigned held n).0 (ap is_some there.1)
+      Contains-keys_from_lookup same_number n held (ap is_some there.1)
 
-  pub near_held : ((o : O) → same o o ≡ true) → All (λ n. IsHeld n held.entries) result
+  pub near_held : ((o : O) → same o o ≡ true) → All (λ n. IsHeld n held) result
   near_held same_itself k d within =
       let n = get_or result k d in
       let there : Contains (dedup nat_eq sorted) n = subst (λ l. Contains l n) once (Contains-get_or result k d within) in
@@ -215,13 +216,13 @@ module _ {R K O S : Type 0} (is_region : R → Type 0) (cover_of : R → List K)
       (Contains-permutation sorted found n (IsPermutation-sym found sorted moved) (Contains-from_dedup nat_eq sorted n there)))
 
   -- ---- the holders are found
-  module _ {L : Type 0} (holds : R → L → Bool) (location : L) (ordered : tree.IsOrdered nat_cmp held)
+  module _ {L : Type 0} (holds : R → L → Bool) (location : L) (ordered : AreRising held)
       (meets : (region : R) → is_region region → holds region location ≡ true → SharesKey (cover_of region) probes)
       (is_near : (region : R) → is_region region → holds region location ≡ true → near (outline_of region) ≡ true)
       (alike_near : (o other : O) → same o other ≡ true → near o ≡ near other) where
     holder_found : (n : ℕ) → is_holder holds location held n ≡ true → list_any (nat_eq n) (flat_map found_under probes) ≡ true
     holder_found n h =
-        let there = there_if (λ regions. list_any (λ region. holds region location) regions) (tree.get nat_cmp held n) h in
+        let there = there_if (λ regions. list_any (λ region. holds region location) regions) (regions_of held n) h in
         let any = Any-from_list_any (λ region. holds region location) there.0 there.2 in
         let stands : Contains there.0 any.1 = (any.0, any.2, any.3) in
         let is_one = indexed.are_regions n there.0 there.1 any.1 stands in
@@ -231,7 +232,7 @@ module _ {R K O S : Type 0} (is_region : R → Type 0) (cover_of : R → List K)
         (indexed.have_notes n there.0 there.1 shared.key (outline_of any.1)
         (record { region = any.1; stands = stands; covered = shared.in_left; outlined = refl }))
 
-    pub near_has : (n : ℕ) → Contains (holders holds location held.entries) n → Contains result n
+    pub near_has : (n : ℕ) → Contains (holders holds location held) n → Contains result n
     near_has n stands =
         subst (λ l. Contains l n) (sym once)
         (Contains-dedup_nat sorted n (Contains-permutation found sorted n moved

@@ -1,7 +1,5 @@
 -- Which kinds of keys are marked, and that nothing is noted under keys of other kinds.
-use Rattle.std.proofs.Common.{◌≡◌, ℕ, ◌+◌, ◌<◌, Bool, true, false, ◌&&◌, cond, List, [], ◌∷◌, ◌++◌, length, take, filter, get_or, All, Contains, nat_cmp, refl, sym, ap, subst, ◌∙◌}
-use Rattle.std.specs.BTreeMap as tree
-use Rattle.std.specs.BTreeMap.{BTreeMap}
+use Rattle.std.proofs.Common.{◌≡◌, ℕ, ◌+◌, ◌<◌, Bool, true, false, ◌&&◌, cond, List, [], ◌∷◌, ◌++◌, length, take, filter, get_or, All, Contains, refl, sym, ap, subst, ◌∙◌}
 use Rattle.std.specs.HashMap.{HashMap, get}
 use Rattle.std.specs.List.{list_any, flat_map}
 use Rattle.std.proofs.lemmas.Bool.{false≢true, and_parts}
@@ -10,6 +8,7 @@ use Rattle.std.proofs.lemmas.List.Concat.{flat_map-append}
 use Rattle.std.proofs.lemmas.List.Elements.{All-contains, All-more, filter_more}
 use Rattle.std.proofs.lemmas.List.Folds.{Any-from_list_any}
 use Rattle.lost_index.specs.declared.note.Note.{Note}
+use Rattle.lost_index.specs.Entries.{regions_of}
 use Rattle.lost_index.specs.Kinds.{has_kind, KeepsKinds, HasKindsOf, IsMarked}
 use Rattle.lost_index.specs.Notes.{notes_of, has_note, HasNote, covers_with, numbers_near, IsIndexed}
 use Rattle.lost_index.proofs.CellLemmas.{first_noted}
@@ -34,7 +33,7 @@ module _ {R K : Type 0} (is_region : R → Type 0) (cover_of : R → List K) (ki
   are_marked kinds regions lawful marked k d within = record { lawful = lawful k d within; marked = marked k d within }
 
   -- an index stays one where more is marked
-  pub IsIndexed-marked : {O S : Type 0} (outline_of : R → O) (eq : K → K → Bool) (same : O → O → Bool) (held : BTreeMap ℕ (List R)) (cells : HashMap K (List (Note O)) S)
+  pub IsIndexed-marked : {O S : Type 0} (outline_of : R → O) (eq : K → K → Bool) (same : O → O → Bool) (held : List (ℕ × List R)) (cells : HashMap K (List (Note O)) S)
       (old new : List Bool) → KeepsKinds old new → IsIndexed (IsMarked is_region cover_of kind_of old) cover_of outline_of eq same held cells
       → IsIndexed (IsMarked is_region cover_of kind_of new) cover_of outline_of eq same held cells
   IsIndexed-marked outline_of eq same held cells old new keeps indexed = record {
@@ -67,13 +66,13 @@ flat_map-filter_more f p xs i x old new within is passes before added =
     (filter_more p xs i x within ∙ ap (λ y. filter p (take i xs) ++ cond (p y) (y ∷ []) []) (sym is) ∙ ap (λ b. filter p (take i xs) ++ cond b (x ∷ []) []) passes))
 
 module _ {R K O S : Type 0} (is_region : R → Type 0) (cover_of : R → List K) (outline_of : R → O) (eq : K → K → Bool) (same : O → O → Bool)
-    (kind_of : K → ℕ) (kinds : List Bool) (held : BTreeMap ℕ (List R)) (cells : HashMap K (List (Note O)) S)
+    (kind_of : K → ℕ) (kinds : List Bool) (held : List (ℕ × List R)) (cells : HashMap K (List (Note O)) S)
     (indexed : IsIndexed (IsMarked is_region cover_of kind_of kinds) cover_of outline_of eq same held cells)
     (of_one_kind : (key other : K) → eq key other ≡ true → kind_of key ≡ kind_of other) (itself : (o : O) → same o o ≡ true) where
   -- the kind of a key with a note is marked
   noted_marked : (key : K) (n : ℕ) (o : O) → HasNote eq same cells key n o → has_kind kinds (kind_of key) ≡ true
   noted_marked key n o noted =
-      let there = there_if (λ regions. covers_with eq same cover_of outline_of regions key o) (tree.get nat_cmp held n) (indexed.only_notes key n o noted) in
+      let there = there_if (λ regions. covers_with eq same cover_of outline_of regions key o) (regions_of held n) (indexed.only_notes key n o noted) in
       let any = Any-from_list_any (λ region. same o (outline_of region) && list_any (eq key) (cover_of region)) there.0 there.2 in
       let stands : Contains there.0 any.1 = (any.0, any.2, any.3) in
       let at = Any-from_list_any (eq key) (cover_of any.1) (and_parts (same o (outline_of any.1)) (list_any (eq key) (cover_of any.1)) any.4).1 in

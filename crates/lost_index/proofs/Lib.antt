@@ -6,6 +6,8 @@ pub mod RemovalLemmas
 pub mod StayLemmas
 pub mod OnlyLemmas
 pub mod DistinctLemmas
+pub mod RisingLemmas
+pub mod ChunkLemmas
 pub mod EntryLemmas
 pub mod IndexLemmas
 pub mod FilterLemmas

@@ -1,3 +1,4 @@
+pub mod Chunks
 pub mod Kinds
 pub mod Notes
 pub mod Entries

@@ -1,12 +1,10 @@
 -- What is noted of numbers under keys (own).
 use Rattle.std.specs.Prelude.{◌≡◌, ◌≢◌, ◌⊎◌, ℕ, Bool, true, false, not, ◌&&◌, ◌||◌, Option, None, Some, List, [], AllPairs, Contains, IfSome, map, filter, nat_eq}
-use Rattle.std.specs.BTreeMap as tree
-use Rattle.std.specs.BTreeMap.{BTreeMap}
 use Rattle.std.specs.HashMap.{HashMap, get}
 use Rattle.std.specs.List.{list_any}
 use Rattle.std.specs.List.Sorted.{IsNonDecreasingBy}
 use Rattle.std.specs.Option.{option_map_or}
-use Rattle.std.specs.Ordering.{nat_cmp}
+use Rattle.lost_index.specs.Entries.{regions_of}
 use Rattle.lost_index.specs.declared.note.Note.{Note}
 
 -- the notes of a cell; none where there is no cell
@@ -99,22 +97,17 @@ module _ {K O S : Type 0} (eq : K → K → Bool) (same : O → O → Bool) wher
   IsNotedOnlyFor cover_of outline_of number regions at cells = (key : K) (outline : O) → at key ≡ true
       → HasNote cells key number outline → covers_with eq same cover_of outline_of regions key outline ≡ true
 
--- whether the number is held, with a region that contains the location
-abbrev pub is_holder : {R L : Type 0} → (R → L → Bool) → L → BTreeMap ℕ (List R) → ℕ → Bool
-is_holder holds location held number =
-    option_map_or (λ regions. list_any (λ region. holds region location) regions) (tree.get nat_cmp held number) false
-
 -- the numbers of those notes whose outline passes
 abbrev pub numbers_near : {O : Type 0} → (O → Bool) → List (Note O) → List ℕ
 numbers_near near notes = map (λ note. note.number) (filter (λ note. near note.outline) notes)
 
 -- what an index keeps: regions, each noted under its cover's keys, and nothing else is noted
 pub record IsIndexed {R K O S : Type 0} (is_region : R → Type 0) (cover_of : R → List K) (outline_of : R → O) (eq : K → K → Bool)
-    (same : O → O → Bool) (held : BTreeMap ℕ (List R)) (cells : HashMap K (List (Note O)) S) : Type 0 where
-  pub are_regions : (number : ℕ) (regions : List R) → tree.get nat_cmp held number ≡ Some regions
+    (same : O → O → Bool) (held : List (ℕ × List R)) (cells : HashMap K (List (Note O)) S) : Type 0 where
+  pub are_regions : (number : ℕ) (regions : List R) → regions_of held number ≡ Some regions
       → (region : R) → Contains regions region → is_region region
-  pub have_notes : (number : ℕ) (regions : List R) → tree.get nat_cmp held number ≡ Some regions
+  pub have_notes : (number : ℕ) (regions : List R) → regions_of held number ≡ Some regions
       → HaveNotes eq same cover_of outline_of number regions cells
   pub only_notes : (key : K) (number : ℕ) (outline : O) → HasNote eq same cells key number outline
-      → some_covers eq same cover_of outline_of (tree.get nat_cmp held number) key outline ≡ true
+      → some_covers eq same cover_of outline_of (regions_of held number) key outline ≡ true
   pub no_empty : HasNoEmptyList eq cells

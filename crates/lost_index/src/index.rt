@@ -6,12 +6,13 @@ ghost use Rattle.lost_index.specs.Entries.{numbers, IsHeld, IsAbove, HasRegions,
 
 use crate::cell::Cell;
 use crate::entry::Entry;
+use crate::held::Held;
 use crate::indexed_region::IndexedRegion;
 use crate::kinds::Kinds;
-use crate::{entries, kinds, notes, search};
+use crate::{kinds, notes, search};
 use lost_profile::Profile;
 use std::alloc::{AllocError, Global};
-use std::collections::{BTreeMap, HashMap};
+use std::collections::HashMap;
 use std::marker::Model;
 
 /// Numbers with their regions, to find the numbers of a location. Contracts see it as the list of (number, regions), in
@@ -20,7 +21,7 @@ use std::marker::Model;
 #[derive(Drop)]
 pub struct Index<P: Profile> {
     alloc: Global,
-    held: BTreeMap<u64, Entry<P>>,
+    held: Held<P>,
     cells: HashMap<P::Key, Cell<P>>,
     kinds: Kinds,
 }
@@ -32,7 +33,7 @@ impl<P: Profile> Model for Index<P> {
 
     ghost Value = { List (ℕ × List P.Region) };
 
-    ghost view = { λ a. a.held.entries };
+    ghost view = { λ a. a.held };
 
     ghost invariant = { λ a. IsIndexed (IsMarked P.is_region P.cover_of P.kind_of a.kinds) P.cover_of P.outline_of P.Key.eq P.Outline.eq a.held a.cells };
 }
@@ -44,7 +45,7 @@ impl<P: Profile> Index<P> {
     {
         Index {
             alloc,
-            held: BTreeMap::new(alloc),
+            held: Held::new(alloc),
             cells: HashMap::new(alloc),
             kinds: Kinds::none(),
         }
@@ -66,7 +67,7 @@ impl<P: Profile> Index<P> {
             none(entry.kept()),
         )?;
         kinds::mark_covers(&mut self.kinds, entry.kept());
-        if let Err(entry) = entries::put(&mut self.held, number, entry) {
+        if let Err(entry) = self.held.put(number, entry) {
             notes::remove_notes(&mut self.cells, number, entry.kept(), none(entry.kept()));
             return Err(AllocError);
         }
@@ -80,11 +81,11 @@ impl<P: Profile> Index<P> {
         ensures refused { OnErr result (self.new ≡ self.old) }
     {
         let mut entry = Entry::new(self.alloc, regions)?;
-        let remaining = entries::kept_of(&self.held, number);
+        let remaining = self.held.kept_of(number);
         notes::add_notes(&mut self.cells, self.alloc, number, entry.kept(), remaining)?;
         kinds::mark_covers(&mut self.kinds, entry.kept());
-        if let Err(refused) = entries::append(&mut self.held, number, &mut entry) {
-            let remaining = entries::kept_of(&self.held, number);
+        if let Err(refused) = self.held.append(number, &mut entry) {
+            let remaining = self.held.kept_of(number);
             notes::remove_notes(&mut self.cells, number, entry.kept(), remaining);
             return Err(refused);
         }
@@ -99,9 +100,9 @@ impl<P: Profile> Index<P> {
         requires within { HasRegions to number self.old }
         ensures { self.new ≡ with_number number (λ held. slice_range held from to) self.old }
     {
-        let kept = entries::kept_of(&self.held, number);
+        let kept = self.held.kept_of(number);
         notes::remove_rest_notes(&mut self.cells, number, kept, from, to);
-        entries::cut(&mut self.held, number, from, to);
+        self.held.cut(number, from, to);
     }
 
     /// Removes a held number with its regions. It takes no memory.
@@ -109,9 +110,7 @@ impl<P: Profile> Index<P> {
         requires { IsHeld number self.old }
         ensures { self.new ≡ without number self.old }
     {
-        let Some(entry) = self.held.remove(&number) else {
-            unreachable!()
-        };
+        let entry = self.held.remove(number);
         notes::remove_notes(&mut self.cells, number, entry.kept(), none(entry.kept()));
     }
 
@@ -124,8 +123,7 @@ impl<P: Profile> Index<P> {
         ensures rising { IfOk result (λ near. IsStrictlyIncreasing near.items) }
         ensures is_location { P.is_location location.now }
     {
-        // Shows to the proof that the numbers rise.
-        let _count = self.held.len();
+        self.held.numbers_rise();
         let mut near = search::found(&self.cells, &self.kinds, self.alloc, location)?;
         near.sort_unstable();
         near.dedup();
@@ -137,10 +135,9 @@ impl<P: Profile> Index<P> {
         ensures holding { IfOk result (λ found. found.items ≡ holders P.holds location.now self.now) }
         ensures rising { IfOk result (λ found. IsStrictlyIncreasing found.items) }
     {
-        // Shows to the proof that the numbers rise.
-        let _count = self.held.len();
+        self.held.numbers_rise();
         let mut found = self.near(location)?;
-        found.retain(|number| entries::contains(&self.held, *number, location));
+        found.retain(|number| self.held.contains(*number, location));
         Ok(found)
     }
 }

@@ -3,8 +3,10 @@
 
 mod cell;
 mod cells;
+mod chunks;
 mod entries;
 mod entry;
+mod held;
 mod index;
 mod indexed_region;
 mod kinds;

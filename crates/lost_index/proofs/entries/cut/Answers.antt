@@ -1,22 +1,47 @@
--- What is written back is the part of the regions.
-use Rattle.std.proofs.Common.{nat_cmp, ap, sym, ◌∙◌}
-use Rattle.std.specs.BTreeMap.{is_at}
+-- A number that is held stands in its chunk.
+use Rattle.std.proofs.Common.{◌<◌, Contains, sym, subst}
 use Rattle.std.specs.List.{slice_range}
-use Rattle.std.specs.Map.{set_value}
-use Rattle.lost_index.proofs.EntryLemmas.{at_same, held_found, contains_found, set_value-with_number}
+use Rattle.lost_index.specs.Chunks.{AreRising}
+use Rattle.lost_index.specs.Entries.{IsHeld}
+use Rattle.lost_index.proofs.ChunkLemmas.{rising_in, within_held, held_here, contains_all, changed_rows, changed_chunks}
 use Rattle.lost_index.proofs.entries.cut.Goals as goal
 
-pub unreachable-requires : goal.unreachable-requires
-unreachable-requires g c = held_found c.args.number c.args.held.now.entries c.requires.held c.in-None.ensures.value
+pub index_mut-requires : goal.index_mut-requires
+index_mut-requires g c =
+    subst (λ len. c.chunk_of-position.result < len) (sym c.args.chunks.now.ok.0)
+    (within_held c.args.number c.args.chunks.now.items c.chunk_of-position.result c.requires.chunks.rising
+    (rw c.deref.ensures.value at c.chunk_of-position.ensures) c.requires.held)
 
-pub cut-requires-clause-within : goal.cut-requires-clause-within
-cut-requires-clause-within g c =
-    c.requires.within c.in-Some.entry.now
-    (contains_found c.args.number c.in-Some.entry.now c.args.held.now.entries (sym c.in-Some.ensures.value))
+pub cut_in-requires-clause-rising : goal.cut_in-requires-clause-rising
+cut_in-requires-clause-rising g c =
+    let cs = c.args.chunks.now.items in
+    subst (λ e. AreRising e.items) (sym c.index_mut.ensures.value)
+    (rising_in cs c.chunk_of-position.result c.index_mut.result.now
+    (within_held c.args.number cs c.chunk_of-position.result c.requires.chunks.rising (rw c.deref.ensures.value at c.chunk_of-position.ensures) c.requires.held)
+    c.requires.chunks.rising)
+
+pub cut_in-requires-clause-held : goal.cut_in-requires-clause-held
+cut_in-requires-clause-held g c =
+    subst (λ e. IsHeld c.args.number e.items) (sym c.index_mut.ensures.value)
+    (held_here c.args.number c.args.chunks.now.items c.chunk_of-position.result c.index_mut.result.now c.requires.chunks.rising
+    (rw c.deref.ensures.value at c.chunk_of-position.ensures) c.requires.held)
+
+pub cut_in-requires-clause-within : goal.cut_in-requires-clause-within
+cut_in-requires-clause-within g c = λ regions stands.
+    let cs = c.args.chunks.now.items in
+    c.requires.within regions
+    (contains_all cs c.chunk_of-position.result c.index_mut.result.now (c.args.number, regions)
+    (within_held c.args.number cs c.chunk_of-position.result c.requires.chunks.rising (rw c.deref.ensures.value at c.chunk_of-position.ensures) c.requires.held)
+    (subst (λ e. Contains e.items (c.args.number, regions)) c.index_mut.ensures.value stands))
+
+pub returns-clause-chunks : goal.returns-clause-chunks
+returns-clause-chunks g c =
+    changed_chunks c.args.number (λ regions. slice_range regions c.args.from c.args.to) c.args.chunks.now.items c.chunk_of-position.result
+    c.index_mut.result.now c.cut_in.new.chunk c.requires.chunks (rw c.deref.ensures.value at c.chunk_of-position.ensures) c.requires.held
+    c.index_mut.ensures.value c.cut_in.ensures
 
 pub returns-clause-cut : goal.returns-clause-cut
 returns-clause-cut g c =
-    let es = c.args.held.now.entries in
-    let test = is_at (nat_cmp c.args.number) in
-    (c.get_mut.follows.holds c.cut.new.self).0 ∙ ap (set_value test es) c.cut.ensures
-    ∙ set_value-with_number c.args.number (λ regions. slice_range regions c.args.from c.args.to) c.in-Some.entry.now test (at_same c.args.number) es (sym c.in-Some.ensures.value)
+    changed_rows c.args.number (λ regions. slice_range regions c.args.from c.args.to) c.args.chunks.now.items c.chunk_of-position.result
+    c.index_mut.result.now c.cut_in.new.chunk c.requires.chunks (rw c.deref.ensures.value at c.chunk_of-position.ensures) c.requires.held
+    c.index_mut.ensures.value c.cut_in.ensures

@@ -22,7 +22,7 @@ returns-clause-holders g c = λ number stands.
     (λ outline. g.P.Profile.may_hold outline location) (g.P.Profile.probes_of location))
     c.sort_unstable.ensures.permutation
     (dedup_is nat_eq c.sort_unstable.new.self.items c.dedup.new.self.items c.dedup.ensures.filtered)
-    g.P.Profile.holds location c.len-count.ensures.ordered
+    g.P.Profile.holds location c.numbers_rise.ensures
     (λ region is_region holds. g.met.P.Profile.cover_meets_probes region location is_region.lawful is_location holds)
     (λ region is_region holds. g.met.P.Profile.holder_is_near region location is_region.lawful is_location holds)
     (λ outline other equal. g.met.P.Profile.equal_outlines_agree outline other location equal)
