@@ -35,7 +35,7 @@ impl<P: Profile> Cell<P> {
     pub(crate) fn of(alloc: Global, note: Note<P::Outline>) -> Result<Cell<P>, AllocError>
         ensures { IfOk result (λ cell. cell ≡ note ∷ []) }
     {
-        let mut notes = Vec::new(alloc);
+        let mut notes = Vec::with_capacity(alloc, 1)?;
         notes.push(note)?;
         Ok(Cell { notes })
     }
