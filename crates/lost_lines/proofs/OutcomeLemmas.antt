@@ -18,31 +18,20 @@ module _ {State : Type 0} (says : ℕ → Bool → Type 0) (step : State → Cut
     spent = λ is. absurd (cc);
   }
 
+  -- a fault came; what else is known of it depends on which
+  IsOutcome-at_fault : (e : ServeError) → IsCutOff says step old new p.unread p.before p.after
+      → (e ≡ Read → IsWholeSoFar says step old new turns.lines p.unread p.left p.before p.after)
+      → (e ≡ TurnsSpent → IsSpent says step old new turns p.unread p.left p.before p.after p.reads p.ended ⊎ IsHeldBack says step old new turns.lines p.unread p.left p.before p.after p.ended)
+      → IsOutcome says step old new turns p (Err e)
+  IsOutcome-at_fault e cut_off whole spent = record { served = tt; within = tt; cut_off = cut_off; whole = λ is. whole (cc); spent = λ is. spent (cc) }
+
   pub IsOutcome-at_read : IsCutOff says step old new p.unread p.before p.after → IsWholeSoFar says step old new turns.lines p.unread p.left p.before p.after → IsOutcome says step old new turns p (Err Read)
-  IsOutcome-at_read cut_off whole = record {
-    served = tt;
-    within = tt;
-    cut_off = cut_off;
-    whole = λ is. whole;
-    spent = λ is. absurd (cc);
-  }
+  IsOutcome-at_read cut_off whole = IsOutcome-at_fault Read cut_off (λ is. whole) (λ is. absurd (cc))
 
   pub IsOutcome-at_write : (e : ServeError) → e ≡ Write → IsCutOff says step old new p.unread p.before p.after → IsOutcome says step old new turns p (Err e)
-  IsOutcome-at_write e at_write cut_off = record {
-    served = tt;
-    within = tt;
-    cut_off = cut_off;
-    whole = λ is. absurd (cc);
-    spent = λ is. absurd (cc);
-  }
+  IsOutcome-at_write e at_write cut_off = IsOutcome-at_fault e cut_off (λ is. absurd (cc)) (λ is. absurd (cc))
 
   pub IsOutcome-at_turns : IsCutOff says step old new p.unread p.before p.after
       → IsSpent says step old new turns p.unread p.left p.before p.after p.reads p.ended ⊎ IsHeldBack says step old new turns.lines p.unread p.left p.before p.after p.ended
       → IsOutcome says step old new turns p (Err TurnsSpent)
-  IsOutcome-at_turns cut_off spent = record {
-    served = tt;
-    within = tt;
-    cut_off = cut_off;
-    whole = λ is. absurd (cc);
-    spent = λ is. spent;
-  }
+  IsOutcome-at_turns cut_off spent = IsOutcome-at_fault TurnsSpent cut_off (λ is. absurd (cc)) (λ is. spent)

@@ -62,6 +62,10 @@ module _ {State : Type 0} (step : State → Cut → Reply → State → Type 0) 
     written = rw text_of-append (AppendsFront-append a.contents b.contents c.contents (gathered_of a.server) (gathered_of b.server) (text_of first.replies) (text_of second.replies) first.sending second.written);
   }
 
+  -- what was sent of the replies is a front of them
+  pub Breaks-from_serves : (a b : Point State) (ls : List Text) → Serves step a b ls → Breaks step a b ls
+  Breaks-from_serves a b ls s = record { replies = s.replies; run = s.run; written = (s.sending.sent, gathered_of b.server, s.sending.whole, s.sending.appended) }
+
   -- further bytes are taken
   pub Moves-append : (a b c : Point State) (piece f g : Text) → Moves step a b piece f → Advances step b c g → Moves step a c piece (f ++ g)
   Moves-append a b c piece f g m second =

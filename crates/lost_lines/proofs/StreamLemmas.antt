@@ -17,7 +17,7 @@ use Rattle.lost_lines.specs.Gate.{Through, IsHeldAt}
 use Rattle.lost_lines.specs.Serving.{Point, Adds, Serves, Breaks, Moves, Advances, Fails, TakesUpTo, cutter_of, gathered_of, server_counts, server_most}
 use Rattle.lost_lines.proofs.CuttingLemmas.{lines_of-append, lines_of-cut, ended_lines-append, cut-line}
 use Rattle.lost_lines.proofs.RunLemmas.{Run-plain, LetThrough-from_run}
-use Rattle.lost_lines.proofs.ServingLemmas.{Serves-append, Breaks-after, Moves-append, Stops-after, Advances-none}
+use Rattle.lost_lines.proofs.ServingLemmas.{Serves-append, Breaks-after, Breaks-from_serves, Moves-append, Stops-after, Advances-none}
 
 -- the counts of a point where nothing was answered yet
 abbrev pub no_counts : Counts
@@ -29,6 +29,11 @@ pub record Reads {State : Type 0} (step : State → Cut → Reply → State → 
   pub read : Consumes unread left consumed
   pub moves : Moves step a b [] consumed
   pub settled : gathered_of b.server ≡ []
+
+-- the same, up to the end of the stream
+pub record ReadsAll {State : Type 0} (step : State → Cut → Reply → State → Type 0) (a b : Point State) (unread left : Option Text) : Type 0 where
+  pub reads : Reads step a b unread left
+  pub at_end : IsAtEnd left
 
 -- nothing was served yet
 pub record IsStart {State : Type 0} (p : Point (ℕ × State)) : Type 0 where
@@ -56,9 +61,6 @@ Appends-from_sends : (a b : Option Text) (ag bg text : Text) → ag ≡ [] → b
 Appends-from_sends a b ag bg text first second sends =
     let whole : text ≡ sends.sent = ap (λ l. l ++ text) (sym first) ∙ sends.whole ∙ ap (λ l. sends.sent ++ l) second ∙ append-nil sends.sent in
     rw whole sends.appended
-
-AppendsFront-from_appends : (a b : Option Text) (text : Text) → Appends a b text → AppendsFront a b text
-AppendsFront-from_appends a b text all = (text, [], sym (append-nil text), all)
 
 -- the lines of a front of a stream begin its lines
 begins-front : (unread left : Option Text) (consumed : Text) (lines : List Text) (piece : Text) → Consumes unread left consumed → cut consumed ≡ (lines, piece)
@@ -148,24 +150,33 @@ module _ {State : Type 0} (step : State → Cut → Reply → State → Type 0) 
   }
 
   -- the end of the stream is read
-  pub Reads-end : (a b : Point State) (unread left now : Option Text) → Reads step a b unread left → Consumes left now [] → Reads step a b unread now
-  Reads-end a b unread left now r read = record {
-    consumed = r.consumed;
-    read = rw append-nil at (Consumes-trans unread left now r.consumed [] r.read read);
-    moves = r.moves;
-    settled = r.settled;
+  pub Reads-end : (a b : Point State) (unread left now : Option Text) → Reads step a b unread left → Consumes left now [] → IsAtEnd now → ReadsAll step a b unread now
+  Reads-end a b unread left now r read at_end = record {
+    reads = record {
+      consumed = r.consumed;
+      read = rw append-nil at (Consumes-trans unread left now r.consumed [] r.read read);
+      moves = r.moves;
+      settled = r.settled;
+    };
+    at_end = at_end;
   }
 
 module _ {State : Type 0} (says : ℕ → Bool → Type 0) (step : State → Cut → Reply → State → Type 0) where
-  pub IsCutOff-from_reads : (a b : Point (ℕ × State)) (unread left : Option Text) → IsStart a → Reads (Through says step) a b unread left → IsCutOff says step a.answerer.1 b.answerer.1 unread a.contents b.contents
-  IsCutOff-from_reads a b unread left start r = record {
-    lines = r.moves.lines;
-    replies = r.moves.serves.replies;
-    run = Run-plain says step a.answerer b.answerer r.moves.lines r.moves.serves.replies r.moves.serves.run;
-    let_through = LetThrough-from_run says step a.answerer b.answerer r.moves.lines r.moves.serves.replies start.numbered r.moves.serves.run;
-    read = begins-front unread left r.consumed r.moves.lines r.moves.rest r.read r.moves.cuts;
-    written = AppendsFront-from_appends a.contents b.contents (text_of r.moves.serves.replies) (Appends-from_sends a.contents b.contents (gathered_of a.server) (gathered_of b.server) (text_of r.moves.serves.replies) start.settled r.settled r.moves.serves.sending);
+  -- a fault came after lines of the stream were answered
+  IsCutOff-from_breaks : (a b : Point (ℕ × State)) (unread : Option Text) (lines : List Text) → IsStart a → Breaks (Through says step) a b lines → IfSome unread (λ bytes. (rest : List Text) × (lines_of bytes ≡ lines ++ rest))
+      → IsCutOff says step a.answerer.1 b.answerer.1 unread a.contents b.contents
+  IsCutOff-from_breaks a b unread lines start s begins = record {
+    lines = lines;
+    replies = s.replies;
+    run = Run-plain says step a.answerer b.answerer lines s.replies s.run;
+    let_through = LetThrough-from_run says step a.answerer b.answerer lines s.replies start.numbered s.run;
+    read = begins;
+    written = AppendsFront-from_start a.contents b.contents (gathered_of a.server) (text_of s.replies) start.settled s.written;
   }
+
+  pub IsCutOff-from_reads : (a b : Point (ℕ × State)) (unread left : Option Text) → IsStart a → Reads (Through says step) a b unread left → IsCutOff says step a.answerer.1 b.answerer.1 unread a.contents b.contents
+  IsCutOff-from_reads a b unread left start r =
+      IsCutOff-from_breaks a b unread r.moves.lines start (Breaks-from_serves (Through says step) a b r.moves.lines r.moves.serves) (begins-front unread left r.consumed r.moves.lines r.moves.rest r.read r.moves.cuts)
 
   pub IsWholeSoFar-from_reads : (a b : Point (ℕ × State)) (most : ℕ) (unread left : Option Text) → IsStart a → Reads (Through says step) a b unread left → (server_counts b.server).lines ≤ most
       → IsWholeSoFar says step a.answerer.1 b.answerer.1 most unread left a.contents b.contents
@@ -192,47 +203,36 @@ module _ {State : Type 0} (says : ℕ → Bool → Type 0) (step : State → Cut
     spent = inr (made, not_ended);
   }
 
-  pub IsServed-from_end : (a b c : Point (ℕ × State)) (unread left : Option Text) → IsStart a → (r : Reads (Through says step) a b unread left) → IsAtEnd left → Serves (Through says step) b c (piece_lines r.moves.rest) → gathered_of c.server ≡ []
+  pub IsServed-from_end : (a b c : Point (ℕ × State)) (unread left : Option Text) → IsStart a → (r : ReadsAll (Through says step) a b unread left) → Serves (Through says step) b c (piece_lines r.reads.moves.rest) → gathered_of c.server ≡ []
       → IsServed says step a.answerer.1 c.answerer.1 unread a.contents c.contents (server_counts c.server)
-  IsServed-from_end a b c unread left start r end last settled =
-      let s = Serves-append (Through says step) a b c r.moves.lines (piece_lines r.moves.rest) r.moves.serves last in
-      let lines = r.moves.lines ++ piece_lines r.moves.rest in
+  IsServed-from_end a b c unread left start r last settled =
+      let m = r.reads.moves in
+      let lines = m.lines ++ piece_lines m.rest in
+      let s = Serves-append (Through says step) a b c m.lines (piece_lines m.rest) m.serves last in
       record {
         lines = lines;
         replies = s.replies;
         run = Run-plain says step a.answerer c.answerer lines s.replies s.run;
         let_through = LetThrough-from_run says step a.answerer c.answerer lines s.replies start.numbered s.run;
-        read = lines_of-whole unread left r.consumed r.moves.lines r.moves.rest r.read end r.moves.cuts;
+        read = lines_of-whole unread left r.reads.consumed m.lines m.rest r.reads.read r.at_end m.cuts;
         written = Appends-from_sends a.contents c.contents (gathered_of a.server) (gathered_of c.server) (text_of s.replies) start.settled settled s.sending;
         counted = AreCounts-from_adds (server_counts a.server) (server_counts c.server) lines s.replies start.counts s.counted;
       }
 
-  pub IsCutOff-from_end : (a b c : Point (ℕ × State)) (unread left : Option Text) → IsStart a → (r : Reads (Through says step) a b unread left) → IsAtEnd left → Breaks (Through says step) b c (piece_lines r.moves.rest)
+  pub IsCutOff-from_end : (a b c : Point (ℕ × State)) (unread left : Option Text) → IsStart a → (r : ReadsAll (Through says step) a b unread left) → Breaks (Through says step) b c (piece_lines r.reads.moves.rest)
       → IsCutOff says step a.answerer.1 c.answerer.1 unread a.contents c.contents
-  IsCutOff-from_end a b c unread left start r end last =
-      let s = Breaks-after (Through says step) a b c r.moves.lines (piece_lines r.moves.rest) r.moves.serves last in
-      let lines = r.moves.lines ++ piece_lines r.moves.rest in
-      record {
-        lines = lines;
-        replies = s.replies;
-        run = Run-plain says step a.answerer c.answerer lines s.replies s.run;
-        let_through = LetThrough-from_run says step a.answerer c.answerer lines s.replies start.numbered s.run;
-        read = begins-whole unread lines (lines_of-whole unread left r.consumed r.moves.lines r.moves.rest r.read end r.moves.cuts);
-        written = AppendsFront-from_start a.contents c.contents (gathered_of a.server) (text_of s.replies) start.settled s.written;
-      }
+  IsCutOff-from_end a b c unread left start r last =
+      let m = r.reads.moves in
+      let lines = m.lines ++ piece_lines m.rest in
+      let begins = begins-whole unread lines (lines_of-whole unread left r.reads.consumed m.lines m.rest r.reads.read r.at_end m.cuts) in
+      IsCutOff-from_breaks a c unread lines start (Breaks-after (Through says step) a b c m.lines (piece_lines m.rest) m.serves last) begins
 
   pub IsCutOff-from_stops : (a b c : Point (ℕ × State)) (unread left now : Option Text) (chunk : Text) → IsStart a → Reads (Through says step) a b unread left → Consumes left now chunk → Fails (Through says step) b c chunk
       → IsCutOff says step a.answerer.1 c.answerer.1 unread a.contents c.contents
   IsCutOff-from_stops a b c unread left now chunk start r read fails =
       let s = Stops-after (Through says step) a b c [] r.consumed chunk r.moves fails in
-      record {
-        lines = s.lines;
-        replies = s.breaks.replies;
-        run = Run-plain says step a.answerer c.answerer s.lines s.breaks.replies s.breaks.run;
-        let_through = LetThrough-from_run says step a.answerer c.answerer s.lines s.breaks.replies start.numbered s.breaks.run;
-        read = begins-ended unread now (r.consumed ++ chunk) s.lines s.others (Consumes-trans unread left now r.consumed chunk r.read read) s.begins;
-        written = AppendsFront-from_start a.contents c.contents (gathered_of a.server) (text_of s.breaks.replies) start.settled s.breaks.written;
-      }
+      let begins = begins-ended unread now (r.consumed ++ chunk) s.lines s.others (Consumes-trans unread left now r.consumed chunk r.read read) s.begins in
+      IsCutOff-from_breaks a c unread s.lines start s.breaks begins
 
   -- a byte stands past the last line that may be answered
   pub IsSpent-from_rest : (a b c : Point (ℕ × State)) (turns : Turns) (unread left now : Option Text) (chunk rest : Text) (reads : ℕ) (has_ended : Bool) → IsStart a → Reads (Through says step) a b unread left → Consumes left now chunk → TakesUpTo says (Through says step) b c chunk rest
@@ -258,18 +258,13 @@ module _ {State : Type 0} (says : ℕ → Bool → Type 0) (step : State → Cut
       }
 
   pub IsCutOff-from_rest : (a b c : Point (ℕ × State)) (unread left now : Option Text) (chunk rest : Text) → IsStart a → Reads (Through says step) a b unread left → Consumes left now chunk → TakesUpTo says (Through says step) b c chunk rest
-      → gathered_of c.server ≡ [] → IsCutOff says step a.answerer.1 c.answerer.1 unread a.contents c.contents
-  IsCutOff-from_rest a b c unread left now chunk rest start r read takes settled =
+      → IsCutOff says step a.answerer.1 c.answerer.1 unread a.contents c.contents
+  IsCutOff-from_rest a b c unread left now chunk rest start r read takes =
       let front = takes.taken.front in
       let m = Moves-append (Through says step) a b c [] r.consumed front r.moves takes.taken.advances in
-      record {
-        lines = m.lines;
-        replies = m.serves.replies;
-        run = Run-plain says step a.answerer c.answerer m.lines m.serves.replies m.serves.run;
-        let_through = LetThrough-from_run says step a.answerer c.answerer m.lines m.serves.replies start.numbered m.serves.run;
-        read = begins-ended unread now (r.consumed ++ chunk) m.lines (ended_lines (m.rest ++ rest)) (Consumes-trans unread left now r.consumed chunk r.read read) (ended_lines-front r.consumed front chunk rest m.lines m.rest takes.taken.splits m.cuts);
-        written = AppendsFront-from_appends a.contents c.contents (text_of m.serves.replies) (Appends-from_sends a.contents c.contents (gathered_of a.server) (gathered_of c.server) (text_of m.serves.replies) start.settled settled m.serves.sending);
-      }
+      let ended = ended_lines-front r.consumed front chunk rest m.lines m.rest takes.taken.splits m.cuts in
+      let begins = begins-ended unread now (r.consumed ++ chunk) m.lines (ended_lines (m.rest ++ rest)) (Consumes-trans unread left now r.consumed chunk r.read read) ended in
+      IsCutOff-from_breaks a c unread m.lines start (Breaks-from_serves (Through says step) a c m.lines m.serves) begins
 
   -- the gate refused a line whose byte 10 was read
   pub IsHeldBack-from_rest : (a b c : Point (ℕ × State)) (most : ℕ) (unread left now : Option Text) (chunk rest : Text) (has_ended : Bool) → IsStart a → Reads (Through says step) a b unread left → Consumes left now chunk → TakesUpTo says (Through says step) b c chunk rest

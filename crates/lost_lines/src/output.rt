@@ -2,7 +2,7 @@
 ghost use Rattle.std.specs.Prelude.{◌≡◌, ◌<◌, ◌≤◌, ◌++◌, [], false, if◌then◌else◌, take, length, IfOk, OnOk, OnErr};
 ghost use Rattle.std.specs.Io.KnownBytes.{Keeps, Appends};
 ghost use Rattle.lost_lines.specs.Watched.{inner_of, is_unflushed};
-ghost use Rattle.lost_lines.specs.Sending.{Sends, SetsFlag};
+ghost use Rattle.lost_lines.specs.Sending.{Sends, SendsUpTo, SetsFlag};
 ghost use Rattle.lost_lines.specs.Stream.{AppendsFront};
 
 use crate::fault::ServeError;
@@ -66,11 +66,8 @@ pub(crate) fn settle<W: Write>(
     gathered: &mut Vec<u8>,
     output: &mut Watched<W>,
 ) -> Result<(), ServeError>
-    ensures ok { OnOk result (Appends (W.contents (inner_of output.old)) (W.contents (inner_of output.new))
-        gathered.old.items) }
+    ensures sent { SendsUpTo (W.contents (inner_of output.old)) (W.contents (inner_of output.new)) gathered.old.items result }
     ensures empty { OnOk result (gathered.new.items ≡ []) }
-    ensures err { OnErr result (AppendsFront (W.contents (inner_of output.old)) (W.contents (inner_of output.new))
-        gathered.old.items) }
     ensures flag { SetsFlag output.old output.new result }
     ensures flushed { OnOk result (is_unflushed output.new ≡ false) }
 {
@@ -80,11 +77,8 @@ pub(crate) fn settle<W: Write>(
 
 /// Sends the gathered bytes.
 fn release<W: Write>(gathered: &mut Vec<u8>, output: &mut Watched<W>) -> Result<(), ServeError>
-    ensures ok { OnOk result (Appends (W.contents (inner_of output.old)) (W.contents (inner_of output.new))
-        gathered.old.items) }
+    ensures sent { SendsUpTo (W.contents (inner_of output.old)) (W.contents (inner_of output.new)) gathered.old.items result }
     ensures empty { OnOk result (gathered.new.items ≡ []) }
-    ensures err { OnErr result (AppendsFront (W.contents (inner_of output.old)) (W.contents (inner_of output.new))
-        gathered.old.items) }
     ensures flag { SetsFlag output.old output.new result }
 {
     send(output, gathered.as_slice())?;
@@ -94,10 +88,7 @@ fn release<W: Write>(gathered: &mut Vec<u8>, output: &mut Watched<W>) -> Result<
 
 /// Writes all the bytes.
 fn send<W: Write>(output: &mut Watched<W>, bytes: &[u8]) -> Result<(), ServeError>
-    ensures ok { OnOk result (Appends (W.contents (inner_of output.old)) (W.contents (inner_of output.new))
-        bytes.now) }
-    ensures err { OnErr result (AppendsFront (W.contents (inner_of output.old)) (W.contents (inner_of output.new))
-        bytes.now) }
+    ensures sent { SendsUpTo (W.contents (inner_of output.old)) (W.contents (inner_of output.new)) bytes.now result }
     ensures flag { SetsFlag output.old output.new result }
 {
     let mut rest = bytes;

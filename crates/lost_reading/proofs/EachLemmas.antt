@@ -1,5 +1,5 @@
 -- Each item of a list by one kind, and each member of an object by its text, as far as a loop has come.
-use Rattle.std.proofs.Common.{◌≡◌, ℕ, zero, suc, ◌+◌, ◌<◌, List, [], ◌∷◌, ◌++◌, length, take, get_or, add-one, Option, Some, None, option_map, option_and_then, ℤ, String, Global, string_bytes, refl, sym, ap, ◌∙◌, arith}
+use Rattle.std.proofs.Common.{◌≡◌, ℕ, zero, suc, ◌+◌, ◌<◌, List, [], ◌∷◌, ◌++◌, length, take, get_or, add-one, Option, Some, None, option_map, option_and_then, ℤ, String, Global, string_bytes, refl, sym, ap, ◌∙◌, arith, append_assoc}
 use Rattle.std.proofs.lemmas.List.{map-append}
 use Rattle.serde_json.specs.Data.{Data}
 use Rattle.serde_json.specs.Find.{as_str}
@@ -108,6 +108,14 @@ pairs_of-more done e pairs name text named now h =
     ∙ ap Some (ap (λ n. seen_pairs pairs ++ (n, string_bytes text) ∷ []) (sym named) ∙ sym (map-append seen_pair pairs ((name, text) ∷ [])))
 
 -- a member whose value is no text
-pub pairs_of-None : (done : List Entry) (e : Entry) (left : List Entry) → as_str (view e.1) ≡ None → pairs_of (members_view (done ++ e ∷ left)) ≡ None
+pairs_of-None : (done : List Entry) (e : Entry) (left : List Entry) → as_str (view e.1) ≡ None → pairs_of (members_view (done ++ e ∷ left)) ≡ None
 pairs_of-None [] e left now = rw now refl
 pairs_of-None (first ∷ done) e left now = before-None (λ t. (string_bytes first.0, t)) (as_str (view first.1)) _ (pairs_of-None done e left now)
+
+-- the same at a place of a walk over the members
+pub pairs_of-at_None : (all done rest left : List Entry) (e : Entry) → all ≡ done ++ rest → rest ≡ e ∷ left → as_str (view e.1) ≡ None → pairs_of (members_view all) ≡ None
+pairs_of-at_None all done rest left e splits steps none = ap (λ es. pairs_of (members_view es)) (splits ∙ ap (λ es. done ++ es) steps) ∙ pairs_of-None done e left none
+
+-- a walk over a list, one step on
+pub one_step_on : {A : Type 0} (all done rest left : List A) (e : A) → all ≡ done ++ rest → rest ≡ e ∷ left → all ≡ (done ++ e ∷ []) ++ left
+one_step_on all done rest left e splits steps = splits ∙ ap (λ es. done ++ es) steps ∙ sym (append_assoc done (e ∷ []) left)

@@ -107,29 +107,22 @@ order_at name other value kept e same =
     ap (λ o. if is_desk_name name then Some (unwrap_or o (Err BadLine)) else None) (over (order_named name) (order_same name) (as_object value) (as_object kept) same)
     ∙ ap (λ n. order_of_member (n, kept)) e
 
-request_one : (all kept : Members) → HaveSameNames all kept → option_and_then request_of_member (one_of all) ≡ option_and_then request_of_member (one_of kept)
-request_one no_members no_members same = refl
-request_one no_members (member l w ns) same = absurd same
-request_one (member k v ms) no_members same = absurd same
-request_one (member k v no_members) (member l w no_members) same = request_at k l v w same.0 same.1
-request_one (member k v no_members) (member l w (member m x ns)) same = absurd same.2
-request_one (member k v (member m x ms)) (member l w no_members) same = absurd same.2
-request_one (member k v (member m x ms)) (member l w (member n y ns)) same = refl
-
-order_one : (all kept : Members) → HaveSameNames all kept → option_and_then order_of_member (one_of all) ≡ option_and_then order_of_member (one_of kept)
-order_one no_members no_members same = refl
-order_one no_members (member l w ns) same = absurd same
-order_one (member k v ms) no_members same = absurd same
-order_one (member k v no_members) (member l w no_members) same = order_at k l v w same.0 same.1
-order_one (member k v no_members) (member l w (member m x ns)) same = absurd same.2
-order_one (member k v (member m x ms)) (member l w no_members) same = absurd same.2
-order_one (member k v (member m x ms)) (member l w (member n y ns)) same = refl
+-- what one member gives, whatever that is
+one_alike : {Thing : Type 0} (f : Text × Data → Option Thing) → ((name other : Text) (value kept : Data) → name ≡ other → AreObjects HaveSameKnown (as_object value) (as_object kept) → f (name, value) ≡ f (other, kept))
+    → (all kept : Members) → HaveSameNames all kept → option_and_then f (one_of all) ≡ option_and_then f (one_of kept)
+one_alike f alike no_members no_members same = refl
+one_alike f alike no_members (member l w ns) same = absurd same
+one_alike f alike (member k v ms) no_members same = absurd same
+one_alike f alike (member k v no_members) (member l w no_members) same = alike k l v w same.0 same.1
+one_alike f alike (member k v no_members) (member l w (member m x ns)) same = absurd same.2
+one_alike f alike (member k v (member m x ms)) (member l w no_members) same = absurd same.2
+one_alike f alike (member k v (member m x ms)) (member l w (member n y ns)) same = refl
 
 pub request_names : (all kept : Members) → HaveSameNames all kept → request_in (object all) ≡ request_in (object kept)
-request_names all kept same = request_one all kept same
+request_names all kept same = one_alike request_of_member request_at all kept same
 
 pub order_names : (all kept : Members) → HaveSameNames all kept → order_in (object all) ≡ order_in (object kept)
-order_names all kept same = order_one all kept same
+order_names all kept same = one_alike order_of_member order_at all kept same
 
 three : (o : Ordering) (a b c d e f : Members) → HaveSameNames a d → HaveSameNames b e → HaveSameNames c f
     → HaveSameNames (match_ordering o a b c) (match_ordering o d e f)

@@ -3,6 +3,7 @@ pub mod DeskLemmas
 pub mod EachLemmas
 pub mod FitLemmas
 pub mod LocationLemmas
+pub mod NumberLemmas
 pub mod PatternLemmas
 pub mod PositionLemmas
 pub mod TreeLemmas

@@ -6,7 +6,7 @@ use Rattle.json.specs.declared.token.Token as declared
 use Rattle.json.specs.declared.token.Token.TheVariants as code
 use Rattle.json.specs.Json as json
 use Rattle.json.specs.Json.{Parse, parse_map, after_end_array, read_key, items_step, items, members, value, if_last}
-use Rattle.json.proofs.Grammar.{value_is, value-begin_object, items_end, items_more, members_end, members_no_key, members_more}
+use Rattle.json.proofs.Grammar.{value_is, value-begin_object, items_end, items_more, members_end, members_no_key, members_more, read_key-shorter}
 use Rattle.serde_json.specs.Data.{Num, Data, null, boolean, number, string, array, object, Items, no_items, item, Members, no_members, put}
 use Rattle.serde_json.specs.Find.{as_object}
 use Rattle.serde_json.specs.Read.{number_of, of_json, of_items, of_members, converted}
@@ -99,8 +99,9 @@ module _ (p : Parse json.Json) where
     pub members_over : (n : ℕ) (ts r : List Token) → length ts ≤ n → read_key ts ≡ Some (None, r) → converted (λ ms. of_members ms old) (members p n ts) ≡ Some (old, r)
     members_over n ts r enough e = ap (converted (λ ms. of_members ms old)) (members_end p n ts r enough e)
 
--- ---- a list that grows at its end
+-- ---- the items of an array, read up to some tokens
 
+-- a list that grows at its end
 abbrev pub items_before : List Value → Items → Items
 items_before [] rest = rest
 items_before (v ∷ vs) rest = item (view v) (items_before vs rest)
@@ -109,17 +110,95 @@ pub items_before-no_items : (vs : List Value) → items_before vs no_items ≡ i
 items_before-no_items [] = refl
 items_before-no_items (v ∷ vs) = ap (item (view v)) (items_before-no_items vs)
 
-items_push : (vs : List Value) (v : Value) (rest : Items) → items_before vs (item (view v) rest) ≡ items_before (vs ++ v ∷ []) rest
-items_push [] v rest = refl
-items_push (w ∷ vs) v rest = ap (item (view w)) (items_push vs v rest)
+pub items_before-push : (vs : List Value) (v : Value) (rest : Items) → items_before vs (item (view v) rest) ≡ items_before (vs ++ v ∷ []) rest
+items_before-push [] v rest = refl
+items_before-push (w ∷ vs) v rest = ap (item (view w)) (items_before-push vs v rest)
 
-pub one_more_item : (vs : List Value) (v : Value) (r : Option (Items × List Token)) → parse_map (items_before vs) (parse_map (item (view v)) r) ≡ parse_map (items_before (vs ++ v ∷ [])) r
-one_more_item vs v None = refl
-one_more_item vs v (Some p) = ap (λ ds. Some (ds, p.1)) (items_push vs v p.0)
+both : (before : Items → Items) (d : Data) (o : Option (Items × List Token)) → parse_map before (parse_map (item d) o) ≡ parse_map (λ rest. before (item d rest)) o
+both before d None = refl
+both before d (Some p) = refl
 
-pub none_before : (r : Option (Items × List Token)) → r ≡ parse_map (λ a. a) r
+none_before : (o : Option (Items × List Token)) → o ≡ parse_map (λ rest. rest) o
 none_before None = refl
 none_before (Some p) = refl
+
+abbrev pub items_of : ℕ → List Token → Option (Items × List Token)
+items_of depth ts = converted of_items (items (value depth) (length ts) ts)
+
+-- items were read, from some tokens to others; those that were read, put before the rest, are like this
+pub record HasReadItems (Alike : (Items → Items) → Type 0) (depth : ℕ) (start now : List Token) : Type 0 where
+  pub bound : ℕ
+  pub before : Items → Items
+  pub enough : length now ≤ bound
+  pub read : items_of depth start ≡ parse_map before (converted of_items (items (value depth) bound now))
+  pub like : Alike before
+  pub no_longer : length now ≤ length start
+
+pub items_begun : {Alike : (Items → Items) → Type 0} (depth : ℕ) (ts : List Token) → Alike (λ rest. rest) → HasReadItems Alike depth ts ts
+items_begun depth ts like = record { bound = length ts; before = λ rest. rest; enough = omega arith; read = none_before (items_of depth ts); like = like; no_longer = omega arith }
+
+module _ {Alike : (Items → Items) → Type 0} (depth : ℕ) (start ts : List Token) (so_far : HasReadItems Alike depth start ts) where
+  pub items_more_read : {After : (Items → Items) → Type 0} (r : List Token) (d : Data) → after_end_array ts ≡ None → converted of_json (value depth ts) ≡ Some (d, r) → length r < length ts
+      → ((before : Items → Items) → Alike before → After (λ rest. before (item d rest))) → HasReadItems After depth start r
+  items_more_read r d going e less after =
+      let enough = so_far.enough in
+      let no_longer = so_far.no_longer in
+      record {
+        bound = so_far.bound - 1;
+        before = λ rest. so_far.before (item d rest);
+        enough = omega arith;
+        read = so_far.read ∙ ap (parse_map so_far.before) (item_read (value depth) so_far.bound ts r d (omega arith) going e) ∙ both so_far.before d _;
+        like = after so_far.before so_far.like;
+        no_longer = omega arith;
+      }
+
+  pub items_stopped : after_end_array ts ≡ None → converted of_json (value depth ts) ≡ None → items_of depth start ≡ None
+  items_stopped going e = so_far.read ∙ ap (parse_map so_far.before) (item_refused (value depth) so_far.bound ts going e)
+
+  pub items_done : (r : List Token) → after_end_array ts ≡ Some r → items_of depth start ≡ Some (so_far.before no_items, r)
+  items_done r over = so_far.read ∙ ap (parse_map so_far.before) (items_over (value depth) so_far.bound ts r so_far.enough over)
+
+-- ---- the members of an object, read up to some tokens
+
+abbrev pub all_members : ℕ → List Token → Option (Members × List Token)
+all_members depth ts = converted (λ ms. of_members ms no_members) (members (value depth) (length ts) ts)
+
+-- members were read, from some tokens to others, and make members like this
+pub record HasReadMembers (Alike : Members → Type 0) (depth : ℕ) (start now : List Token) : Type 0 where
+  pub bound : ℕ
+  pub all : Members
+  pub enough : length now ≤ bound
+  pub read : all_members depth start ≡ converted (λ ms. of_members ms all) (members (value depth) bound now)
+  pub like : Alike all
+  pub no_longer : length now ≤ length start
+
+pub members_begun : {Alike : Members → Type 0} (depth : ℕ) (ts : List Token) → Alike no_members → HasReadMembers Alike depth ts ts
+members_begun depth ts like = record { bound = length ts; all = no_members; enough = omega arith; read = refl; like = like; no_longer = omega arith }
+
+module _ {Alike : Members → Type 0} (depth : ℕ) (start ts : List Token) (so_far : HasReadMembers Alike depth start ts) where
+  pub members_more_read : {After : Members → Type 0} (k : List ℕ) (s r : List Token) (d : Data) → read_key ts ≡ Some (Some k, s) → converted of_json (value depth s) ≡ Some (d, r) → length r < length s
+      → ((all : Members) → Alike all → After (put k d all)) → HasReadMembers After depth start r
+  members_more_read k s r d key e less after =
+      let enough = so_far.enough in
+      let no_longer = so_far.no_longer in
+      let shorter = read_key-shorter ts (Some k) s key in
+      record {
+        bound = so_far.bound - 1;
+        all = put k d so_far.all;
+        enough = omega arith;
+        read = so_far.read ∙ member_read (value depth) so_far.all so_far.bound k ts s r d (omega arith) key e;
+        like = after so_far.all so_far.like;
+        no_longer = omega arith;
+      }
+
+  pub members_stopped : (k : List ℕ) (s : List Token) → read_key ts ≡ Some (Some k, s) → converted of_json (value depth s) ≡ None → all_members depth start ≡ None
+  members_stopped k s key e = so_far.read ∙ member_refused (value depth) so_far.all so_far.bound k ts s key e
+
+  pub keys_stopped : read_key ts ≡ None → all_members depth start ≡ None
+  keys_stopped e = so_far.read ∙ key_refused (value depth) so_far.all so_far.bound ts e
+
+  pub members_done : (r : List Token) → read_key ts ≡ Some (None, r) → (all : Members) × (all_members depth start ≡ Some (all, r)) × Alike all
+  members_done r over = (so_far.all, so_far.read ∙ members_over (value depth) so_far.all so_far.bound ts r so_far.enough over, so_far.like)
 
 -- ---- the whole text
 

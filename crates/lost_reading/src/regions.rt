@@ -135,10 +135,7 @@ fn kind_with(members: &Map<String, Value>, kind: Option<PlaceKind>) -> Option<Pl
 fn has_ring(members: &Map<String, Value>) -> bool
     ensures { result ≡ is_region (ring_region (the_member (codes "polygon") (members_view members.now.entries))) }
 {
-    match member(members, "polygon") {
-        Some(value) => is_ring(value),
-        None => false,
-    }
+    member(members, "polygon").is_some_and(is_ring)
 }
 
 fn is_ring(value: &Value) -> bool
@@ -154,10 +151,7 @@ fn is_ring(value: &Value) -> bool
 fn has_pattern(members: &Map<String, Value>) -> bool
     ensures { result ≡ is_region (pattern_region (the_member (codes "pattern") (members_view members.now.entries))) }
 {
-    match member(members, "pattern") {
-        Some(value) => is_pattern(value),
-        None => false,
-    }
+    member(members, "pattern").is_some_and(is_pattern)
 }
 
 fn is_pattern(value: &Value) -> bool
@@ -208,10 +202,7 @@ fn is_taken(name: &String, value: &Value) -> bool
 fn has_token_set(members: &Map<String, Value>) -> bool
     ensures { result ≡ is_region (token_region (the_member (codes "tokens") (members_view members.now.entries))) }
 {
-    match member(members, "tokens") {
-        Some(value) => is_token_set(value),
-        None => false,
-    }
+    member(members, "tokens").is_some_and(is_token_set)
 }
 
 fn is_token_set(value: &Value) -> bool

@@ -1,5 +1,5 @@
 //! The desk's replies.
-ghost use Rattle.std.specs.Prelude.{◌≡◌, ◌↔◌, IsTrue};
+ghost use Rattle.std.specs.Prelude.{◌≡◌, ◌≤◌, ◌↔◌, ◌++◌, length, decimal, codes, IsTrue};
 ghost use Rattle.lost_writing.specs.DeskReplies.{desk_text, IsCode, IsInTable, refusal_name as refusal_name_of};
 ghost use Rattle.lost_writing.specs.PlainNames.{IsPlainName};
 
@@ -59,26 +59,30 @@ pub fn refusal_name(code: u8) -> &'static str
     }
 }
 
+/// The line of a count: what stands before it, the count, and the brackets that close two objects.
+fn write_count(before: &[u8], count: u64) -> DeskText
+    requires { length before.now ≤ 40 }
+    ensures { result ≡ before.now ++ (decimal count ++ codes "}}\n") }
+{
+    let mut text = DeskText::new();
+    text.push(before);
+    text.push_number(count);
+    text.push(b"}}\n");
+    text
+}
+
 #[tactic(auto, unfolding(crate::specs::DeskReplies::desk_text, serde_json::proofs::OnLiterals::serde_json_on_literals))]
 fn write_staged(pending: u64) -> DeskText
     ensures { result ≡ desk_text (DeskReply.Staged pending) }
 {
-    let mut text = DeskText::new();
-    text.push(b"{\"staged\":{\"pending\":");
-    text.push_number(pending);
-    text.push(b"}}\n");
-    text
+    write_count(b"{\"staged\":{\"pending\":", pending)
 }
 
 #[tactic(auto, unfolding(crate::specs::DeskReplies::desk_text, serde_json::proofs::OnLiterals::serde_json_on_literals))]
 fn write_committed(edition: u64) -> DeskText
     ensures { result ≡ desk_text (DeskReply.Committed edition) }
 {
-    let mut text = DeskText::new();
-    text.push(b"{\"committed\":{\"edition\":");
-    text.push_number(edition);
-    text.push(b"}}\n");
-    text
+    write_count(b"{\"committed\":{\"edition\":", edition)
 }
 
 #[tactic(auto, unfolding(crate::specs::DeskReplies::desk_text, serde_json::proofs::OnLiterals::serde_json_on_literals))]

@@ -63,7 +63,8 @@ returns-then-not-may_finish-clause-outcome g c =
     let now = c.loop-turn.invariant in
     let says = g.G.Gate.says c.args.gate.now in
     let step = g.A.Answerer.step in
-    let r = Reads-end (Through says step) _ _ _ _ _ now.reads (rw c.if-count-eq0.true at c.in-Ok.ensures.bytes.0) in
+    let some : 0 < length c.read.new.buf = omega (arith, c.read.auto.buf, now.chunk) in
+    let r = (Reads-end (Through says step) _ _ _ _ _ now.reads (rw c.if-count-eq0.true at c.in-Ok.ensures.bytes.0) (c.in-Ok.ensures.bytes.1 c.if-count-eq0.true some)).reads in
     let begun = c.may_finish.ensures.begun c.if-not-may_finish.true in
     IsOutcome-at_turns says step _ _ _ _
     (IsCutOff-from_reads says step _ _ _ _ now.start r)
@@ -76,10 +77,9 @@ returns-in_err-finish-clause-outcome g c =
     let says = g.G.Gate.says c.args.gate.now in
     let step = g.A.Answerer.step in
     let some : 0 < length c.read.new.buf = omega (arith, c.read.auto.buf, now.chunk) in
-    let end = c.in-Ok.ensures.bytes.1 c.if-count-eq0.true some in
-    let r = Reads-end (Through says step) _ _ _ _ _ now.reads (rw c.if-count-eq0.true at c.in-Ok.ensures.bytes.0) in
+    let r = Reads-end (Through says step) _ _ _ _ _ now.reads (rw c.if-count-eq0.true at c.in-Ok.ensures.bytes.0) (c.in-Ok.ensures.bytes.1 c.if-count-eq0.true some) in
     let at_write : p.0 ≡ Write = (cc (p.2, c.in_err-finish.ensures.flag.only)) in
-    rw p.1 (IsOutcome-at_write says step _ _ _ _ p.0 at_write (IsCutOff-from_end says step _ _ _ _ _ now.start r end (c.in_err-finish.ensures.err r.moves.rest r.moves.held)))
+    rw p.1 (IsOutcome-at_write says step _ _ _ _ p.0 at_write (IsCutOff-from_end says step _ _ _ _ _ now.start r (c.in_err-finish.ensures.err r.reads.moves.rest r.reads.moves.held)))
 
 pub returns-then-count-eq0-clause-outcome : goal.returns-then-count-eq0-clause-outcome
 returns-then-count-eq0-clause-outcome g c =
@@ -87,10 +87,9 @@ returns-then-count-eq0-clause-outcome g c =
     let says = g.G.Gate.says c.args.gate.now in
     let step = g.A.Answerer.step in
     let some : 0 < length c.read.new.buf = omega (arith, c.read.auto.buf, now.chunk) in
-    let end = c.in-Ok.ensures.bytes.1 c.if-count-eq0.true some in
-    let r = Reads-end (Through says step) _ _ _ _ _ now.reads (rw c.if-count-eq0.true at c.in-Ok.ensures.bytes.0) in
+    let r = Reads-end (Through says step) _ _ _ _ _ now.reads (rw c.if-count-eq0.true at c.in-Ok.ensures.bytes.0) (c.in-Ok.ensures.bytes.1 c.if-count-eq0.true some) in
     IsOutcome-at_end says step _ _ _ _ _
-    (rw c.counts.ensures.counts (IsServed-from_end says step _ _ _ _ _ now.start r end (c.in_ok-finish.ensures.ok r.moves.rest r.moves.held) c.in_ok-finish.ensures.settled))
+    (rw c.counts.ensures.counts (IsServed-from_end says step _ _ _ _ _ now.start r (c.in_ok-finish.ensures.ok r.reads.moves.rest r.reads.moves.held) c.in_ok-finish.ensures.settled))
     (omega (arith, c.counts.ensures.within, c.finish.ensures.most, now.most))
 
 pub returns-in_err-rest-clause-outcome : goal.returns-in_err-rest-clause-outcome
@@ -109,7 +108,7 @@ returns-then-not-is_empty-clause-outcome g c =
     let step = g.A.Answerer.step in
     let some : 0 < length c.in_ok-rest.rest.now = search rules in
     IsOutcome-at_turns says step _ _ _ _
-    (IsCutOff-from_rest says step _ _ _ _ _ _ _ _ now.start now.reads c.in-Ok.ensures.bytes.0 c.in_ok-rest.ensures.ok c.in_ok-rest.ensures.settled)
+    (IsCutOff-from_rest says step _ _ _ _ _ _ _ _ now.start now.reads c.in-Ok.ensures.bytes.0 c.in_ok-rest.ensures.ok)
     (spent-from_rest says step _ _ _ _ _ _ _ _ _ _ _ now.start now.reads c.in-Ok.ensures.bytes.0 c.in_ok-rest.ensures.ok some c.in_ok-rest.ensures.settled (c.take_chunk.ensures.most ∙ now.most) (c.in_ok-rest.ensures.ok.stopped some))
 
 pub returns-clause-outcome : goal.returns-clause-outcome

@@ -1,17 +1,11 @@
-use Rattle.std.proofs.Common.{◌≡◌, ℕ, ◌≤◌, length}
-use Rattle.json.specs.Json.{members, value}
-use Rattle.serde_json.specs.Data.{Members, no_members}
-use Rattle.serde_json.specs.Read.{of_members, converted}
+use Rattle.std.proofs.Common.{length}
 use Rattle.serde_json.specs.View.{members_view}
 use Rattle.lost_reading.specs.Kept.{HaveSameKnown}
+use Rattle.lost_reading.proofs.TurnLemmas.{HasReadMembers}
 use Rattle.lost_reading.proofs.kept.read_known.Given as goal
 
 abbrev pub invariant-members : goal.invariant-members
-invariant-members l =
-    (n : ℕ) × (all : Members) × (length l.reader ≤ n)
-    × (converted (λ ms. of_members ms no_members) (members (value l.depth) (length l.initial.reader) l.initial.reader) ≡ converted (λ ms. of_members ms all) (members (value l.depth) n l.reader))
-    × HaveSameKnown all (members_view l.found.entries)
-    × (length l.reader ≤ length l.initial.reader)
+invariant-members l = HasReadMembers (λ all. HaveSameKnown all (members_view l.found.entries)) l.depth l.initial.reader l.reader
 
 abbrev pub decreases-members : goal.decreases-members
 decreases-members l = length l.reader

@@ -1,51 +1,23 @@
-use Rattle.std.proofs.Common.{◌≡◌, ◌-◌, length, Some, refl, sym, ◌∙◌, subst, arith}
-use Rattle.json.specs.Json.{read_key, value}
-use Rattle.json.proofs.Grammar.{read_key-shorter}
-use Rattle.serde_json.specs.Data.{no_members, put}
+use Rattle.std.proofs.Common.{sym, subst, arith}
+use Rattle.serde_json.specs.Data.{no_members}
 use Rattle.serde_json.specs.View.{members_view}
 use Rattle.lost_reading.specs.Kept.{HaveSameNames}
-use Rattle.lost_reading.proofs.TurnLemmas.{member_read, member_refused, key_refused, members_over}
+use Rattle.lost_reading.proofs.TurnLemmas.{members_begun, members_more_read, members_stopped, keys_stopped, members_done}
 use Rattle.lost_reading.proofs.kept.read_named.Goals as goal
 
 pub members-init : goal.members-init
-members-init c = (length c.args.reader.now, no_members, omega arith, refl, subst (λ es. HaveSameNames no_members (members_view es)) (sym c.new-found.ensures.empty) tt, omega arith)
+members-init c = members_begun c.args.depth c.args.reader.now (subst (λ es. HaveSameNames no_members (members_view es)) (sym c.new-found.ensures.empty) tt)
 
 pub returns-in_err-name-clause-err : goal.returns-in_err-name-clause-err
-returns-in_err-name-clause-err c refused =
-    let l = c.members in
-    l.invariant.3 ∙ key_refused (value c.args.depth) l.invariant.1 l.invariant.0 l.reader c.in_err-name.ensures.value
+returns-in_err-name-clause-err c refused = keys_stopped _ _ _ c.members.invariant c.in_err-name.ensures.value
 
 pub returns-in_err-keep_object-clause-err : goal.returns-in_err-keep_object-clause-err
-returns-in_err-keep_object-clause-err c refused =
-    let l = c.members in
-    let k = c.in-Some.name.now in
-    let s = c.next_key.new.self in
-    let named : read_key l.reader ≡ Some (Some k, s) = grind arith in
-    l.invariant.3 ∙ member_refused (value c.args.depth) l.invariant.1 l.invariant.0 k l.reader s named (c.keep_object.ensures.err (grind arith))
+returns-in_err-keep_object-clause-err c refused = members_stopped _ _ _ c.members.invariant c.in-Some.name.now c.next_key.new.self (grind arith) (c.keep_object.ensures.err (grind arith))
 
 pub members-preserved : goal.members-preserved
 members-preserved c =
-    let p = value c.args.depth in
-    let l = c.members in
-    let n = l.invariant.0 in
-    let all = l.invariant.1 in
-    let k = c.in-Some.name.now in
-    let s = c.next_key.new.self in
-    let named : read_key l.reader ≡ Some (Some k, s) = grind arith in
     let done = c.in_ok-keep_object.ensures in
-    let d = done.ok.0 in
-    let r = c.keep_object.new.reader in
-    let less = read_key-shorter l.reader (Some k) s named in
-    let lesser = done.shorter in (
-      n - 1,
-      put k d all,
-      omega (arith, l.invariant.2),
-      l.invariant.3 ∙ member_read p all n k l.reader s r d (omega (arith, l.invariant.2)) named done.ok.1,
-      done.ok.2 all l.invariant.4,
-      omega (arith, l.invariant.5),
-    )
+    members_more_read _ _ _ c.members.invariant c.in-Some.name.now c.next_key.new.self _ done.ok.0 (grind arith) done.ok.1 done.shorter done.ok.2
 
 pub returns-clause-ok : goal.returns-clause-ok
-returns-clause-ok c =
-    let l = c.members in
-    (l.invariant.1, l.invariant.3 ∙ members_over (value c.args.depth) l.invariant.1 l.invariant.0 l.reader c.next_key.new.self l.invariant.2 (grind arith), l.invariant.4)
+returns-clause-ok c = members_done _ _ _ c.members.invariant c.next_key.new.self (grind arith)

@@ -1,14 +1,14 @@
-use Rattle.std.proofs.Common.{◌≡◌, ◌-◌, ◌<◌, [], ◌∷◌, length, Some, None, string_bytes, sym, ap, ap₂, ◌∙◌, arith, rules}
+use Rattle.std.proofs.Common.{◌≡◌, ◌-◌, [], ◌∷◌, length, Some, None, string_bytes, sym, ap, ap₂, ◌∙◌, arith, rules}
 use Rattle.json.specs.Token.{Token}
-use Rattle.json.specs.Json.{parse_map, after_end_array, read_key, items, members, value}
+use Rattle.json.specs.Json.{parse_map, after_end_array, items, members, value}
 use Rattle.json.specs.Reads.{token_of}
-use Rattle.json.proofs.Grammar.{value_is, value-begin_array, value-begin_object, read_key-shorter}
-use Rattle.serde_json.specs.Data.{null, boolean, number, string, array, object, put}
-use Rattle.serde_json.specs.Read.{of_json, of_items, of_members, converted}
+use Rattle.json.proofs.Grammar.{value_is, value-begin_array, value-begin_object}
+use Rattle.serde_json.specs.Data.{null, boolean, number, string, array, object, item, no_items, put}
+use Rattle.serde_json.specs.Read.{of_json, converted}
 use Rattle.serde_json.specs.View.{view, number_view, members_view}
 use Rattle.serde_json.specs.declared.value.Value.{String, Number, Bool, Null, the_lemmas}
 use Rattle.serde_json.proofs.Views.{view-Array, view-Object, members_view-insert_entry}
-use Rattle.lost_reading.proofs.TurnLemmas.{converted-array, converted-object, item_read, item_refused, items_over, member_read, member_refused, key_refused, members_over, items_before, items_before-no_items, one_more_item, none_before}
+use Rattle.lost_reading.proofs.TurnLemmas.{converted-array, converted-object, items_before, items_before-no_items, items_before-push, items_begun, items_more_read, items_stopped, items_done, members_begun, members_more_read, members_stopped, keys_stopped, members_done}
 use Rattle.lost_reading.proofs.values.+read.Goals as goal
 
 pub read-returns-in_err-token-clause-err : goal.read-returns-in_err-token-clause-err
@@ -97,96 +97,48 @@ read-returns-in_ok-read_members-in-BeginObject-clause-ok t c =
     opened ∙ ap (parse_map object) found.ensures.ok ∙ ap (λ d. Some (d, c.read_members.new.reader)) (sym (view-Object found.field-0))
 
 pub read_items-items-init : goal.read_items-items-init
-read_items-items-init t c =
-    let all = converted of_items (items (value c.args.depth) (length c.args.reader.now) c.args.reader.now) in
-    (length c.args.reader.now, omega arith, none_before all ∙ ap (λ vs. parse_map (items_before vs) all) (sym c.in_ok-found.ensures.items), omega arith)
+read_items-items-init t c = items_begun c.args.depth c.args.reader.now (λ rest. ap (λ vs. items_before vs rest) (sym c.in_ok-found.ensures.items))
 
 pub read_items-returns-in_err-item-clause-err : goal.read_items-returns-in_err-item-clause-err
 read_items-returns-in_err-item-clause-err t c refused =
-    let p = value c.args.depth in
-    let l = c.items in
-    let n = l.invariant.0 in
-    let going : (after_end_array l.reader ≡ None) × (c.take_end_array.new.self ≡ l.reader) = grind arith in
-    l.invariant.2 ∙ ap (parse_map (items_before l.found.items)) (item_refused p n l.reader going.0 (rw (← going.1) (c.read.ensures.err (grind arith))))
+    let going : (after_end_array c.items.reader ≡ None) × (c.take_end_array.new.self ≡ c.items.reader) = grind arith in
+    items_stopped _ _ _ c.items.invariant going.0 (rw (← going.1) (c.read.ensures.err (grind arith)))
 
 pub read_items-items-preserved : goal.read_items-items-preserved
 read_items-items-preserved t c =
-    let p = value c.args.depth in
     let l = c.items in
-    let n = l.invariant.0 in
-    let going : (after_end_array l.reader ≡ None) × (c.take_end_array.new.self ≡ l.reader) = grind arith in
-    let done = c.in_ok-item.ensures in
     let v = c.in_ok-item.item in
-    let r = c.read.new.reader in
-    let less : length r < length l.reader = rw (← going.1) done.shorter in
-    let turn = item_read p n l.reader r (view v) (omega (arith, l.invariant.1)) going.0 (rw (← going.1) done.ok) in (
-      n - 1,
-      omega (arith, l.invariant.1),
-      l.invariant.2 ∙ ap (parse_map (items_before l.found.items)) turn ∙ one_more_item l.found.items v _
-          ∙ ap (λ vs. parse_map (items_before vs) (converted of_items (items p (n - 1) r))) (sym c.in_ok-push.ensures.items),
-      omega (arith, l.invariant.3),
-    )
+    let going : (after_end_array l.reader ≡ None) × (c.take_end_array.new.self ≡ l.reader) = grind arith in
+    items_more_read _ _ _ l.invariant c.read.new.reader (view v) going.0 (rw (← going.1) c.in_ok-item.ensures.ok) (rw (← going.1) c.in_ok-item.ensures.shorter)
+    (λ before is rest. is (item (view v) rest) ∙ items_before-push l.found.items v rest ∙ ap (λ vs. items_before vs rest) (sym c.in_ok-push.ensures.items))
 
 pub read_items-returns-clause-ok : goal.read_items-returns-clause-ok
 read_items-returns-clause-ok t c =
-    let p = value c.args.depth in
-    let l = c.items in
-    let n = l.invariant.0 in
     let r = c.take_end_array.new.self in
-    l.invariant.2 ∙ ap (parse_map (items_before l.found.items)) (items_over p n l.reader r l.invariant.1 (grind arith)) ∙ ap (λ ds. Some (ds, r)) (items_before-no_items l.found.items)
+    let l = c.items in
+    items_done _ _ _ l.invariant r (grind arith) ∙ ap (λ ds. Some (ds, r)) (l.invariant.like no_items ∙ items_before-no_items l.found.items)
 
 pub read_members-members-init : goal.read_members-members-init
-read_members-members-init t c =
-    let all = members (value c.args.depth) (length c.args.reader.now) c.args.reader.now in
-    (length c.args.reader.now, omega arith, ap (λ es. converted (λ ms. of_members ms (members_view es)) all) (sym c.new-found.ensures.empty), omega arith)
+read_members-members-init t c = members_begun c.args.depth c.args.reader.now (ap members_view (sym c.new-found.ensures.empty))
 
 pub read_members-returns-in_err-name-clause-err : goal.read_members-returns-in_err-name-clause-err
-read_members-returns-in_err-name-clause-err t c refused =
-    let p = value c.args.depth in
-    let l = c.members in
-    let n = l.invariant.0 in
-    let old = members_view l.found.entries in
-    l.invariant.2 ∙ key_refused p old n l.reader c.in_err-name.ensures.value
+read_members-returns-in_err-name-clause-err t c refused = keys_stopped _ _ _ c.members.invariant c.in_err-name.ensures.value
 
 pub read_members-returns-in_err-member-clause-err : goal.read_members-returns-in_err-member-clause-err
-read_members-returns-in_err-member-clause-err t c refused =
-    let p = value c.args.depth in
-    let l = c.members in
-    let n = l.invariant.0 in
-    let old = members_view l.found.entries in
-    let k = c.in-Some.name.now in
-    let s = c.next_key.new.self in
-    let named : read_key l.reader ≡ Some (Some k, s) = grind arith in
-    l.invariant.2 ∙ member_refused p old n k l.reader s named (c.read.ensures.err (grind arith))
+read_members-returns-in_err-member-clause-err t c refused = members_stopped _ _ _ c.members.invariant c.in-Some.name.now c.next_key.new.self (grind arith) (c.read.ensures.err (grind arith))
 
 pub read_members-members-preserved : goal.read_members-members-preserved
 read_members-members-preserved t c =
-    let p = value c.args.depth in
     let l = c.members in
-    let n = l.invariant.0 in
-    let old = members_view l.found.entries in
     let k = c.in-Some.name.now in
-    let s = c.next_key.new.self in
-    let named : read_key l.reader ≡ Some (Some k, s) = grind arith in
     let done = c.in_ok-member.ensures in
     let v = c.in_ok-member.member in
-    let r = c.read.new.reader in
-    let less = read_key-shorter l.reader (Some k) s named in
-    let lesser = done.shorter in
     let copied : string_bytes c.in_ok-key.key ≡ k = search rules in
-    let inserted : members_view c.insert.new.self.entries ≡ put k (view v) old =
-    ap members_view c.in_ok-insert.ensures.entries ∙ members_view-insert_entry l.found.entries c.in_ok-key.key v ∙ ap (λ name. put name (view v) old) copied in (
-      n - 1,
-      omega (arith, l.invariant.1),
-      l.invariant.2 ∙ member_read p old n k l.reader s r (view v) (omega (arith, l.invariant.1)) named done.ok
-          ∙ ap (λ found. converted (λ ms. of_members ms found) (members p (n - 1) r)) (sym inserted),
-      omega (arith, l.invariant.3),
-    )
+    let inserted : members_view c.insert.new.self.entries ≡ put k (view v) (members_view l.found.entries) =
+    ap members_view c.in_ok-insert.ensures.entries ∙ members_view-insert_entry l.found.entries c.in_ok-key.key v ∙ ap (λ name. put name (view v) (members_view l.found.entries)) copied in
+    members_more_read _ _ _ l.invariant k c.next_key.new.self c.read.new.reader (view v) (grind arith) done.ok done.shorter (λ all is. ap (put k (view v)) is ∙ sym inserted)
 
 pub read_members-returns-clause-ok : goal.read_members-returns-clause-ok
 read_members-returns-clause-ok t c =
-    let p = value c.args.depth in
-    let l = c.members in
-    let n = l.invariant.0 in
-    let old = members_view l.found.entries in
-    l.invariant.2 ∙ members_over p old n l.reader c.next_key.new.self l.invariant.1 (grind arith)
+    let m = members_done _ _ _ c.members.invariant c.next_key.new.self (grind arith) in
+    m.1 ∙ ap (λ all. Some (all, c.next_key.new.self)) m.2

@@ -1,81 +1,53 @@
-use Rattle.std.proofs.Common.{◌≡◌, ◌-◌, ◌<◌, [], ◌∷◌, length, Some, None, refl, ap, ap₂, ◌∙◌, arith}
+use Rattle.std.proofs.Common.{◌≡◌, ◌-◌, [], ◌∷◌, length, None, refl, ap, ap₂, ◌∙◌, arith}
 use Rattle.json.specs.Token.{Token}
-use Rattle.json.specs.Json.{after_end_array, read_key, items, members, value}
+use Rattle.json.specs.Json.{after_end_array, items, members, value}
 use Rattle.json.specs.Reads.{token_of}
-use Rattle.json.proofs.Grammar.{value_is, value-begin_array, value-begin_object, read_key-shorter}
+use Rattle.json.proofs.Grammar.{left, value_is, value-begin_array, value-begin_object}
 use Rattle.serde_json.specs.Read.{of_json, of_items}
 use Rattle.lost_reading.specs.Kept.{passed}
-use Rattle.lost_reading.proofs.WalkLemmas.{passed_members, passed-array, passed-object, item_passed, item_stopped, items_passed, member_passed, member_stopped, key_stopped, members_passed}
+use Rattle.lost_reading.proofs.TurnLemmas.{items_begun, items_more_read, items_stopped, items_done, members_begun, members_more_read, members_stopped, keys_stopped, members_done}
+use Rattle.lost_reading.proofs.WalkLemmas.{passed_members, passed-array, passed-object, some_passed, none_passed}
 use Rattle.lost_reading.proofs.walk.+walk.Goals as goal
 
 pub walk_items-items-init : goal.walk_items-items-init
-walk_items-items-init t c = (length c.args.reader.now, omega arith, refl, omega arith)
+walk_items-items-init t c = items_begun c.args.depth c.args.reader.now tt
 
 pub walk_items-items-preserved : goal.walk_items-items-preserved
 walk_items-items-preserved t c =
-    let p = value c.args.depth in
-    let l = c.items in
-    let n = l.invariant.0 in
-    let going : (after_end_array l.reader ≡ None) × (c.take_end_array.new.self ≡ l.reader) = grind arith in
-    let less : length c.walk.new.reader < length l.reader = rw (← going.1) c.in_ok-walk.ensures.shorter in
-    (n - 1, omega (arith, l.invariant.1), l.invariant.2 ∙ item_passed p n l.reader _ (omega (arith, l.invariant.1)) going.0 (rw (← going.1) c.in_ok-walk.ensures.value), omega (arith, l.invariant.3))
+    let going : (after_end_array c.items.reader ≡ None) × (c.take_end_array.new.self ≡ c.items.reader) = grind arith in
+    let item = some_passed (value c.args.depth c.items.reader) c.walk.new.reader (rw (← going.1) c.in_ok-walk.ensures.value) in
+    items_more_read _ _ _ c.items.invariant c.walk.new.reader item.0 going.0 item.1 (rw (← going.1) c.in_ok-walk.ensures.shorter) (λ before is. tt)
 
 pub walk_items-returns-in_err-walk-clause-value : goal.walk_items-returns-in_err-walk-clause-value
 walk_items-returns-in_err-walk-clause-value t c =
-    let p = value c.args.depth in
-    let l = c.items in
-    let n = l.invariant.0 in
-    let going : (after_end_array l.reader ≡ None) × (c.take_end_array.new.self ≡ l.reader) = grind arith in
-    let none = l.invariant.2 ∙ item_stopped p n l.reader going.0 (rw (← going.1) c.in_err-walk.ensures.value) in
+    let going : (after_end_array c.items.reader ≡ None) × (c.take_end_array.new.self ≡ c.items.reader) = grind arith in
+    let none = ap left (items_stopped _ _ _ c.items.invariant going.0 (none_passed (value c.args.depth c.items.reader) (rw (← going.1) c.in_err-walk.ensures.value))) in
     grind (arith, none)
 
 pub walk_items-returns-clause-value : goal.walk_items-returns-clause-value
-walk_items-returns-clause-value t c =
-    let p = value c.args.depth in
-    let l = c.items in
-    let n = l.invariant.0 in
-    l.invariant.2 ∙ items_passed p n l.reader c.take_end_array.new.self l.invariant.1 (grind arith)
+walk_items-returns-clause-value t c = ap left (items_done _ _ _ c.items.invariant c.take_end_array.new.self (grind arith))
 
 pub walk_members-members-init : goal.walk_members-members-init
-walk_members-members-init t c = (length c.args.reader.now, omega arith, refl, omega arith)
+walk_members-members-init t c = members_begun c.args.depth c.args.reader.now tt
 
 pub walk_members-returns-in_err-next_key-clause-value : goal.walk_members-returns-in_err-next_key-clause-value
 walk_members-returns-in_err-next_key-clause-value t c =
-    let p = value c.args.depth in
-    let l = c.members in
-    let n = l.invariant.0 in
-    let none = l.invariant.2 ∙ key_stopped p n l.reader c.in_err-next_key.ensures.value in
+    let none = ap left (keys_stopped _ _ _ c.members.invariant c.in_err-next_key.ensures.value) in
     grind (arith, none)
 
 pub walk_members-members-preserved : goal.walk_members-members-preserved
 walk_members-members-preserved t c =
-    let p = value c.args.depth in
-    let l = c.members in
-    let n = l.invariant.0 in
-    let k = c.in-Some.field-0.now in
     let s = c.next_key.new.self in
-    let key : read_key l.reader ≡ Some (Some k, s) = grind arith in
-    let less = read_key-shorter l.reader (Some k) s key in
-    let lesser = c.in_ok-walk.ensures.shorter in
-    (n - 1, omega (arith, l.invariant.1), l.invariant.2 ∙ member_passed p n k l.reader s _ (omega (arith, l.invariant.1)) key c.in_ok-walk.ensures.value, omega (arith, l.invariant.3))
+    let member = some_passed (value c.args.depth s) c.walk.new.reader c.in_ok-walk.ensures.value in
+    members_more_read _ _ _ c.members.invariant c.in-Some.field-0.now s c.walk.new.reader member.0 (grind arith) member.1 c.in_ok-walk.ensures.shorter (λ all is. tt)
 
 pub walk_members-returns-in_err-walk-clause-value : goal.walk_members-returns-in_err-walk-clause-value
 walk_members-returns-in_err-walk-clause-value t c =
-    let p = value c.args.depth in
-    let l = c.members in
-    let n = l.invariant.0 in
-    let k = c.in-Some.field-0.now in
-    let s = c.next_key.new.self in
-    let key : read_key l.reader ≡ Some (Some k, s) = grind arith in
-    let none = l.invariant.2 ∙ member_stopped p n k l.reader s key c.in_err-walk.ensures.value in
+    let none = ap left (members_stopped _ _ _ c.members.invariant c.in-Some.field-0.now c.next_key.new.self (grind arith) (none_passed (value c.args.depth c.next_key.new.self) c.in_err-walk.ensures.value)) in
     grind (arith, none)
 
 pub walk_members-returns-clause-value : goal.walk_members-returns-clause-value
-walk_members-returns-clause-value t c =
-    let p = value c.args.depth in
-    let l = c.members in
-    let n = l.invariant.0 in
-    l.invariant.2 ∙ members_passed p n l.reader c.next_key.new.self l.invariant.1 (grind arith)
+walk_members-returns-clause-value t c = ap left (members_done _ _ _ c.members.invariant c.next_key.new.self (grind arith)).1
 
 pub walk-returns-in_err-token-clause-value : goal.walk-returns-in_err-token-clause-value
 walk-returns-in_err-token-clause-value t c =

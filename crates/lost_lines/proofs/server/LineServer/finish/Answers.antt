@@ -7,8 +7,8 @@ use Rattle.lost_lines.proofs.server.LineServer.finish.Goals as goal
 
 pub returns-clause-ok : goal.returns-clause-ok
 returns-clause-ok g c piece held =
-    on_ok_both c.settle.result (λ sent empty. Serves-then_sent (Through (g.G.Gate.says c.args.gate.now) g.A.Answerer.step) _ _ _ _ (c.in_ok-end_last_line.ensures.ok piece held) (Serves-sent (Through (g.G.Gate.says c.args.gate.now) g.A.Answerer.step) _ _ refl refl sent empty)) c.settle.ensures.ok c.settle.ensures.empty
+    on_ok_both c.settle.result (λ sent empty. Serves-then_sent (Through (g.G.Gate.says c.args.gate.now) g.A.Answerer.step) _ _ _ _ (c.in_ok-end_last_line.ensures.ok piece held) (Serves-sent (Through (g.G.Gate.says c.args.gate.now) g.A.Answerer.step) _ _ refl refl sent empty)) c.settle.ensures.sent.ok c.settle.ensures.empty
 
 pub returns-clause-err : goal.returns-clause-err
 returns-clause-err g c piece held =
-    on_err_weaker c.settle.result (λ written. Breaks-then_sent (Through (g.G.Gate.says c.args.gate.now) g.A.Answerer.step) _ _ _ _ (c.in_ok-end_last_line.ensures.ok piece held) (Breaks-sent (Through (g.G.Gate.says c.args.gate.now) g.A.Answerer.step) _ _ refl written)) c.settle.ensures.err
+    on_err_weaker c.settle.result (λ written. Breaks-then_sent (Through (g.G.Gate.says c.args.gate.now) g.A.Answerer.step) _ _ _ _ (c.in_ok-end_last_line.ensures.ok piece held) (Breaks-sent (Through (g.G.Gate.says c.args.gate.now) g.A.Answerer.step) _ _ refl written)) c.settle.ensures.sent.err

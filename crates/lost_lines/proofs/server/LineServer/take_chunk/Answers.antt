@@ -9,7 +9,7 @@ returns-in_err-settle-clause-err g c =
     let p = err_from_is_err_and c.from_residual-in_err-settle.result c.from_residual-in_err-settle.ensures.1 in
     let step = (Through (g.G.Gate.says c.args.gate.now) g.A.Answerer.step) in
     let takes = c.in_ok-rest.ensures.ok.taken in
-    rw p.1 (rw takes.splits (Fails-more step _ _ _ _ (Fails-sent step _ _ _ _ takes.advances (Breaks-sent step _ _ refl c.in_err-settle.ensures.err))))
+    rw p.1 (rw takes.splits (Fails-more step _ _ _ _ (Fails-sent step _ _ _ _ takes.advances (Breaks-sent step _ _ refl c.in_err-settle.ensures.sent.err))))
 
 pub returns-clause-ok : goal.returns-clause-ok
 returns-clause-ok g c =
@@ -19,7 +19,7 @@ returns-clause-ok g c =
       taken = record {
         front = takes.front;
         splits = takes.splits;
-        advances = Advances-sent step _ _ _ _ takes.advances (Serves-sent step _ _ refl refl c.in_ok-settle.ensures.ok c.in_ok-settle.ensures.empty) refl;
+        advances = Advances-sent step _ _ _ _ takes.advances (Serves-sent step _ _ refl refl c.in_ok-settle.ensures.sent.ok c.in_ok-settle.ensures.empty) refl;
       };
       stopped = c.in_ok-rest.ensures.ok.stopped;
     }
