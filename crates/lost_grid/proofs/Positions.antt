@@ -1,10 +1,10 @@
 -- The cell at a position, and whether a cell is one of those that bounds meet.
-use Rattle.std.proofs.Common.{◌≡◌, refl, sym, ap, ◌∙◌, ℕ, zero, suc, ◌+◌, ◌*◌, ◌/◌, ◌%◌, ◌<◌, ◌≤◌, Bool, true, false, ◌&&◌, ◌||◌, eqb, Option, Some, None, option_map, List, [], ◌∷◌, ◌++◌, length, get_or, slice_get, ℤ, pos, ◌+ℤ◌, ◌-ℤ◌, ◌≤ℤ◌, ◌<ℤ◌, neg_ℤ, SFits, w16, rules, arith}
+use Rattle.std.proofs.Common.{◌≡◌, refl, sym, ap, ◌∙◌, ℕ, zero, suc, ◌+◌, ◌*◌, ◌/◌, ◌%◌, ◌<◌, ◌≤◌, Bool, true, false, ◌&&◌, ◌||◌, eqb, Option, Some, None, option_map, List, [], ◌∷◌, ◌++◌, length, get_or, slice_get, ℤ, pos, ◌+ℤ◌, ◌-ℤ◌, ◌≤ℤ◌, ◌<ℤ◌, neg_ℤ, SFits, w16, to_z, of_z, subst, rules, arith}
 use Rattle.std.specs.List.{flat_map, list_any}
 use Rattle.std.specs.Ordering.{int_eq}
 use Rattle.std.proofs.lemmas.Bool.{false_from_ne_true}
 use Rattle.std.proofs.lemmas.Bool.Decides.{Decides-int_eq}
-use Rattle.std.proofs.lemmas.Int.{ints}
+use Rattle.std.proofs.lemmas.Int.{ints, to_z-of_z, to_z_pos}
 use Rattle.std.proofs.lemmas.List.{length-map}
 use Rattle.std.proofs.lemmas.List.Folds.{list_any-append, list_any_at}
 use Rattle.std.proofs.lemmas.Map.Views.{Contains-from_any}
@@ -22,26 +22,28 @@ use Rattle.lost_grid.specs.Runs.{length-up_to, get_or-up_to, Contains-up_to}
 fits_between : (z : ℤ) → neg_ℤ (pos 6867) ≤ℤ z → z ≤ℤ pos 6867 → SFits w16 z
 fits_between z low high = search (rules, ints)
 
--- the number at a position
-pub number_at : (low end : ℤ) (i : ℕ) → low ≤ℤ end → i < length (up_to low end) → Some (low +ℤ pos i) ≡ slice_get (up_to low end) i
-number_at low end i order within =
-    sym (slice_get_read (up_to low end) (length (up_to low end)) i (low +ℤ pos i) refl within (sym (get_or-up_to low end i (low +ℤ pos i) within)))
+-- the first one with a position added in 16 bits
+abbrev added : ℤ → ℕ → ℤ
+added first i = to_z w16 (of_z w16 (to_z w16 (of_z w16 first) +ℤ to_z w16 i))
+
+-- nothing is lost, and this is the number at the position
+pub line_at : (first end : ℤ) (i : ℕ) → first ≤ℤ end → neg_ℤ (pos 6867) ≤ℤ first → end ≤ℤ pos 6867 → i < length (up_to first end)
+    → (Some (added first i) ≡ slice_get (up_to first end) i) × IsLine (added first i)
+line_at first end i order low high within =
+    let line = first +ℤ pos i in
+    let count : pos (length (up_to first end)) ≡ end -ℤ first = length-up_to first end order in
+    let top : pos i <ℤ (end -ℤ first) = omega (arith, ints) in
+    let own : to_z w16 (of_z w16 first) ≡ first = to_z-of_z w16 first (fits_between first low (omega (arith, ints))) in
+    let wide : to_z w16 i ≡ pos i = to_z_pos w16 i (omega (arith, ints)) in
+    let fits : SFits w16 line = fits_between line (omega (arith, ints)) (omega (arith, ints)) in
+    let is : added first i ≡ line =
+    ap (λ (z : ℤ). to_z w16 (of_z w16 (z +ℤ to_z w16 i))) own ∙ ap (λ (z : ℤ). to_z w16 (of_z w16 (first +ℤ z))) wide ∙ to_z-of_z w16 line fits in (
+      ap Some is ∙ sym (slice_get_read (up_to first end) (length (up_to first end)) i line refl within (sym (get_or-up_to first end i line within))),
+      subst IsLine (sym is) (record { low = omega (arith, ints); high = omega (arith, ints) }),
+    )
 
 pub none_at : (low end : ℤ) (i : ℕ) → length (up_to low end) ≤ i → None ≡ slice_get (up_to low end) i
 none_at low end i past = sym (slice_get_past (up_to low end) i past)
-
--- it fits its type, and so do the first one and the position
-pub number_fits : (first end : ℤ) (i : ℕ) → neg_ℤ (pos 6867) ≤ℤ first → end ≤ℤ pos 6867 → pos (length (up_to first end)) ≡ end -ℤ first → i < length (up_to first end)
-    → (SFits w16 first) × (SFits w16 (first +ℤ pos i)) × (i < 32768)
-number_fits first end i low high count within =
-    let top : pos i <ℤ (end -ℤ first) = omega (arith, ints) in
-    (fits_between first low (omega (arith, ints)), fits_between (first +ℤ pos i) (omega (arith, ints)) (omega (arith, ints)), omega (arith, ints))
-
-pub number_is_line : (first end : ℤ) (i : ℕ) → neg_ℤ (pos 6867) ≤ℤ first → end ≤ℤ pos 6867 → pos (length (up_to first end)) ≡ end -ℤ first → i < length (up_to first end)
-    → IsLine (first +ℤ pos i)
-number_is_line first end i low high count within =
-    let top : pos i <ℤ (end -ℤ first) = omega (arith, ints) in
-    record { low = omega (arith, ints); high = omega (arith, ints) }
 
 -- a number is one of them exactly where it lies between
 pub has_number : (low end z : ℤ) → low ≤ℤ z → z <ℤ end → list_any (int_eq z) (up_to low end) ≡ true
@@ -117,13 +119,18 @@ at_position level cs rs count i is some =
     ∙ at_place level cs rs (i / count) (i % count) (omega arith)
 
 -- the same for the rows and columns that bounds meet at their level
+columns_within : (level : ℕ) (bounds : Bounds) (cs : List ℤ) (i : ℕ) → level ≡ level_of bounds → cs ≡ columns level bounds
+    → slice_get (flat_map (λ row. cells_in_row level row cs) (rows level bounds)) i ≡ slice_get (cells_within (level_of bounds) bounds) i
+columns_within level bounds cs i least of_columns =
+    ap (λ (ns : List ℤ). slice_get (flat_map (λ row. cells_in_row level row ns) (rows level bounds)) i) of_columns
+    ∙ ap (λ (k : ℕ). slice_get (cells_within k bounds) i) least
+
 pub found_within : (level : ℕ) (bounds : Bounds) (rs cs : List ℤ) (count i : ℕ) → level ≡ level_of bounds → rs ≡ rows level bounds → cs ≡ columns level bounds → count ≡ length cs → 0 < count
     → found level cs (i % count) (slice_get rs (i / count)) ≡ slice_get (cells_within (level_of bounds) bounds) i
 found_within level bounds rs cs count i least of_rows of_columns is some =
     sym (at_position level cs rs count i is some)
     ∙ ap (λ (ns : List ℤ). slice_get (flat_map (λ row. cells_in_row level row cs) ns) i) of_rows
-    ∙ ap (λ (ns : List ℤ). slice_get (flat_map (λ row. cells_in_row level row ns) (rows level bounds)) i) of_columns
-    ∙ ap (λ (k : ℕ). slice_get (cells_within k bounds) i) least
+    ∙ columns_within level bounds cs i least of_columns
 
 -- where there is no column, there is no cell
 pub no_cells : (level : ℕ) (cs rs : List ℤ) (i : ℕ) → length cs ≡ 0 → slice_get (flat_map (λ row. cells_in_row level row cs) rs) i ≡ None
@@ -134,9 +141,7 @@ no_cells level (c ∷ cs) rs i none = absurd (omega arith)
 pub none_within : (level : ℕ) (bounds : Bounds) (cs : List ℤ) (count i : ℕ) → level ≡ level_of bounds → cs ≡ columns level bounds → count ≡ length cs → count ≡ 0
     → None ≡ slice_get (cells_within (level_of bounds) bounds) i
 none_within level bounds cs count i least of_columns is none =
-    sym (no_cells level cs (rows level bounds) i (sym is ∙ none))
-    ∙ ap (λ (ns : List ℤ). slice_get (flat_map (λ row. cells_in_row level row ns) (rows level bounds)) i) of_columns
-    ∙ ap (λ (k : ℕ). slice_get (cells_within k bounds) i) least
+    sym (no_cells level cs (rows level bounds) i (sym is ∙ none)) ∙ columns_within level bounds cs i least of_columns
 
 -- ---- whether a cell is one of them
 
