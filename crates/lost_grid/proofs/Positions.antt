@@ -9,6 +9,7 @@ use Rattle.std.proofs.lemmas.List.{length-map}
 use Rattle.std.proofs.lemmas.List.Folds.{list_any-append, list_any_at}
 use Rattle.std.proofs.lemmas.Map.Views.{Contains-from_any}
 use Rattle.std.proofs.lemmas.Option.{slice_get-map, slice_get_past, slice_get_read}
+use Rattle.std.proofs.Math.Bool.{and-false, and-or_distrib_left, and-or_distrib_right}
 use Rattle.std.proofs.Math.Nat.{div-add-mod, mod-lt}
 use Rattle.lost_grid.specs.declared.cell.Cell.{Cell}
 use Rattle.lost_grid.specs.CellsApart.{same_cell}
@@ -146,31 +147,19 @@ none_within level bounds cs count i least of_columns is none =
 -- ---- whether a cell is one of them
 
 both_parts : (l x y c : Bool) → ((l && (x && c)) || (l && (y && c))) ≡ (l && ((x || y) && c))
-both_parts false x y c = refl
-both_parts true true y true = refl
-both_parts true true true false = refl
-both_parts true true false false = refl
-both_parts true false y c = refl
-
-none_of : (l x : Bool) → false ≡ (l && (x && false))
-none_of false x = refl
-none_of true true = refl
-none_of true false = refl
+both_parts l x y c = sym (and-or_distrib_left l (x && c) (y && c)) ∙ ap (λ b. l && b) (sym (and-or_distrib_right x y c))
 
 in_row : (level : ℕ) (row : ℤ) (cs : List ℤ) (cell : Cell) → list_any (same_cell cell) (cells_in_row level row cs) ≡ (eqb cell.level level && (int_eq cell.row row && list_any (int_eq cell.column) cs))
-in_row level row [] cell = none_of (eqb cell.level level) (int_eq cell.row row)
+in_row level row [] cell = sym (ap (λ b. eqb cell.level level && b) (and-false (int_eq cell.row row)) ∙ and-false (eqb cell.level level))
 in_row level row (c ∷ cs) cell =
     ap (λ b. same_cell cell (record { level = level; row = row; column = c }) || b) (in_row level row cs cell)
     ∙ joined (eqb cell.level level) (int_eq cell.row row) (int_eq cell.column c) (list_any (int_eq cell.column) cs)
   where
     joined : (l x a b : Bool) → ((l && (x && a)) || (l && (x && b))) ≡ (l && (x && (a || b)))
-    joined false x a b = refl
-    joined true false a b = refl
-    joined true true a b = refl
+    joined l x a b = sym (and-or_distrib_left l (x && a) (x && b)) ∙ ap (λ c. l && c) (sym (and-or_distrib_left x a b))
 
 none_in : (l c : Bool) → false ≡ (l && (false && c))
-none_in false c = refl
-none_in true c = refl
+none_in l c = sym (and-false l)
 
 pub in_rows : (level : ℕ) (cs rs : List ℤ) (cell : Cell) → list_any (same_cell cell) (flat_map (λ row. cells_in_row level row cs) rs)
     ≡ (eqb cell.level level && (list_any (int_eq cell.row) rs && list_any (int_eq cell.column) cs))
