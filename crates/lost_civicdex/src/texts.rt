@@ -47,10 +47,10 @@ pub(crate) fn make_keys<T: ElementTexts>(
 {
     let mut keys = Vec::with_capacity(alloc, room)?;
     for element in elements {
-        match texts.text(*element) {
-            Some(text) => keys.push(ElementKey::new(alloc, *element, text)?)?,
-            None => {}
-        }
+        let Some(text) = texts.text(*element) else {
+            continue;
+        };
+        keys.push(ElementKey::new(alloc, *element, text)?)?;
     }
     Ok(keys)
 }
@@ -67,10 +67,10 @@ pub(crate) fn hash_keys<T: ElementTexts>(
 {
     let mut keys = Vec::with_capacity(alloc, room)?;
     for element in elements {
-        match texts.text(*element) {
-            Some(text) => keys.push(HashedKey::new(*element, text))?,
-            None => {}
-        }
+        let Some(text) = texts.text(*element) else {
+            continue;
+        };
+        keys.push(HashedKey::new(*element, text))?;
     }
     Ok(keys)
 }

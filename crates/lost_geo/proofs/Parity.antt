@@ -25,15 +25,13 @@ just_one-not true false = refl
 just_one-not false true = refl
 just_one-not false false = refl
 
+just_one_of_true : (b : Bool) → not b ≡ is_just_one true b
+just_one_of_true true = refl
+just_one_of_true false = refl
+
 pub just_one_assoc : (a b c : Bool) → is_just_one (is_just_one a b) c ≡ is_just_one a (is_just_one b c)
-just_one_assoc true true true = refl
-just_one_assoc true true false = refl
-just_one_assoc true false true = refl
-just_one_assoc true false false = refl
-just_one_assoc false true true = refl
-just_one_assoc false true false = refl
-just_one_assoc false false true = refl
-just_one_assoc false false false = refl
+just_one_assoc true b c = rw (← just_one_of_true b, ← just_one_of_true (is_just_one b c)) (just_one-not b c)
+just_one_assoc false b c = rw (just_one_of_false b, just_one_of_false (is_just_one b c)) refl
 
 -- ---- counts
 
@@ -45,10 +43,6 @@ pub odd_count-append : (test : Edge → Bool) (xs ys : List Edge) → odd_count 
 odd_count-append test xs ys =
     rw (filter-append test xs ys, length-append (filter test xs) (filter test ys))
     (is_odd-add (length (filter test xs)) (length (filter test ys)))
-
-just_one_of_true : (b : Bool) → not b ≡ is_just_one true b
-just_one_of_true true = refl
-just_one_of_true false = refl
 
 counted : (passes : Bool) (e : Edge) (es : List Edge) → is_odd (length (cond passes (e ∷ es) es)) ≡ is_just_one passes (is_odd (length es))
 counted true e es = just_one_of_true (is_odd (length es))

@@ -4,7 +4,7 @@ use Rattle.std.proofs.lemmas.Int.{ints}
 use Rattle.lost_spec.specs.Ring.{Point, edges, spans, last_after}
 use Rattle.lost_geo.specs.Laws.{is_just_one, SpannedEvenly}
 use Rattle.lost_geo.proofs.Closed.{get_or-last, lat-last_after}
-use Rattle.lost_geo.proofs.Parity.{odd_count, odd_count-cons}
+use Rattle.lost_geo.proofs.Parity.{odd_count, odd_count-cons, just_one_assoc, just_one_of_false}
 
 -- from low up to before high: at or above just one of the two
 between : (low high z : ℤ) → int_le low high ≡ true → (int_le low z && int_lt z high) ≡ is_just_one (int_le low z) (int_le high z)
@@ -21,19 +21,14 @@ spans_by false a b p order = between_down b.lat a.lat p.lat order
 pub spans-is : (a b p : Point) → spans (a, b) p ≡ is_just_one (int_le a.lat p.lat) (int_le b.lat p.lat)
 spans-is a b p = spans_by (int_le a.lat b.lat) a b p refl
 
-just_one_joined : (a b c : Bool) → is_just_one (is_just_one a b) (is_just_one b c) ≡ is_just_one a c
-just_one_joined true true true = refl
-just_one_joined true true false = refl
-just_one_joined true false true = refl
-just_one_joined true false false = refl
-just_one_joined false true true = refl
-just_one_joined false true false = refl
-just_one_joined false false true = refl
-just_one_joined false false false = refl
-
 just_one_same : (a : Bool) → false ≡ is_just_one a a
 just_one_same true = refl
 just_one_same false = refl
+
+just_one_joined : (a b c : Bool) → is_just_one (is_just_one a b) (is_just_one b c) ≡ is_just_one a c
+just_one_joined a b c =
+    just_one_assoc a b (is_just_one b c)
+    ∙ ap (is_just_one a) (sym (just_one_assoc b b c) ∙ ap (λ (x : Bool). is_just_one x c) (sym (just_one_same b)) ∙ just_one_of_false c)
 
 -- the number is odd just where the latitude is between those of the two ends of the list
 spanned : (a : Point) (rest : List Point) (p : Point) →

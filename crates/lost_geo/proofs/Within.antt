@@ -1,6 +1,7 @@
 -- Where an odd number of a closed ring's edges cross, there the bounds of the ring hold the place.
 use Rattle.std.proofs.Common.{◌≡◌, refl, sym, ◌∙◌, ap, subst, suc, Bool, true, false, not, ◌&&◌, List, [], ◌∷◌, length, map, All, get_or, ℤ, ◌-ℤ◌, ◌≤ℤ◌, ◌<ℤ◌, int_le, int_lt, arith, IsTrue, None, nat_lt}
-use Rattle.std.proofs.lemmas.Bool.{and_from, and_parts, true_from_ne_false, false_from_ne_true, false≢true, cond_both}
+use Rattle.std.proofs.Math.Bool.{and-true}
+use Rattle.std.proofs.lemmas.Bool.{and_from, and_parts, and_right, true_from_ne_false, false_from_ne_true, false≢true, cond_both}
 use Rattle.std.proofs.lemmas.Int.{ints}
 use Rattle.std.proofs.lemmas.List.{get_or-map, length-map}
 use Rattle.lost_spec.specs.declared.faults.RingError.TheVariants.{TooShort, NotClosed, TooLong}
@@ -66,35 +67,33 @@ low_end-of P a b at_a at_b = cond_both (int_le a.lat b.lat) a b P (λ _. at_a) (
 high_end-of : (P : Point → Type 0) (a b : Point) → P a → P b → P (high_end (a, b))
 high_end-of P a b at_a at_b = cond_both (int_le a.lat b.lat) b a P (λ _. at_b) (λ _. at_a)
 
-left_of_east : (spanning : Bool) (lo hi p : Point) → (int_le lo.lat p.lat && int_lt p.lat hi.lat) ≡ spanning →
-    lo.lon <ℤ p.lon → hi.lon <ℤ p.lon → (spanning && is_left_of lo hi p) ≡ false
-left_of_east false lo hi p spans lo_west hi_west = refl
-left_of_east true lo hi p spans lo_west hi_west =
-    let tests = and_parts (int_le lo.lat p.lat) (int_lt p.lat hi.lat) spans in
-    let low : int_le lo.lat p.lat ≡ true = tests.0 in
-    let high : int_lt p.lat hi.lat ≡ true = tests.1 in
-    not_below-mul (p.lon -ℤ lo.lon) (hi.lon -ℤ lo.lon) (hi.lat -ℤ lo.lat) (p.lat -ℤ lo.lat)
-    (omega (arith, ints)) (omega (arith, ints)) (grind (arith, ints)) (grind (arith, ints))
+-- an edge of which both ends tell on which side of it a place is that it spans
+module _ (p : Point) (P : Point → Type 0) (side : Bool)
+    (is : (lo hi : Point) → P lo → P hi → lo.lat ≤ℤ p.lat → p.lat <ℤ hi.lat → is_left_of lo hi p ≡ side) where
+  where_spanned : (spanning : Bool) (lo hi : Point) → (int_le lo.lat p.lat && int_lt p.lat hi.lat) ≡ spanning →
+      P lo → P hi → (spanning && is_left_of lo hi p) ≡ (spanning && side)
+  where_spanned false lo hi spans at_lo at_hi = refl
+  where_spanned true lo hi spans at_lo at_hi =
+      let tests = and_parts (int_le lo.lat p.lat) (int_lt p.lat hi.lat) spans in
+      let low : int_le lo.lat p.lat ≡ true = tests.0 in
+      let high : int_lt p.lat hi.lat ≡ true = tests.1 in
+      is lo hi at_lo at_hi (grind (arith, ints)) (grind (arith, ints))
+
+  crosses-side : (a b : Point) → P a → P b → crosses (a, b) p ≡ (spans (a, b) p && side)
+  crosses-side a b at_a at_b =
+      where_spanned (spans (a, b) p) (low_end (a, b)) (high_end (a, b)) refl (low_end-of P a b at_a at_b) (high_end-of P a b at_a at_b)
 
 pub both_west : (a b p : Point) → a.lon <ℤ p.lon → b.lon <ℤ p.lon → crosses (a, b) p ≡ false
 both_west a b p west_a west_b =
-    left_of_east (spans (a, b) p) (low_end (a, b)) (high_end (a, b)) p refl
-    (low_end-of (λ q. q.lon <ℤ p.lon) a b west_a west_b) (high_end-of (λ q. q.lon <ℤ p.lon) a b west_a west_b)
-
-left_of_west : (spanning : Bool) (lo hi p : Point) → (int_le lo.lat p.lat && int_lt p.lat hi.lat) ≡ spanning →
-    p.lon <ℤ lo.lon → p.lon <ℤ hi.lon → (spanning && is_left_of lo hi p) ≡ spanning
-left_of_west false lo hi p spans lo_east hi_east = refl
-left_of_west true lo hi p spans lo_east hi_east =
-    let tests = and_parts (int_le lo.lat p.lat) (int_lt p.lat hi.lat) spans in
-    let low : int_le lo.lat p.lat ≡ true = tests.0 in
-    let high : int_lt p.lat hi.lat ≡ true = tests.1 in
-    below-mul (p.lon -ℤ lo.lon) (hi.lon -ℤ lo.lon) (hi.lat -ℤ lo.lat) (p.lat -ℤ lo.lat)
-    (omega (arith, ints)) (omega (arith, ints)) (grind (arith, ints)) (grind (arith, ints))
+    crosses-side p (λ q. q.lon <ℤ p.lon) false
+    (λ lo hi lo_west hi_west low high. not_below-mul (p.lon -ℤ lo.lon) (hi.lon -ℤ lo.lon) (hi.lat -ℤ lo.lat) (p.lat -ℤ lo.lat) (omega (arith, ints)) (omega (arith, ints)) (omega (arith, ints)) (omega (arith, ints)))
+    a b west_a west_b ∙ and_right (spans (a, b) p) false refl
 
 pub both_east : (a b p : Point) → p.lon <ℤ a.lon → p.lon <ℤ b.lon → crosses (a, b) p ≡ spans (a, b) p
 both_east a b p east_a east_b =
-    left_of_west (spans (a, b) p) (low_end (a, b)) (high_end (a, b)) p refl
-    (low_end-of (λ q. p.lon <ℤ q.lon) a b east_a east_b) (high_end-of (λ q. p.lon <ℤ q.lon) a b east_a east_b)
+    crosses-side p (λ q. p.lon <ℤ q.lon) true
+    (λ lo hi lo_east hi_east low high. below-mul (p.lon -ℤ lo.lon) (hi.lon -ℤ lo.lon) (hi.lat -ℤ lo.lat) (p.lat -ℤ lo.lat) (omega (arith, ints)) (omega (arith, ints)) (omega (arith, ints)) (omega (arith, ints)))
+    a b east_a east_b ∙ and-true (spans (a, b) p)
 
 -- ---- a ring with a bound beyond the place
 

@@ -1,14 +1,15 @@
 -- The cell at a position, and whether a cell is one of those that bounds meet.
-use Rattle.std.proofs.Common.{◌≡◌, refl, sym, ap, ◌∙◌, ℕ, zero, suc, ◌+◌, ◌*◌, ◌/◌, ◌%◌, ◌<◌, ◌≤◌, Bool, true, false, ◌&&◌, ◌||◌, eqb, Option, Some, None, option_map, List, [], ◌∷◌, ◌++◌, length, get_or, slice_get, ℤ, pos, ◌+ℤ◌, ◌-ℤ◌, ◌≤ℤ◌, ◌<ℤ◌, neg_ℤ, SFits, w16, rules, arith}
+use Rattle.std.proofs.Common.{◌≡◌, refl, sym, ap, ◌∙◌, ℕ, zero, suc, ◌+◌, ◌*◌, ◌/◌, ◌%◌, ◌<◌, ◌≤◌, Bool, true, false, ◌&&◌, ◌||◌, eqb, Option, Some, None, option_map, List, [], ◌∷◌, ◌++◌, length, get_or, slice_get, ℤ, pos, ◌+ℤ◌, ◌-ℤ◌, ◌≤ℤ◌, ◌<ℤ◌, neg_ℤ, SFits, w16, to_z, of_z, subst, rules, arith}
 use Rattle.std.specs.List.{flat_map, list_any}
 use Rattle.std.specs.Ordering.{int_eq}
 use Rattle.std.proofs.lemmas.Bool.{false_from_ne_true}
 use Rattle.std.proofs.lemmas.Bool.Decides.{Decides-int_eq}
-use Rattle.std.proofs.lemmas.Int.{ints}
+use Rattle.std.proofs.lemmas.Int.{ints, to_z-of_z, to_z_pos}
 use Rattle.std.proofs.lemmas.List.{length-map}
 use Rattle.std.proofs.lemmas.List.Folds.{list_any-append, list_any_at}
 use Rattle.std.proofs.lemmas.Map.Views.{Contains-from_any}
 use Rattle.std.proofs.lemmas.Option.{slice_get-map, slice_get_past, slice_get_read}
+use Rattle.std.proofs.Math.Bool.{and-false, and-or_distrib_left, and-or_distrib_right}
 use Rattle.std.proofs.Math.Nat.{div-add-mod, mod-lt}
 use Rattle.lost_grid.specs.declared.cell.Cell.{Cell}
 use Rattle.lost_grid.specs.CellsApart.{same_cell}
@@ -22,26 +23,28 @@ use Rattle.lost_grid.specs.Runs.{length-up_to, get_or-up_to, Contains-up_to}
 fits_between : (z : ℤ) → neg_ℤ (pos 6867) ≤ℤ z → z ≤ℤ pos 6867 → SFits w16 z
 fits_between z low high = search (rules, ints)
 
--- the number at a position
-pub number_at : (low end : ℤ) (i : ℕ) → low ≤ℤ end → i < length (up_to low end) → Some (low +ℤ pos i) ≡ slice_get (up_to low end) i
-number_at low end i order within =
-    sym (slice_get_read (up_to low end) (length (up_to low end)) i (low +ℤ pos i) refl within (sym (get_or-up_to low end i (low +ℤ pos i) within)))
+-- the first one with a position added in 16 bits
+abbrev added : ℤ → ℕ → ℤ
+added first i = to_z w16 (of_z w16 (to_z w16 (of_z w16 first) +ℤ to_z w16 i))
+
+-- nothing is lost, and this is the number at the position
+pub line_at : (first end : ℤ) (i : ℕ) → first ≤ℤ end → neg_ℤ (pos 6867) ≤ℤ first → end ≤ℤ pos 6867 → i < length (up_to first end)
+    → (Some (added first i) ≡ slice_get (up_to first end) i) × IsLine (added first i)
+line_at first end i order low high within =
+    let line = first +ℤ pos i in
+    let count : pos (length (up_to first end)) ≡ end -ℤ first = length-up_to first end order in
+    let top : pos i <ℤ (end -ℤ first) = omega (arith, ints) in
+    let own : to_z w16 (of_z w16 first) ≡ first = to_z-of_z w16 first (fits_between first low (omega (arith, ints))) in
+    let wide : to_z w16 i ≡ pos i = to_z_pos w16 i (omega (arith, ints)) in
+    let fits : SFits w16 line = fits_between line (omega (arith, ints)) (omega (arith, ints)) in
+    let is : added first i ≡ line =
+    ap (λ (z : ℤ). to_z w16 (of_z w16 (z +ℤ to_z w16 i))) own ∙ ap (λ (z : ℤ). to_z w16 (of_z w16 (first +ℤ z))) wide ∙ to_z-of_z w16 line fits in (
+      ap Some is ∙ sym (slice_get_read (up_to first end) (length (up_to first end)) i line refl within (sym (get_or-up_to first end i line within))),
+      subst IsLine (sym is) (record { low = omega (arith, ints); high = omega (arith, ints) }),
+    )
 
 pub none_at : (low end : ℤ) (i : ℕ) → length (up_to low end) ≤ i → None ≡ slice_get (up_to low end) i
 none_at low end i past = sym (slice_get_past (up_to low end) i past)
-
--- it fits its type, and so do the first one and the position
-pub number_fits : (first end : ℤ) (i : ℕ) → neg_ℤ (pos 6867) ≤ℤ first → end ≤ℤ pos 6867 → pos (length (up_to first end)) ≡ end -ℤ first → i < length (up_to first end)
-    → (SFits w16 first) × (SFits w16 (first +ℤ pos i)) × (i < 32768)
-number_fits first end i low high count within =
-    let top : pos i <ℤ (end -ℤ first) = omega (arith, ints) in
-    (fits_between first low (omega (arith, ints)), fits_between (first +ℤ pos i) (omega (arith, ints)) (omega (arith, ints)), omega (arith, ints))
-
-pub number_is_line : (first end : ℤ) (i : ℕ) → neg_ℤ (pos 6867) ≤ℤ first → end ≤ℤ pos 6867 → pos (length (up_to first end)) ≡ end -ℤ first → i < length (up_to first end)
-    → IsLine (first +ℤ pos i)
-number_is_line first end i low high count within =
-    let top : pos i <ℤ (end -ℤ first) = omega (arith, ints) in
-    record { low = omega (arith, ints); high = omega (arith, ints) }
 
 -- a number is one of them exactly where it lies between
 pub has_number : (low end z : ℤ) → low ≤ℤ z → z <ℤ end → list_any (int_eq z) (up_to low end) ≡ true
@@ -117,13 +120,18 @@ at_position level cs rs count i is some =
     ∙ at_place level cs rs (i / count) (i % count) (omega arith)
 
 -- the same for the rows and columns that bounds meet at their level
+columns_within : (level : ℕ) (bounds : Bounds) (cs : List ℤ) (i : ℕ) → level ≡ level_of bounds → cs ≡ columns level bounds
+    → slice_get (flat_map (λ row. cells_in_row level row cs) (rows level bounds)) i ≡ slice_get (cells_within (level_of bounds) bounds) i
+columns_within level bounds cs i least of_columns =
+    ap (λ (ns : List ℤ). slice_get (flat_map (λ row. cells_in_row level row ns) (rows level bounds)) i) of_columns
+    ∙ ap (λ (k : ℕ). slice_get (cells_within k bounds) i) least
+
 pub found_within : (level : ℕ) (bounds : Bounds) (rs cs : List ℤ) (count i : ℕ) → level ≡ level_of bounds → rs ≡ rows level bounds → cs ≡ columns level bounds → count ≡ length cs → 0 < count
     → found level cs (i % count) (slice_get rs (i / count)) ≡ slice_get (cells_within (level_of bounds) bounds) i
 found_within level bounds rs cs count i least of_rows of_columns is some =
     sym (at_position level cs rs count i is some)
     ∙ ap (λ (ns : List ℤ). slice_get (flat_map (λ row. cells_in_row level row cs) ns) i) of_rows
-    ∙ ap (λ (ns : List ℤ). slice_get (flat_map (λ row. cells_in_row level row ns) (rows level bounds)) i) of_columns
-    ∙ ap (λ (k : ℕ). slice_get (cells_within k bounds) i) least
+    ∙ columns_within level bounds cs i least of_columns
 
 -- where there is no column, there is no cell
 pub no_cells : (level : ℕ) (cs rs : List ℤ) (i : ℕ) → length cs ≡ 0 → slice_get (flat_map (λ row. cells_in_row level row cs) rs) i ≡ None
@@ -134,38 +142,24 @@ no_cells level (c ∷ cs) rs i none = absurd (omega arith)
 pub none_within : (level : ℕ) (bounds : Bounds) (cs : List ℤ) (count i : ℕ) → level ≡ level_of bounds → cs ≡ columns level bounds → count ≡ length cs → count ≡ 0
     → None ≡ slice_get (cells_within (level_of bounds) bounds) i
 none_within level bounds cs count i least of_columns is none =
-    sym (no_cells level cs (rows level bounds) i (sym is ∙ none))
-    ∙ ap (λ (ns : List ℤ). slice_get (flat_map (λ row. cells_in_row level row ns) (rows level bounds)) i) of_columns
-    ∙ ap (λ (k : ℕ). slice_get (cells_within k bounds) i) least
+    sym (no_cells level cs (rows level bounds) i (sym is ∙ none)) ∙ columns_within level bounds cs i least of_columns
 
 -- ---- whether a cell is one of them
 
 both_parts : (l x y c : Bool) → ((l && (x && c)) || (l && (y && c))) ≡ (l && ((x || y) && c))
-both_parts false x y c = refl
-both_parts true true y true = refl
-both_parts true true true false = refl
-both_parts true true false false = refl
-both_parts true false y c = refl
-
-none_of : (l x : Bool) → false ≡ (l && (x && false))
-none_of false x = refl
-none_of true true = refl
-none_of true false = refl
+both_parts l x y c = sym (and-or_distrib_left l (x && c) (y && c)) ∙ ap (λ b. l && b) (sym (and-or_distrib_right x y c))
 
 in_row : (level : ℕ) (row : ℤ) (cs : List ℤ) (cell : Cell) → list_any (same_cell cell) (cells_in_row level row cs) ≡ (eqb cell.level level && (int_eq cell.row row && list_any (int_eq cell.column) cs))
-in_row level row [] cell = none_of (eqb cell.level level) (int_eq cell.row row)
+in_row level row [] cell = sym (ap (λ b. eqb cell.level level && b) (and-false (int_eq cell.row row)) ∙ and-false (eqb cell.level level))
 in_row level row (c ∷ cs) cell =
     ap (λ b. same_cell cell (record { level = level; row = row; column = c }) || b) (in_row level row cs cell)
     ∙ joined (eqb cell.level level) (int_eq cell.row row) (int_eq cell.column c) (list_any (int_eq cell.column) cs)
   where
     joined : (l x a b : Bool) → ((l && (x && a)) || (l && (x && b))) ≡ (l && (x && (a || b)))
-    joined false x a b = refl
-    joined true false a b = refl
-    joined true true a b = refl
+    joined l x a b = sym (and-or_distrib_left l (x && a) (x && b)) ∙ ap (λ c. l && c) (sym (and-or_distrib_left x a b))
 
 none_in : (l c : Bool) → false ≡ (l && (false && c))
-none_in false c = refl
-none_in true c = refl
+none_in l c = sym (and-false l)
 
 pub in_rows : (level : ℕ) (cs rs : List ℤ) (cell : Cell) → list_any (same_cell cell) (flat_map (λ row. cells_in_row level row cs) rs)
     ≡ (eqb cell.level level && (list_any (int_eq cell.row) rs && list_any (int_eq cell.column) cs))

@@ -241,9 +241,13 @@ module _ {T A : Type 0} where
       → p % 512 < deque_len (get_or cs (p / 512) e)
   spot_within cs p e filled inside = place_within cs (p / 512) (p % 512) e filled (omega arith) (omega (arith, inside))
 
-  pub removed : (cs : List (VecDeque T A)) (p : ℕ) (e c' : VecDeque T A) → AreFilled cs → p < length (elements cs)
-      → c'.items ≡ remove (get_or cs (p / 512) e).items (p % 512) → elements (set cs (p / 512) c') ≡ remove (elements cs) p
-  removed cs p e c' filled inside is =
+  -- an edit at a place, which changes the one part of a list where the place is, changes the chunk there
+  edited : (edit : List T → ℕ → List T)
+      → ((xs ys : List T) (k : ℕ) → k < length xs → edit (xs ++ ys) k ≡ edit xs k ++ ys)
+      → ((xs ys : List T) (n k : ℕ) → length xs ≡ n → n ≤ k → edit (xs ++ ys) k ≡ xs ++ edit ys (k - n))
+      → (cs : List (VecDeque T A)) (p : ℕ) (e c' : VecDeque T A) → AreFilled cs → p < length (elements cs)
+      → c'.items ≡ edit (get_or cs (p / 512) e).items (p % 512) → elements (set cs (p / 512) c') ≡ edit (elements cs) p
+  edited edit in_left in_right cs p e c' filled inside is =
       let within = row_within cs p filled inside in
       let chunk = (get_or cs (p / 512) e).items in
       let start = elements (take (p / 512) cs) in
@@ -253,27 +257,19 @@ module _ {T A : Type 0} where
       let size = long (get_or cs (p / 512) e) in
       around_other cs (p / 512) c' within
       ∙ ap (λ ts. start ++ (ts ++ rest)) is
-      ∙ ap (λ ts. start ++ ts) (sym (remove-append_left chunk rest (p % 512) (omega (arith, spot, size))))
-      ∙ ap (λ k. start ++ remove (chunk ++ rest) k) (sym at.2)
-      ∙ sym (remove-append_right start (chunk ++ rest) (512 * (p / 512)) p at.0 at.1)
-      ∙ ap (λ ts. remove ts p) (sym (around cs (p / 512) e within))
+      ∙ ap (λ ts. start ++ ts) (sym (in_left chunk rest (p % 512) (omega (arith, spot, size))))
+      ∙ ap (λ k. start ++ edit (chunk ++ rest) k) (sym at.2)
+      ∙ sym (in_right start (chunk ++ rest) (512 * (p / 512)) p at.0 at.1)
+      ∙ ap (λ ts. edit ts p) (sym (around cs (p / 512) e within))
+
+  pub removed : (cs : List (VecDeque T A)) (p : ℕ) (e c' : VecDeque T A) → AreFilled cs → p < length (elements cs)
+      → c'.items ≡ remove (get_or cs (p / 512) e).items (p % 512) → elements (set cs (p / 512) c') ≡ remove (elements cs) p
+  removed = edited remove remove-append_left remove-append_right
 
   pub replaced : (cs : List (VecDeque T A)) (p : ℕ) (e c' : VecDeque T A) (x : T) → AreFilled cs → p < length (elements cs)
       → c'.items ≡ set (get_or cs (p / 512) e).items (p % 512) x → elements (set cs (p / 512) c') ≡ set (elements cs) p x
-  replaced cs p e c' x filled inside is =
-      let within = row_within cs p filled inside in
-      let chunk = (get_or cs (p / 512) e).items in
-      let start = elements (take (p / 512) cs) in
-      let rest = elements (drop (suc (p / 512)) cs) in
-      let at = offset cs p filled within in
-      let spot = spot_within cs p e filled inside in
-      let size = long (get_or cs (p / 512) e) in
-      around_other cs (p / 512) c' within
-      ∙ ap (λ ts. start ++ (ts ++ rest)) is
-      ∙ ap (λ ts. start ++ ts) (sym (set-append_left chunk rest (p % 512) x (omega (arith, spot, size))))
-      ∙ ap (λ k. start ++ set (chunk ++ rest) k x) (sym at.2)
-      ∙ sym (set-append_right start (chunk ++ rest) (512 * (p / 512)) p x at.0 at.1)
-      ∙ ap (λ ts. set ts p x) (sym (around cs (p / 512) e within))
+  replaced cs p e c' x =
+      edited (λ xs k. set xs k x) (λ xs ys k. set-append_left xs ys k x) (λ xs ys n k. set-append_right xs ys n k x) cs p e c'
 
   pub value_there : (cs : List (VecDeque T A)) (p : ℕ) (e : VecDeque T A) (x : T) → AreFilled cs → p < length (elements cs)
       → x ≡ slice_index_or (get_or cs (p / 512) e).items (p % 512) x → x ≡ slice_index_or (elements cs) p x

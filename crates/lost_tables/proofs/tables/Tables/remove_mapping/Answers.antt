@@ -11,8 +11,6 @@ returns-clause-others c =
 
 pub returns-clause-gone : goal.returns-clause-gone
 returns-clause-gone c =
-    nowhere
-    (record { alloc = c.args.self.now.alloc; identities = c.unlist.new.lists; keys = c.unlist-2.new.lists; services = c.unlist-3.new.lists; defaults = c.unlist-4.new.lists })
-    c.args.mapping.now c.args.number c.identity.result.now (option_copied c.key.result) c.text-service.result.now (option_copied c.default_text.result)
+    nowhere _ c.args.mapping.now c.args.number c.identity.result.now (option_copied c.key.result) c.text-service.result.now (option_copied c.default_text.result)
     c.identity.ensures c.key.ensures.key (rw (← c.service.ensures) c.text-service.ensures.text) c.default_text.ensures
     c.unlist.ensures.gone c.unlist-2.ensures.gone c.unlist-3.ensures.gone c.unlist-4.ensures.gone
