@@ -1,15 +1,24 @@
 -- That what is held stays kept, edit by edit.
-use Rattle.std.proofs.Common.{◌≡◌, ℕ, suc, ◌<◌, false, List, [], ◌∷◌, ◌++◌, Option, None, Some, IfSome, length, take, drop, slice_set, slice_index_or, nat_eq, refl, sym, ap, subst, arith, ◌∙◌}
+use Rattle.std.proofs.Common.{◌≡◌, ℕ, suc, ◌<◌, Bool, false, List, [], ◌∷◌, ◌++◌, Option, None, Some, IfSome, length, take, drop, slice_set, slice_index_or, nat_eq, refl, sym, ap, subst, arith, ◌∙◌}
 use Rattle.std.specs.List.{zip, remove}
+use Rattle.std.specs.List.Sorted.{IsStrictlySortedBy}
 use Rattle.std.proofs.lemmas.List.{length-append, length-take-le}
 use Rattle.lost_spec.specs.Text.{Text}
 use Rattle.lost_spec.specs.Mapping.{Mapping}
 use Rattle.lost_tables.specs.declared.tables.Tables.{Tables}
 use Rattle.lost_tables.specs.Lookup.{ByIdentity, ByKey, ByService, ByDefault, IsListed, IsFullyListed, KeepsOthers}
-use Rattle.lost_regions.specs.Regions.{Regions, regions_of, with_mapping, with_other, without_number, HasAll, AreHeld, IsAboveAll}
+use Rattle.lost_regions.specs.Regions.{Regions, no_regions, regions_of, with_mapping, with_other, without_number, HasAll, AreHeld, IsAboveAll}
 use Rattle.lost_regions.proofs.RowLemmas.{Rows, HasNo, regions-put, regions-above, regions-held, regions-are_held, regions-changed, regions-removed}
-use Rattle.lost_routing.specs.Invariants.{IsStore, IsNew, AreFullyListed}
+use Rattle.lost_routing.specs.Invariants.{IsStore, IsClassed, IsNew, AreFullyListed}
 use Rattle.lost_routing.proofs.SplitLemmas.{get_split, set_split, all_front, all_back, all_join, zip_split, zip_join, rows_all, apart_before, apart_behind, rising_without, rising_put, new_apart}
+
+-- nothing is a store, whatever the tables have
+pub nothing_classed : (t : Tables) (strays : List Bool) → IsClassed [] [] t no_regions strays
+unfolding IsStrictlySortedBy
+nothing_classed t strays = record {
+  store = record { paired = refl; rising = tt; listed = tt; indexed = refl };
+  told = tt;
+}
 
 -- ---- notes
 
