@@ -75,6 +75,9 @@ def under(stdout, commands):
 class Program:
     """A program, with what it is given and what it must write: all its commands of the gate, or those that are named."""
 
+    # The ways in which some growth must end.
+    must_end = ()
+
     def __init__(self, crate, library, *commands):
         folder = f"{TOP}/crates/{crate}"
         self.words = [f"{folder}/out/{crate}", *(commands or read(f"{folder}/args").decode().split("\n")[:-1])]
@@ -105,7 +108,11 @@ class Program:
         if ran.stdout != self.wanted:
             raise Wrong("the text differs with no growth refused")
         made = growths(ran)
-        return made, Counter(self.judge(number) for number in range(1, made + 1))
+        ways = Counter(self.judge(number) for number in range(1, made + 1))
+        for way in self.must_end:
+            if not ways[way]:
+                raise Wrong(f"no growth ends in {way!r}")
+        return made, ways
 
 
 class Lines(Program):
@@ -135,6 +142,8 @@ class Lines(Program):
 
 class Desk(Lines):
     """The command desk, over a desk and a reader."""
+
+    must_end = ("a desk opened again",)
 
     def __init__(self, library):
         super().__init__("desk", library)
@@ -177,20 +186,13 @@ class Desk(Lines):
             raise Wrong(f"growth {refused}: the second pair is not committed, and then {without[-3:]}")
         return f"not {self.answers[place].decode()}"
 
-    def sweep(self):
-        made, ways = super().sweep()
-        if not ways["a desk opened again"]:
-            raise Wrong("no growth has a desk opened again")
-        return made, ways
-
 
 class Cache(Lines):
     """The command cache, over a desk and two readers: a desk line is answered once, a question by both."""
 
     # How many lines are said at the beginning of a part, and how many at its end.
     HEAD, END = 4, 2
-    # The ways in which some growth ends.
-    WAYS = ("a desk opened again", "a reader handed back", "a question asked again", "a question not read", "a desk line not done")
+    must_end = ("a desk opened again", "a reader handed back", "a question asked again", "a question not read", "a desk line not done")
 
     def __init__(self, library):
         super().__init__("cache", library)
@@ -257,18 +259,12 @@ class Cache(Lines):
             raise Wrong(f"growth {refused}: line {number + 1} is marked, and another line is answered otherwise")
         return kind
 
-    def sweep(self):
-        made, ways = super().sweep()
-        for way in self.WAYS:
-            if not ways[way]:
-                raise Wrong(f"no growth ends in {way!r}")
-        return made, ways
-
 
 class Streams(Program):
     """The command lines of the program rows_streams, over a stream of two lines, which marks the line of a refused growth."""
 
     LINES = rb"text aaaaaaaaaaaa\nb\n" + b"\nserve pieces=1\n"
+    must_end = ("a line answered refused",)
     # What is answered, and then the growths that were refused and the bytes that were written.
     ANSWERS = (([b"12", b"1"], 0, 5), ([b"refused", b"1"], 1, 10), ([b"12", b"refused"], 1, 11))
 
@@ -297,12 +293,6 @@ class Streams(Program):
             return "a line answered refused"
         return super().judge(refused)
 
-    def sweep(self):
-        made, ways = super().sweep()
-        if not ways["a line answered refused"]:
-            raise Wrong("no growth is answered refused")
-        return made, ways
-
 
 class DeskStream(Program):
     """The command hostile of the program rows_streams, over the desk lines of some input: serve_desk marks the line of a refused growth."""
@@ -310,6 +300,8 @@ class DeskStream(Program):
     def __init__(self, library, name, lines, replies):
         super().__init__("rows_streams", library, "hostile")
         self.name, self.lines, self.replies = name, lines, replies
+        staged = (number for number, reply in enumerate(replies, 1) if reply.startswith(b'{"staged"'))
+        self.must_end = tuple(f"line {number} answered code 20" for number in staged)
         self.wanted = self.output(replies)
         self.replies_without = [self.run(lines[:number] + lines[number + 1 :]) for number in range(len(lines))]
 
@@ -339,13 +331,6 @@ class DeskStream(Program):
                 return f"line {number + 1} answered code 20"
         return super().judge(refused)
 
-    def sweep(self):
-        made, ways = super().sweep()
-        for number, reply in enumerate(self.replies):
-            if reply.startswith(b'{"staged"') and not ways[f"line {number + 1} answered code 20"]:
-                raise Wrong(f"no growth is answered code 20 at line {number + 1}")
-        return made, ways
-
 
 def desk_streams(library):
     """The sweeps of desk lines through serve_desk: those of row `one-mapping`, and some of an identity that is withdrawn."""
@@ -367,6 +352,8 @@ def desk_streams(library):
 class Index(Program):
     """The rows of an index of the program rows_index, which tells of a refused call and makes it again."""
 
+    must_end = tuple(line.split(b":")[0].decode() for line in REFUSED)
+
     def __init__(self, library):
         super().__init__("rows_index", library, "covers", "index")
         self.answers = lines_of(self.wanted)
@@ -383,16 +370,11 @@ class Index(Program):
             raise Wrong(f"growth {refused}: {answers}")
         return told[0].split(b":")[0].decode()
 
-    def sweep(self):
-        made, ways = super().sweep()
-        for line in REFUSED:
-            if not ways[line.split(b":")[0].decode()]:
-                raise Wrong(f"no growth gives {line!r}")
-        return made, ways
-
 
 class Books(Program):
     """The edits of the program rows_books, which applies a refused edit again, and asks a refused question again."""
+
+    must_end = ("asked again", *(f"{name} ran out of memory in a {verb}" for name, verb in GROWING))
 
     def __init__(self, library):
         super().__init__("rows_books", library, "edits")
@@ -437,11 +419,7 @@ class Books(Program):
 
     def sweep(self):
         made, ways = super().sweep()
-        growing = {f"{name} ran out of memory in a {verb}" for name, verb in GROWING}
-        for way in {"asked again"} | growing:
-            if not ways[way]:
-                raise Wrong(f"no growth ends in {way!r}")
-        others = [way for way in ways if "ran out of memory in" in way and way not in growing]
+        others = [way for way in ways if "ran out of memory in" in way and way not in self.must_end]
         if others:
             raise Wrong(f"a growth ends in {others[0]!r}")
         return made, ways

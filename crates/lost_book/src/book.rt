@@ -77,20 +77,6 @@ impl Book {
         self.mappings.as_slice()
     }
 
-    /// The stamps of withdrawn identities.
-    fn traces(&self) -> &Traces
-        ensures { result.now ≡ self.now.traces }
-    {
-        &self.traces
-    }
-
-    /// The limits.
-    fn limits(&self) -> Limits
-        ensures { result ≡ self.now.limits }
-    {
-        self.limits
-    }
-
     /// The allocator that the book keeps.
     pub fn alloc(&self) -> Global {
         *self.mappings.allocator()

@@ -17,6 +17,10 @@ pub trait Register {
     /// The book that it stands for.
     ghost book: { Self → spec.Book };
 
+    /// The limits.
+    fn limits(&self) -> Limits
+        ensures { result ≡ (book self.now).limits };
+
     /// How many edits were accepted.
     fn edits(&self) -> u64
         ensures { result ≡ (book self.now).edits };
@@ -24,10 +28,6 @@ pub trait Register {
     /// How many mappings are held.
     fn count(&self) -> usize
         ensures { result ≡ length (book self.now).mappings };
-
-    /// The limits.
-    fn limits(&self) -> Limits
-        ensures { result ≡ (book self.now).limits };
 
     /// How many withdrawn identities are remembered.
     fn trace_count(&self) -> usize

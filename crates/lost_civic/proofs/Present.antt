@@ -1,5 +1,6 @@
 -- Which elements stand in an address or a pattern, and what a match says of them.
-use Rattle.std.proofs.Common.{◌≡◌, ◌&&◌, ◌||◌, not, Bool, true, false, cond, [], ◌∷◌, get_or, find, Option, Some, None, option_map, is_some, IfSome, refl, sym, ◌∙◌, ap}
+use Rattle.std.proofs.Common.{◌≡◌, ◌||◌, not, Bool, true, false, cond, [], ◌∷◌, get_or, find, Option, Some, None, option_map, is_some, IfSome, refl, sym, ◌∙◌, ap}
+use Rattle.std.specs.Cmp.{first_so, second_so}
 use Rattle.std.specs.List.{list_any, list_all, Any}
 use Rattle.std.proofs.lemmas.Bool.{false≢true}
 use Rattle.std.proofs.lemmas.List.Folds.{Any-from_list_any, list_any_at}
@@ -14,16 +15,8 @@ use Rattle.lost_civic.proofs.ElementLemmas.{is_known-elements}
 
 -- ---- a match
 
-first_so : (a b : Bool) → (a && b) ≡ true → a ≡ true
-first_so true b h = refl
-first_so false b h = h
-
-second_so : (a b : Bool) → (a && b) ≡ true → b ≡ true
-second_so true b h = h
-second_so false b h = absurd (false≢true h)
-
 -- a value that compares to a text has that comparison text
-text-from_compares_to : (value : Option Text) (text : Text) → compares_to value text ≡ true → option_map comparison_text value ≡ Some text
+pub text-from_compares_to : (value : Option Text) (text : Text) → compares_to value text ≡ true → option_map comparison_text value ≡ Some text
 text-from_compares_to None text h = absurd (false≢true h)
 text-from_compares_to (Some value) text h = ap Some ((bytes_eq-Decides (comparison_text value) text).0 h)
 
@@ -51,16 +44,15 @@ known_element name h =
     let some : Any (λ element. is_named element ≡ true) all_elements = Any-from_list_any is_named all_elements (sym (is_known-elements name) ∙ h) in
     (some.1, (bytes_eq-Decides name (element_name some.1)).0 some.4)
 
-present_by : (test before : Bool) (pair : Text × Text) (found : Option (Text × Text)) → (test || before) ≡ true → (before ≡ true → is_some (option_map comparison_text (option_map (λ other. other.1) found)) ≡ true) → is_some (option_map comparison_text (option_map (λ other. other.1) (cond test (Some pair) found))) ≡ true
-present_by true before pair found e h = refl
-present_by false before pair found e h = h e
-
--- a name that stands among the pairs has a text
-present_text : (name : Text) (pairs : Pairs) → is_among name (names_of pairs) ≡ true → is_some (option_map comparison_text (value_of name pairs)) ≡ true
-present_text name [] h = absurd (false≢true h)
-present_text name (pair ∷ rest) h =
-    let has_name : Text × Text → Bool = λ other. same_text name other.0 in
-    present_by (has_name pair) (is_among name (names_of rest)) pair (find has_name rest) h (present_text name rest)
+-- a name has a text exactly where it stands among the pairs
+pub is_some-text : (name : Text) (pairs : Pairs) → is_some (option_map comparison_text (value_of name pairs)) ≡ is_among name (names_of pairs)
+is_some-text name [] = refl
+is_some-text name (pair ∷ rest) =
+    let found = find (λ (other : Text × Text). same_text name other.0) rest in
+    elim (same_text name pair.0) as (λ b. is_some (option_map comparison_text (option_map (λ (other : Text × Text). other.1) (cond b (Some pair) found))) ≡ (b || is_among name (names_of rest))) [
+      | true ↦ refl
+      | false ↦ is_some-text name rest
+    ]
 
 -- where some name is known, some element has a text
 pub some_element : (pairs : Pairs) → list_any is_known (names_of pairs) ≡ true → HasElement pairs
@@ -69,7 +61,7 @@ some_element pairs h =
     let name = stands.1 in
     let among : is_among name (names_of pairs) ≡ true = list_any_at (same_text name) (names_of pairs) stands.0 name stands.2 ((bytes_eq-Decides name (get_or (names_of pairs) stands.0 name)).1 (sym stands.3)) in
     let named = known_element name stands.4 in
-    (named.0, ap (λ own. is_some (option_map comparison_text (value_of own pairs))) (sym named.1) ∙ present_text name pairs among)
+    (named.0, ap (λ own. is_some (option_map comparison_text (value_of own pairs))) (sym named.1) ∙ is_some-text name pairs ∙ among)
 
 some_known-address : (long twice known : Bool) → first_fault ((long, TooLong) ∷ (twice, Repeated) ∷ (not known, NoKnownElement) ∷ []) ≡ None → known ≡ true
 some_known-address long twice true h = refl

@@ -1,18 +1,24 @@
 -- Pairs of a name and a value as the definitions see them: by the bytes of both.
-use Rattle.std.specs.Prelude.{Bool, List, map, length, not, nat_lt, ◌++◌, ◌&&◌, ◌||◌, String, string_bytes}
+use Rattle.std.specs.Prelude.{Bool, List, [], ◌∷◌, map, length, not, nat_lt, ◌++◌, ◌&&◌, ◌||◌, Option, String, string_bytes}
 use Rattle.std.specs.Cmp.{IsEquivalence, and_equiv, on_equiv}
 use Rattle.std.specs.Cmp.Lexicographic.{lists_equiv, nat_list_eq_equiv}
 use Rattle.std.specs.Hash as fed
 use Rattle.std.proofs.lemmas.Slice.Eq.{bytes_eq-Decides}
 use lib.Pointwise.{pointwise}
-use Rattle.lost_spec.specs.Text.{Text, same_text}
-use Rattle.lost_spec.specs.Civic.{Pairs, is_known}
+use Rattle.lost_spec.specs.declared.faults.CivicError.{CivicError}
+use Rattle.lost_spec.specs.declared.faults.CivicError.TheVariants.{Repeated, TooLong}
+use Rattle.lost_spec.specs.Text.{Text, same_text, has_repeat, first_fault}
+use Rattle.lost_spec.specs.Civic.{Pairs, names_of, is_known, is_too_long}
 
 abbrev pub seen_pair : {A : Type 0} → String A × String A → Text × Text
 seen_pair pair = (string_bytes pair.0, string_bytes pair.1)
 
 abbrev pub seen_pairs : {A : Type 0} → List (String A × String A) → Pairs
 seen_pairs pairs = map seen_pair pairs
+
+-- the first refusal that addresses and patterns share: too long, a name twice (own)
+abbrev pub shared_fault : Pairs → Option CivicError
+shared_fault pairs = first_fault ((is_too_long pairs, TooLong) ∷ (has_repeat (names_of pairs), Repeated) ∷ [])
 
 -- a pair that a pattern takes: neither text has over 512 bytes, and the name is known (own)
 abbrev pub is_pattern_pair : Text × Text → Bool

@@ -1,6 +1,6 @@
 //! Civic addresses.
 
-ghost use Rattle.std.specs.Prelude.{◌≡◌, ◌≢◌, None, Some, IfOk, IfErr, OnOk, IfSome};
+ghost use Rattle.std.specs.Prelude.{◌≡◌, ◌≢◌, None, Some, IfOk, IfErr, OnOk, IfSome, option_map, string_bytes};
 ghost use Rattle.std.specs.Option.{option_copied};
 ghost use Rattle.std.specs.Result.{result_err};
 ghost use Rattle.std.specs.Cmp.{partial_equiv_from_equiv};
@@ -99,10 +99,17 @@ impl CivicAddress {
     pub fn text(&self, element: Element) -> Option<&str>
         ensures { option_copied result ≡ text_of element self.now }
     {
-        match &self.texts[element.index()] {
+        match self.kept(element) {
             Some(text) => Some(text.as_str()),
             None => None,
         }
+    }
+
+    /// The comparison text that is kept for an element.
+    fn kept(&self, element: Element) -> &Option<String>
+        ensures { option_map string_bytes result.now ≡ text_of element self.now }
+    {
+        &self.texts[element.index()]
     }
 
     /// Whether the element stands in the address with this comparison text.

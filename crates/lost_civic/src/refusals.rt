@@ -4,7 +4,7 @@ ghost use Rattle.std.specs.Prelude.{◌≡◌, ◌||◌, length, nat_lt};
 ghost use Rattle.std.specs.List.{list_any, list_all};
 ghost use Rattle.lost_spec.specs.Text.{is_among, has_repeat};
 ghost use Rattle.lost_spec.specs.Civic.{names_of, is_known, is_too_long, address_fault, pattern_fault};
-ghost use Rattle.lost_civic.specs.Pairs.{seen_pairs};
+ghost use Rattle.lost_civic.specs.Pairs.{seen_pairs, shared_fault};
 
 use crate::Element;
 use lost_spec::faults::CivicError;
@@ -19,14 +19,9 @@ pub const MAX_TEXT_BYTES: usize = 512;
 pub(crate) fn first_address_fault(pairs: &[(String, String)]) -> Option<CivicError>
     ensures { result ≡ address_fault (seen_pairs pairs.now) }
 {
-    if exceeds_limits(pairs) {
-        Some(CivicError::TooLong)
-    } else if repeats_name(pairs) {
-        Some(CivicError::Repeated)
-    } else if !knows_some_name(pairs) {
-        Some(CivicError::NoKnownElement)
-    } else {
-        None
+    match first_shared_fault(pairs) {
+        None if !knows_some_name(pairs) => Some(CivicError::NoKnownElement),
+        found => found,
     }
 }
 
@@ -34,14 +29,21 @@ pub(crate) fn first_address_fault(pairs: &[(String, String)]) -> Option<CivicErr
 pub(crate) fn first_pattern_fault(pairs: &[(String, String)]) -> Option<CivicError>
     ensures { result ≡ pattern_fault (seen_pairs pairs.now) }
 {
+    match first_shared_fault(pairs) {
+        None if !knows_each_name(pairs) => Some(CivicError::UnknownElement),
+        None if !knows_some_name(pairs) => Some(CivicError::NoKnownElement),
+        found => found,
+    }
+}
+
+/// The first refusal of both, other than memory: too long, a name twice.
+fn first_shared_fault(pairs: &[(String, String)]) -> Option<CivicError>
+    ensures { result ≡ shared_fault (seen_pairs pairs.now) }
+{
     if exceeds_limits(pairs) {
         Some(CivicError::TooLong)
     } else if repeats_name(pairs) {
         Some(CivicError::Repeated)
-    } else if !knows_each_name(pairs) {
-        Some(CivicError::UnknownElement)
-    } else if !knows_some_name(pairs) {
-        Some(CivicError::NoKnownElement)
     } else {
         None
     }

@@ -10,7 +10,7 @@ use Rattle.lost_spec.specs.Civic.{Pairs, value_of, comparison_text, compares_to,
 use Rattle.lost_civic.specs.declared.elements.Element.TheVariants.{Country}
 use Rattle.lost_civic.specs.Element.{element_name}
 use Rattle.lost_civic.specs.Texts.{text_of, HasElement}
-use Rattle.lost_civic.proofs.Present.{shared_text, HasElement-pattern}
+use Rattle.lost_civic.proofs.Present.{text-from_compares_to, shared_text, HasElement-pattern}
 use Rattle.lost_profile.specs.Keys.{SharesKey}
 use Rattle.lost_civicdex.specs.Keys.{Key, keys_of, last_of, last_key}
 use Rattle.lost_civicdex.specs.Covers.{civic_cover, IsPattern, names_all, required_probes, IsRequirement}
@@ -52,10 +52,6 @@ civic_shares pattern address lawful holds =
     record { key = last; in_left = in_found (last_key pattern) last found.0; in_right = key_stands address last.0 last.1 others }
 
 -- ---- required elements
-
-pub text-from_compares_to : (value : Option Text) (text : Text) → compares_to value text ≡ true → option_map comparison_text value ≡ Some text
-text-from_compares_to None text h = absurd (false≢true h)
-text-from_compares_to (Some value) text h = ap Some ((bytes_eq-Decides (comparison_text value) text).0 h)
 
 -- where a pattern names each required element, the last of them is one of its keys
 pub required_shares : (pattern : Pairs) (required : List Key) → IsRequirement required → IsTrue (names_all pattern required) → SharesKey (keys_of pattern) (required_probes required)

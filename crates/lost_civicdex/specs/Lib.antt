@@ -3,7 +3,6 @@ pub mod Covers
 pub mod HashedKeys
 pub mod HashedLaws
 pub mod KeyLemmas
-pub mod KeyOrder
 pub mod KeyPresence
 pub mod Keys
 pub mod KeysApart

@@ -7,22 +7,13 @@ use Rattle.lost_spec.specs.Civic.{Pairs, names_of, value_of, comparison_text}
 use Rattle.lost_civic.specs.declared.elements.Element.{Element}
 use Rattle.lost_civic.specs.Element.{element_name, all_elements}
 use Rattle.lost_civic.specs.Texts.{text_of}
+use Rattle.lost_civic.proofs.Present.{is_some-text}
 use Rattle.lost_profile.specs.Keys.{SharesKey}
 use Rattle.lost_civicdex.specs.Keys.{keys_of}
 use Rattle.lost_civicdex.specs.KeysApart.{AreApart, keys_distinct, keys_bounded}
 use Rattle.lost_civicdex.specs.KeyPresence.{key_stands}
 use Rattle.lost_civicdex.specs.CoverLaws.{in_map, text_from_IsSome}
 use Rattle.lost_civicdex.specs.NamedElements.{names_element, named_cover, element_probes}
-
--- a pattern names what has a comparison text in it
-pub is_some-text : (name : Text) (pairs : Pairs) → is_some (option_map comparison_text (value_of name pairs)) ≡ is_among name (names_of pairs)
-is_some-text name [] = refl
-is_some-text name (pair ∷ rest) =
-    let found = find (λ (other : Text × Text). same_text name other.0) rest in
-    elim (same_text name pair.0) as (λ b. is_some (option_map comparison_text (option_map (λ (other : Text × Text). other.1) (cond b (Some pair) found))) ≡ (b || is_among name (names_of rest))) [
-      | true ↦ refl
-      | false ↦ is_some-text name rest
-    ]
 
 -- an element that a pattern names is a key of both
 pub named_shares : (pattern : Pairs) (element : Element) → IsTrue (names_element pattern element) → SharesKey (named_cover pattern) (element_probes element)

@@ -6,9 +6,9 @@ use Rattle.lost_spec.specs.Civic.{Pairs, value_of, has_value, matches}
 use Rattle.lost_civic.specs.declared.signatures.Signature.{Signature}
 use Rattle.lost_civic.specs.Element.{element_name}
 use Rattle.lost_civic.specs.Signatures.{signature_of, signature_of_keys, are_among}
+use Rattle.lost_civic.proofs.Present.{text-from_compares_to}
 use Rattle.lost_civic.proofs.SignatureLemmas.{signatures_meet, AllStand, keys_meet}
 use Rattle.lost_civicdex.specs.Keys.{Key}
-use Rattle.lost_civicdex.specs.CoverLaws.{text-from_compares_to}
 use Rattle.lost_civicdex.specs.Covers.{signature, may_match, names_all, may_name}
 
 -- where a pattern matches an address, its outline says that it may

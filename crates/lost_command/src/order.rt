@@ -4,7 +4,7 @@ use crate::given::server_name;
 use crate::replaying::said_of;
 use clap::ArgMatches;
 use lost_mapping::Source;
-use lost_sockets::mode_of;
+use lost_sockets::{Addresses, mode_of};
 
 /// A server's settings (own rule).
 #[derive(Drop)]
@@ -15,14 +15,8 @@ pub struct ServeOrder<'a> {
     pub map: Option<&'a str>,
     /// Whether the server starts even if lines of its map were refused or are not committed.
     pub keeps_going: bool,
-    /// The address of queries, as it was given.
-    pub queries: &'a str,
-    /// The address of the desk, as it was given. If there is none, there is a map.
-    pub desk: Option<&'a str>,
-    /// The address of the status, as it was given.
-    pub status: Option<&'a str>,
-    /// The mode of the files of Unix sockets, at most `0o777`.
-    pub socket_mode: u32,
+    /// The addresses, as they were given. If there is none of the desk, there is a map.
+    pub addresses: Addresses<'a>,
     /// How many threads answer requests: 1 to 64.
     pub workers: u32,
     /// How many query connections are served: 1 to 1,000,000; `None` for all.
@@ -61,10 +55,12 @@ pub(crate) fn order_of<'a, R: Eprint + AllocGlobal>(
         name,
         map: given.get_str("map"),
         keeps_going: given.get_flag("keep-going"),
-        queries: given.get_str("queries").unwrap_or(""),
-        desk: given.get_str("desk"),
-        status: given.get_str("status"),
-        socket_mode,
+        addresses: Addresses {
+            queries: given.get_str("queries").unwrap_or(""),
+            desk: given.get_str("desk"),
+            status: given.get_str("status"),
+            socket_mode,
+        },
         workers: given.get_one::<u32>("workers").unwrap_or(0),
         connections: given.get_one::<u32>("connections"),
         idle: given.get_one::<u32>("idle").unwrap_or(0),

@@ -94,35 +94,28 @@ published_accepted world i =
 
 -- ---- no refusal is want of memory
 
-publish_clear : (spent held gone full key : Bool) → first_fault ((spent, EditsSpent) ∷ (held, IdentityHeld) ∷ (gone, Withdrawn) ∷ (full, Full) ∷ (key, KeyHeld) ∷ []) ≢ Some Memory
-publish_clear true held gone full key e = cc
-publish_clear false true gone full key e = cc
-publish_clear false false true full key e = cc
-publish_clear false false false true key e = cc
-publish_clear false false false false true e = cc
-publish_clear false false false false false e = cc
+-- no check has this fault
+abbrev AreOther : {Fault : Type 0} → Fault → List (Bool × Fault) → Type 0
+AreOther fault [] = Unit {0}
+AreOther fault (check ∷ checks) = (check.1 ≢ fault) × AreOther fault checks
 
-replace_clear : (spent unknown old key same : Bool) → first_fault ((spent, EditsSpent) ∷ (unknown, IdentityUnknown) ∷ (old, NotNewer) ∷ (key, KeyHeld) ∷ (same, KeyUnchanged) ∷ []) ≢ Some Memory
-replace_clear true unknown old key same e = cc
-replace_clear false true old key same e = cc
-replace_clear false false true key same e = cc
-replace_clear false false false true same e = cc
-replace_clear false false false false true e = cc
-replace_clear false false false false false e = cc
-
-withdraw_clear : (spent unknown old most : Bool) → first_fault ((spent, EditsSpent) ∷ (unknown, IdentityUnknown) ∷ (old, NotNewer) ∷ (most, TracesFull) ∷ []) ≢ Some Memory
-withdraw_clear true unknown old most e = cc
-withdraw_clear false true old most e = cc
-withdraw_clear false false true most e = cc
-withdraw_clear false false false true e = cc
-withdraw_clear false false false false e = cc
+never_first : {Fault : Type 0} (fault : Fault) (checks : List (Bool × Fault)) → AreOther fault checks → first_fault checks ≢ Some fault
+never_first fault [] other e = cc
+never_first fault ((true, here) ∷ checks) other e = other.0 (cc)
+never_first fault ((false, here) ∷ checks) other e = never_first fault checks other.1 e
 
 refusal_clear : (b : Book) (edit : Edit) → refusal b edit ≢ Some Memory
 refusal_clear b (PublishEdit m) =
-    publish_clear (is_spent b) (is_held b (identity_of m)) (is_not_after (withdrawn b (identity_of m)) m.stamp) (is_full b) (is_key_held b (identity_of m) m.key)
+    let old = is_not_after (withdrawn b (identity_of m)) m.stamp in
+    never_first Memory ((is_spent b, EditsSpent) ∷ (is_held b (identity_of m), IdentityHeld) ∷ (old, Withdrawn) ∷ (is_full b, Full) ∷ (is_key_held b (identity_of m) m.key, KeyHeld) ∷ [])
+    ((λ e. cc), ((λ e. cc), ((λ e. cc), ((λ e. cc), ((λ e. cc), tt)))))
 refusal_clear b (Replace m) =
-    replace_clear (is_spent b) (not (is_held b (identity_of m))) (is_not_newer (held b (identity_of m)) m.stamp) (is_key_held b (identity_of m) m.key) (is_key_unchanged (held b (identity_of m)) m)
-refusal_clear b (Withdraw id stamp) = withdraw_clear (is_spent b) (not (is_held b id)) (is_not_newer (held b id) stamp) (has_most_traces b)
+    let had = held b (identity_of m) in
+    never_first Memory ((is_spent b, EditsSpent) ∷ (not (is_held b (identity_of m)), IdentityUnknown) ∷ (is_not_newer had m.stamp, NotNewer) ∷ (is_key_held b (identity_of m) m.key, KeyHeld) ∷ (is_key_unchanged had m, KeyUnchanged) ∷ [])
+    ((λ e. cc), ((λ e. cc), ((λ e. cc), ((λ e. cc), ((λ e. cc), tt)))))
+refusal_clear b (Withdraw id stamp) =
+    never_first Memory ((is_spent b, EditsSpent) ∷ (not (is_held b id), IdentityUnknown) ∷ (is_not_newer (held b id) stamp, NotNewer) ∷ (has_most_traces b, TracesFull) ∷ [])
+    ((λ e. cc), ((λ e. cc), ((λ e. cc), ((λ e. cc), tt))))
 
 staging_clear : (o : Option EditError) (pending : ℕ) → o ≢ Some Memory → staging o pending ≢ Refused Memory
 staging_clear None pending clear e = cc

@@ -1,6 +1,7 @@
 -- What contracts see of a desk, of readers and of what a desk tells.
-use Rattle.std.specs.Prelude.{ℕ, List, [], ◌∷◌, ◌++◌}
+use Rattle.std.specs.Prelude.{◌<◌, ℕ, Bool, List, [], ◌∷◌, ◌++◌, length, MatchBool}
 use Rattle.lost_spec.specs.Book.{Limits, Book, Edit, book_of}
+use Rattle.lost_spec.specs.Laws.{BeginsWith}
 use Rattle.lost_history.specs.History.{Opening}
 
 -- a desk: which opening it is of, its limits, the edits that are published, and those that are pending
@@ -63,3 +64,7 @@ with_seen r es = record { opening = r.opening; limits = r.limits; seen = es; ent
 -- one reader less
 abbrev pub one_less : ReadersSeen → ℕ → ReadersSeen
 one_less r left = record { left = left; each = r.each }
+
+-- whether a list begins another one, told by a Bool; if not, the other one is shorter and begins it (own)
+abbrev pub TellsBeginning : Bool → List Edit → List Edit → Type 0
+TellsBeginning begins whole part = MatchBool begins (BeginsWith whole part) ((length whole < length part) × BeginsWith part whole)

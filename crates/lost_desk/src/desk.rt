@@ -1,10 +1,9 @@
 //! The desk, which stages edits and publishes them.
-ghost use Rattle.std.specs.Prelude.{◌≡◌, ◌≢◌, ◌<◌, [], None, Some, length, MatchBool, IfOk, IfErr, IsOk, OnOk, OnErr};
-ghost use Rattle.lost_spec.specs.Laws.{BeginsWith};
+ghost use Rattle.std.specs.Prelude.{◌≡◌, ◌≢◌, [], None, Some, length, IfOk, IfErr, IsOk, OnOk, OnErr};
 ghost use Rattle.lost_spec.specs.Book.{refusal, empty_book};
 ghost use Rattle.lost_mapping.specs.Edit.{edit_of};
 ghost use Rattle.lost_history.specs.History.{beginning};
-ghost use Rattle.lost_desk.specs.Seen.{new_desk, published_book, staged_book, with_staged, with_committed, with_none_pending};
+ghost use Rattle.lost_desk.specs.Seen.{TellsBeginning, new_desk, published_book, staged_book, with_staged, with_committed, with_none_pending};
 ghost use Rattle.lost_desk.specs.Copies.{first_version};
 
 use crate::announce::announce;
@@ -99,7 +98,9 @@ impl Desk {
         ) {
             return Err(CommitError::Memory);
         }
-        publish_all(rt, &mut self.copies, &mut self.queue, &self.front)?;
+        let Ok(()) = publish_all(rt, &mut self.copies, &mut self.queue, &self.front) else {
+            return Err(CommitError::Memory);
+        };
         Ok(edition)
     }
 
@@ -165,9 +166,7 @@ impl Desk {
     /// beginning of the published one. Both are of one opening.
     pub fn has_published(&self, told: &Told) -> bool
         requires { told.now.opening ≡ self.now.opening }
-        ensures begins { MatchBool result
-            (BeginsWith self.now.published told.now.list)
-            ((length self.now.published < length told.now.list) × BeginsWith told.now.list self.now.published) }
+        ensures begins { TellsBeginning result self.now.published told.now.list }
     {
         self.copies.shown().front.has(&told.front)
     }
@@ -176,9 +175,7 @@ impl Desk {
     /// beginning of the published one. Both are of one opening.
     pub fn has_seen(&self, reader: &Reader) -> bool
         requires { reader.now.opening ≡ self.now.opening }
-        ensures begins { MatchBool result
-            (BeginsWith self.now.published reader.now.seen)
-            ((length self.now.published < length reader.now.seen) × BeginsWith reader.now.seen self.now.published) }
+        ensures begins { TellsBeginning result self.now.published reader.now.seen }
     {
         self.copies.shown().front.has(&reader.latest)
     }

@@ -1,6 +1,5 @@
 //! Why a desk cannot be opened, or cannot commit.
 use lost_spec::Coded;
-use std::alloc::AllocError;
 use thiserror::Error;
 
 /// Why a desk cannot be opened.
@@ -8,6 +7,13 @@ use thiserror::Error;
 pub enum OpenError {
     #[error("the number of workers is not from 1 to 64")]
     Workers,
+    #[error("memory ran out")]
+    Memory,
+}
+
+/// Why a desk cannot commit.
+#[derive(Clone, Copy, PartialEq, Eq, Debug, Error)]
+pub enum CommitError {
     #[error("memory ran out")]
     Memory,
 }
@@ -26,24 +32,6 @@ impl Coded for OpenError {
     }
 }
 
-impl From<AllocError> for OpenError {
-    ghost use Rattle.std.specs.Prelude.{◌≡◌};
-    ghost use Rattle.lost_desk.specs.declared.faults.OpenError.TheVariants.{Memory};
-
-    ghost from_gives = { λ _ fault. fault ≡ Memory };
-
-    fn from(_: AllocError) -> OpenError {
-        OpenError::Memory
-    }
-}
-
-/// Why a desk cannot commit.
-#[derive(Clone, Copy, PartialEq, Eq, Debug, Error)]
-pub enum CommitError {
-    #[error("memory ran out")]
-    Memory,
-}
-
 /// The number of the refusal, 1.
 impl Coded for CommitError {
     ghost use Rattle.lost_desk.specs.Codes.{commit_code};
@@ -54,16 +42,5 @@ impl Coded for CommitError {
         match self {
             CommitError::Memory => 1,
         }
-    }
-}
-
-impl From<AllocError> for CommitError {
-    ghost use Rattle.std.specs.Prelude.{◌≡◌};
-    ghost use Rattle.lost_desk.specs.declared.faults.CommitError.TheVariants.{Memory};
-
-    ghost from_gives = { λ _ fault. fault ≡ Memory };
-
-    fn from(_: AllocError) -> CommitError {
-        CommitError::Memory
     }
 }

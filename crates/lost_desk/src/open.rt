@@ -47,10 +47,16 @@ pub fn open_desk<R: Wait>(
         return Err(OpenError::Workers);
     }
     let (head, front) = open_history();
-    let ahead = Routing::new(alloc, limits)?;
-    let (copies, readers) = open_copies(rt, alloc, limits, &front, workers)?;
-    let desk = Desk::of(copies, VecDeque::new(alloc), ahead, front, head);
-    Ok((desk, readers))
+    let Ok(ahead) = Routing::new(alloc, limits) else {
+        return Err(OpenError::Memory);
+    };
+    match open_copies(rt, alloc, limits, &front, workers) {
+        Ok((copies, readers)) => {
+            let desk = Desk::of(copies, VecDeque::new(alloc), ahead, front, head);
+            Ok((desk, readers))
+        }
+        Err(AllocError) => Err(OpenError::Memory),
+    }
 }
 
 /// Two copies of an empty book, and their `workers` readers.

@@ -6,9 +6,9 @@ ghost use Rattle.lost_spec.specs.Holders.{holders_of};
 ghost use Rattle.lost_location.specs.Place.{place_of};
 
 use crate::living::living_among;
-use lost_civic::{CivicAddress, Element};
+use lost_civic::Element;
 use lost_mapping::{Mapping, Moment};
-use lost_query::{Holdings, Place, Positions};
+use lost_query::{Holdings, Picked, Place, Reference};
 use lost_routing::Routing;
 use lost_urn::ServiceUrn;
 use std::alloc::{AllocError, Global};
@@ -47,7 +47,7 @@ impl Holdings for WithHolders<'_> {
         self.book.implemented(moment, service)
     }
 
-    fn holding(&self, moment: &Moment, place: &Place) -> Result<Positions, AllocError> {
+    fn holding(&self, moment: &Moment, place: &Place) -> Picked {
         if place == self.place {
             living_among(self.alloc, self.book, moment, self.holders)
         } else {
@@ -55,43 +55,24 @@ impl Holdings for WithHolders<'_> {
         }
     }
 
-    fn at(
-        &self,
-        moment: &Moment,
-        place: &Place,
-        service: &ServiceUrn,
-    ) -> Result<Positions, AllocError> {
+    fn at(&self, moment: &Moment, place: &Place, service: &ServiceUrn) -> Picked {
         self.book.at(moment, place, service)
     }
 
-    fn defaults(&self, moment: &Moment, service: &ServiceUrn) -> Result<Positions, AllocError> {
+    fn defaults(&self, moment: &Moment, service: &ServiceUrn) -> Picked {
         self.book.defaults(moment, service)
     }
 
-    fn of_service(&self, moment: &Moment, service: &ServiceUrn) -> Result<Positions, AllocError> {
+    fn of_service(&self, moment: &Moment, service: &ServiceUrn) -> Picked {
         self.book.of_service(moment, service)
     }
 
-    fn is_agreed(
-        &self,
-        moment: &Moment,
-        service: &ServiceUrn,
-        address: &CivicAddress,
-        elements: &[Element],
-    ) -> Result<bool, AllocError> {
-        self.book.is_agreed(moment, service, address, elements)
+    fn is_agreed(&self, reference: &Reference<'_>) -> Result<bool, AllocError> {
+        self.book.is_agreed(reference)
     }
 
-    fn is_named(
-        &self,
-        moment: &Moment,
-        service: &ServiceUrn,
-        address: &CivicAddress,
-        elements: &[Element],
-        named: Element,
-    ) -> Result<bool, AllocError> {
-        self.book
-            .is_named(moment, service, address, elements, named)
+    fn is_named(&self, reference: &Reference<'_>, named: Element) -> Result<bool, AllocError> {
+        self.book.is_named(reference, named)
     }
 
     fn services_below(

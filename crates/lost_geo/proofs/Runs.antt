@@ -7,7 +7,7 @@ use Rattle.std.proofs.lemmas.Int.{ints}
 use Rattle.std.proofs.lemmas.List.{drop_all, drop-drop, length-drop}
 use Rattle.lost_spec.specs.Ring.{Point, edges, spans, crosses}
 use Rattle.lost_geo.specs.declared.bounds.Bounds.{Bounds}
-use Rattle.lost_geo.specs.Bounds.{bounds_of, AreExact}
+use Rattle.lost_geo.specs.Bounds.{bounds_of}
 use Rattle.lost_geo.specs.Laws.{is_just_one}
 use Rattle.lost_geo.specs.Runs.{is_spanned, AreRunsOf}
 use Rattle.lost_geo.proofs.Cuts.{odd_along}

@@ -1,11 +1,11 @@
 //! Positions as decimal text.
 ghost use Rattle.std.specs.Prelude.{◌≡◌, ◌+◌, ◌*◌, ◌^◌, ◌-◌, ◌<◌, ◌≤◌, not, IfSome, IsTrue, pos, length, option_map};
-ghost use Rattle.std.specs.List.{list_all, prefix_len};
+ghost use Rattle.std.specs.List.{prefix_len};
 ghost use Rattle.lost_spec.specs.Text.{is_digit};
 ghost use Rattle.lost_spec.specs.Decimal.{decimal, is_space, is_word_byte, front, behind, are_decimals, decimals_value, read_decimals, read_unsigned, read_number};
 
 use crate::point::GeoPoint;
-use lost_spec::digits_value;
+use lost_spec::{are_digits, digits_value};
 
 /// The most digits of whole degrees.
 const MAX_DEGREE_DIGITS: usize = 3;
@@ -24,24 +24,19 @@ impl GeoPoint {
     pub fn decimal(text: &[u8]) -> Option<(i64, i64)>
         ensures { result ≡ decimal text.now }
     {
-        let lat = read_number(word(text))?;
-        let lon = read_number(after_spaces(after_word(text)))?;
+        let (word, rest) = split_word(text);
+        let lat = read_number(word)?;
+        let lon = read_number(after_spaces(rest))?;
         Some((lat, lon))
     }
 }
 
-/// The text before its first space.
-fn word(text: &[u8]) -> &[u8]
-    ensures { result.now ≡ front is_word_byte text.now }
+/// The text before its first space, and the text from there on.
+fn split_word(text: &[u8]) -> (&[u8], &[u8])
+    ensures word { result.0.now ≡ front is_word_byte text.now }
+    ensures rest { result.1.now ≡ behind is_word_byte text.now }
 {
-    &text[..word_len(text)]
-}
-
-/// The text from its first space on.
-fn after_word(text: &[u8]) -> &[u8]
-    ensures { result.now ≡ behind is_word_byte text.now }
-{
-    &text[word_len(text)..]
+    text.split_at(word_len(text))
 }
 
 /// How many bytes stand before the first space.
@@ -120,12 +115,6 @@ fn are_decimals(text: &[u8]) -> bool
     ensures { result ≡ are_decimals text.now }
 {
     !text.is_empty() && text.len() <= MAX_DECIMALS && are_digits(text)
-}
-
-fn are_digits(text: &[u8]) -> bool
-    ensures { result ≡ list_all is_digit text.now }
-{
-    text.iter().all(|byte| byte.is_ascii_digit())
 }
 
 /// The units that such digits spell: absent ones are zeros.

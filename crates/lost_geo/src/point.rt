@@ -3,7 +3,7 @@
 ghost use Rattle.std.specs.Prelude.{◌≡◌, IfOk, if◌then◌else◌, pos, neg_ℤ, ◌-ℤ◌};
 ghost use Rattle.std.specs.Ordering.{int_eq};
 ghost use Rattle.std.specs.Result.{result_err};
-ghost use Rattle.lost_spec.specs.Ring.{lat_limit, lon_limit, point_fault, normal};
+ghost use Rattle.lost_spec.specs.Ring.{Point, lat_limit, lon_limit, point_fault, normal};
 ghost use Rattle.lost_geo.specs.Ranges.{IsLat, IsLon, IsInRange};
 
 use lost_spec::faults::GeoError;
@@ -24,9 +24,6 @@ pub struct GeoPoint {
 }
 
 impl Model for GeoPoint {
-    ghost use Rattle.lost_spec.specs.Ring.{Point};
-    ghost use Rattle.lost_geo.specs.Ranges.{IsInRange};
-
     ghost Value = { Point };
 
     ghost view = { λ a. record { lat = a.lat; lon = a.lon } };

@@ -1,9 +1,10 @@
 //! A ring of positions, kept with its exact bounds.
 
-ghost use Rattle.std.specs.Prelude.{◌≡◌, ◌<◌, length, IfOk, None};
+ghost use Rattle.std.specs.Prelude.{◌≡◌, ◌<◌, List, length, IfOk, None};
 ghost use Rattle.std.specs.Result.{result_err};
-ghost use Rattle.lost_spec.specs.Ring.{ring_fault, inside as is_inside, is_closed as is_closed_list};
-ghost use Rattle.lost_geo.specs.Bounds.{bounds_of, AreExact, AreInRange};
+ghost use Rattle.lost_spec.specs.Ring.{Point, ring_fault, inside as is_inside, is_closed as is_closed_list};
+ghost use Rattle.lost_geo.specs.Bounds.{bounds_of, AreExact, AreInRange, IsRingWith};
+ghost use Rattle.lost_geo.specs.Kept.{positions_of};
 
 use crate::bounds::Bounds;
 use crate::point::GeoPoint;
@@ -27,11 +28,6 @@ pub struct Polygon {
 }
 
 impl Model for Polygon {
-    ghost use Rattle.std.specs.Prelude.{List};
-    ghost use Rattle.lost_spec.specs.Ring.{Point};
-    ghost use Rattle.lost_geo.specs.Bounds.{IsRingWith};
-    ghost use Rattle.lost_geo.specs.Kept.{positions_of};
-
     ghost Value = { List Point };
 
     ghost view = { λ a. positions_of a.ring };

@@ -12,6 +12,7 @@ ghost use Rattle.lost_grid.specs.CoverLaws.{cover_meets_probes, cover_is_distinc
 
 use crate::cell::Cell;
 use crate::cover::{MAX_CELLS, cell_at, has_cell};
+use crate::lines::LEVELS;
 use crate::probe::cells_at;
 use lost_geo::{Bounds, GeoPoint, Polygon};
 use lost_profile::{KINDS, Profile};
@@ -29,7 +30,7 @@ impl Profile for Geodetic2d {
 
     type Key = Cell;
 
-    type Probes = [Cell; 7];
+    type Probes = [Cell; LEVELS];
 
     type Outline = Bounds;
 
@@ -70,7 +71,7 @@ impl Profile for Geodetic2d {
     }
 
     /// The cells of the point's normal form at the levels from 0 to 6. It takes no memory.
-    fn probes(_alloc: Global, location: &GeoPoint) -> Result<[Cell; 7], AllocError> {
+    fn probes(_alloc: Global, location: &GeoPoint) -> Result<[Cell; LEVELS], AllocError> {
         Ok(cells_at(&location.normal()))
     }
 

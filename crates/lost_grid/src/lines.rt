@@ -11,6 +11,9 @@ use lost_geo::Bounds;
 /// The level of the largest cells.
 pub(crate) const MAX_LEVEL: u8 = 6;
 
+/// The number of levels.
+pub(crate) const LEVELS: usize = 7;
+
 /// The row of a latitude, or the column of a longitude, at a level: divided by the side of its cells, rounded down.
 pub(crate) fn line_of(level: u8, degrees: i64) -> i16
     requires level { level ≤ 6 }

@@ -4,10 +4,11 @@ ghost use Rattle.std.specs.Prelude.{◌≡◌, map};
 ghost use Rattle.lost_grid.specs.Grid.{cell_of, levels};
 
 use crate::cell::Cell;
+use crate::lines::LEVELS;
 use lost_geo::GeoPoint;
 
 /// The cells that a position is in, at the levels from 0 to 6.
-pub(crate) fn cells_at(place: &GeoPoint) -> [Cell; 7]
+pub(crate) fn cells_at(place: &GeoPoint) -> [Cell; LEVELS]
     ensures { result ≡ map (λ level. cell_of level place.now) levels }
 {
     [

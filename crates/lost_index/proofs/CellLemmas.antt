@@ -1,12 +1,12 @@
 -- What is noted where the cell of one key changes.
-use Rattle.std.proofs.Common.{◌≡◌, ◌≢◌, ◌⊎◌, inl, inr, ℕ, Bool, true, false, cond, Option, Some, IfSome, List, [], ◌∷◌, nat_eq, ◌&&◌, ◌||◌, refl, sym, subst, ap, arith, ⊎_elim, ◌∙◌}
+use Rattle.std.proofs.Common.{◌≡◌, ◌≢◌, ◌⊎◌, inl, inr, ℕ, Bool, true, false, cond, Option, None, Some, IfSome, List, [], ◌∷◌, nat_eq, ◌&&◌, ◌||◌, refl, sym, subst, ap, arith, ⊎_elim, ◌∙◌}
 use Rattle.std.specs.Cmp.{IsEquivalence}
 use Rattle.std.specs.HashMap.{HashMap, get}
 use Rattle.std.specs.HashMap.Eq.{lookup_congr}
 use Rattle.std.proofs.lemmas.Bool.{false≢true, and_parts, and_from}
 use Rattle.std.proofs.lemmas.Bool.Decides.{nat_tests}
 use Rattle.lost_index.specs.declared.note.Note.{Note}
-use Rattle.lost_index.specs.Notes.{notes_of, is_note, has_note, HasNote, HasNoEmptyList, AddsAtMost}
+use Rattle.lost_index.specs.Notes.{notes_of, is_note, has_note, HasNote, HasNoEmptyList, KeepsNotes, AddsAtMost, TakesBack, TakesOut}
 use Rattle.lost_index.proofs.NoteLemmas.{is_itself}
 
 -- a note is found by its own number and outline
@@ -117,3 +117,40 @@ module _ {K O S : Type 0} (eq : K → K → Bool) (equals : IsEquivalence eq) (s
       others_at k n o apart (inr at) = ⊎_elim (λ was. was)
           (λ is. absurd (apart_number note.number n apart (and_parts (nat_eq n note.number) (same o note.outline) is).0))
           (new_or_old k n o at.0 (is_note same n o note) refl (only n o at.1))
+
+-- ---- where the notes of a key's cell were taken out
+module _ {K O S : Type 0} (eq : K → K → Bool) (equals : IsEquivalence eq) (same : O → O → Bool) (old mid : HashMap K (List (Note O)) S) (key : K)
+    (elsewhere : (k : K) → eq key k ≡ false → get eq mid k ≡ get eq old k) (noted : KeepsNotes eq same mid old) where
+  -- the cell stays, if it has notes
+  pub TakesBack-left : IfSome (get eq mid key) (λ notes. notes ≢ []) → TakesBack eq same old mid
+  TakesBack-left some = record { noted = noted; no_empty = λ listed k. by_key listed k (eq key k) refl }
+    where
+      by_key : HasNoEmptyList eq old → (k : K) (b : Bool) → eq key k ≡ b → IfSome (get eq mid k) (λ notes. notes ≢ [])
+      by_key listed k true here = if_same (λ notes. notes ≢ []) (get eq mid key) (get eq mid k) (lookup_congr eq equals.congr mid.entries key k here) some
+      by_key listed k false apart = if_same (λ notes. notes ≢ []) (get eq old k) (get eq mid k) (sym (elsewhere k apart)) (listed k)
+
+  -- and goes, if it has none
+  module _ (new : HashMap K (List (Note O)) S) (empty : notes_of (get eq mid key) ≡ []) (updates : (k : K) → get eq new k ≡ cond (eq key k) None (get eq mid k)) where
+    back : (k : K) (n : ℕ) (o : O) → HasNote eq same new k n o → HasNote eq same mid k n o
+    back k n o stands =
+        ⊎_elim (λ was. was) (λ at. absurd (nothing_noted same n o [] refl at.1)) (noted_back eq equals.congr same mid new key [] None empty updates k n o stands)
+
+    along : (k : K) (n : ℕ) (o : O) → HasNote eq same mid k n o → HasNote eq same new k n o
+    along k n o stands =
+        noted_along eq equals.congr same mid new key [] None empty updates k n o (λ here none. absurd (nothing_noted same n o [] refl none)) stands
+
+    pub TakesBack-emptied : TakesBack eq same old new
+    TakesBack-emptied = record { noted = λ k n o stands. noted k n o (back k n o stands); no_empty = λ listed k. by_key listed k (eq key k) refl }
+      where
+        by_key : HasNoEmptyList eq old → (k : K) (b : Bool) → eq key k ≡ b → IfSome (get eq new k) (λ notes. notes ≢ [])
+        by_key listed k true here = if_same (λ notes. notes ≢ []) None (get eq new k) (sym (updates k ∙ ap (λ b. cond b None (get eq mid k)) here)) tt
+        by_key listed k false apart =
+            if_same (λ notes. notes ≢ []) (get eq old k) (get eq new k) (sym (updates k ∙ ap (λ b. cond b None (get eq mid k)) apart ∙ elsewhere k apart)) (listed k)
+
+    pub TakesOut-emptied : {R : Type 0} (cover_of : R → List K) (outline_of : R → O) (number : ℕ) (regions : List R) (at : K → Bool)
+        → TakesOut eq same cover_of outline_of number regions at old mid → TakesOut eq same cover_of outline_of number regions at old new
+    TakesOut-emptied cover_of outline_of number regions at taken = record {
+      others = λ k n o apart stands. along k n o (taken.others k n o apart stands);
+      remaining = λ k n o under stands. along k n o (taken.remaining k n o under stands);
+      gone = λ k o here stands. taken.gone k o here (back k number o stands);
+    }

@@ -1,16 +1,17 @@
 -- Numbered rows in chunks: which chunk may have a number, and what a change of that chunk does to all rows.
-use Rattle.std.proofs.Common.{◌≡◌, ℕ, zero, suc, ◌+◌, ◌-◌, ◌<◌, ◌≤◌, Bool, true, false, nat_lt, nat_eq, ◌==◌, Vec, Result, Ok, Err, OnOk, OnErr, None, is_some as has_some, List, [], ◌∷◌, ◌++◌, length, take, drop, set, get_or, remove, Contains, refl, sym, ap, subst, arith, ◌∙◌}
+use Rattle.std.proofs.Common.{◌≡◌, ℕ, zero, suc, ◌+◌, ◌-◌, ◌<◌, ◌≤◌, Bool, true, false, nat_lt, nat_eq, ◌==◌, Vec, Result, Ok, Err, OnOk, OnErr, None, is_some as has_some, List, [], ◌∷◌, ◌++◌, length, take, drop, set, get_or, remove, Contains, refl, sym, ap, subst, add-one, arith, ◌∙◌}
 use Rattle.std.specs.Cmp.{nat_eq_equiv}
-use Rattle.std.specs.List.{AllByRecursion, AllWithin}
+use Rattle.std.specs.List.{AllWithin}
 use Rattle.std.specs.List.Sorted.{IsPartitionedBy}
 use Rattle.std.specs.Map.{lookup}
 use Rattle.std.specs.Vec.{vec_items, vec_len}
 use Rattle.std.proofs.lemmas.Bool.{false≢true}
 use Rattle.std.proofs.lemmas.Bool.Decides.{nat_tests}
-use Rattle.std.proofs.lemmas.List.{append_assoc, append-nil}
+use Rattle.std.proofs.lemmas.List.{append_assoc, append-nil, take-append-drop, take-set, drop-set, drop_more}
+use Rattle.std.proofs.lemmas.List.Concat.{flat_map-append}
 use Rattle.std.proofs.lemmas.List.Elements.{Contains-append_left, Contains-append_right}
 use Rattle.std.proofs.lemmas.Map.Views.{IsSome-lookup_from_Contains, Contains-keys_from_lookup}
-use Rattle.lost_index.specs.Chunks.{AreRising, AreChunks, IsChunkOf, rows_of, ends_below}
+use Rattle.lost_index.specs.Chunks.{AreRising, HasRow, AreFilled, AreChunks, IsChunkOf, rows_of, ends_below}
 use Rattle.lost_index.specs.Entries.{IsHeld, IsAbove, without, with_number}
 use Rattle.lost_index.proofs.RisingLemmas.{Lacks, is_below, is_not_below, lacks_append, lookup_lacking, lookup_left, lookup_right, without_left, without_right, with_left, with_right, ended_lacks, behind_above, above_not_ended, above_append_left, above_append_right, AreAbove, lacks_above, held_lacks, rising_left, rising_right, rising_put, rising_without, rising_with, length_with, equal_numbers}
 
@@ -18,10 +19,10 @@ empty_list : {X : Type 0} (xs : List X) → length xs ≡ 0 → xs ≡ []
 empty_list [] none = refl
 empty_list (x ∷ xs) none = absurd (omega (arith, none))
 
-pub is_zero : (b : Bool) (m : ℕ) → b ≡ (m == 0) → b ≡ true → m ≡ 0
+is_zero : (b : Bool) (m : ℕ) → b ≡ (m == 0) → b ≡ true → m ≡ 0
 is_zero b m is so = search (arith, nat_tests)
 
-pub is_some : (b : Bool) (m : ℕ) → b ≡ (m == 0) → b ≡ false → m ≡ 0 → ⊥
+is_some : (b : Bool) (m : ℕ) → b ≡ (m == 0) → b ≡ false → m ≡ 0 → ⊥
 is_some b m is not_so none = false≢true (sym not_so ∙ is ∙ ap (λ k. k == 0) none)
 
 pub by_result : {X E P Q Z : Type 0} (r : Result X E) → OnOk r P → OnErr r Q → (P → Z) → (Q → Z) → Z
@@ -32,19 +33,15 @@ module _ {T A : Type 0} where
   -- ---- the rows around those of one chunk
   pub around : (cs : List (Vec (ℕ × T) A)) (i : ℕ) (e : Vec (ℕ × T) A) → i < length cs
       → rows_of cs ≡ rows_of (take i cs) ++ ((get_or cs i e).items ++ rows_of (drop (suc i) cs))
-  around [] i e within = absurd (omega (arith, within))
-  around (c ∷ cs) zero e within = refl
-  around (c ∷ cs) (suc i) e within =
-      ap (λ rows. c.items ++ rows) (around cs i e (omega (arith, within)))
-      ∙ sym (append_assoc c.items (rows_of (take i cs)) ((get_or cs i e).items ++ rows_of (drop (suc i) cs)))
+  around cs i e within =
+      ap rows_of (sym (take-append-drop i cs) ∙ ap (λ l. take i cs ++ l) (drop_more cs i e within)) ∙ flat_map-append vec_items (take i cs) (get_or cs i e ∷ drop (i + 1) cs)
+      ∙ ap (λ n. rows_of (take i cs) ++ ((get_or cs i e).items ++ rows_of (drop n cs))) (add-one i)
 
   pub around_other : (cs : List (Vec (ℕ × T) A)) (i : ℕ) (c' : Vec (ℕ × T) A) → i < length cs
       → rows_of (set cs i c') ≡ rows_of (take i cs) ++ (c'.items ++ rows_of (drop (suc i) cs))
-  around_other [] i c' within = absurd (omega (arith, within))
-  around_other (c ∷ cs) zero c' within = refl
-  around_other (c ∷ cs) (suc i) c' within =
-      ap (λ rows. c.items ++ rows) (around_other cs i c' (omega (arith, within)))
-      ∙ sym (append_assoc c.items (rows_of (take i cs)) (c'.items ++ rows_of (drop (suc i) cs)))
+  around_other cs i c' within =
+      ap rows_of (sym (take-append-drop i (set cs i c')) ∙ ap (λ l. l ++ drop i (set cs i c')) (take-set cs i c') ∙ ap (λ l. take i cs ++ l) (drop-set cs i c' within))
+      ∙ flat_map-append vec_items (take i cs) (c' ∷ drop (i + 1) cs) ∙ ap (λ n. rows_of (take i cs) ++ (c'.items ++ rows_of (drop n cs))) (add-one i)
 
   pub rising_in : (cs : List (Vec (ℕ × T) A)) (i : ℕ) (e : Vec (ℕ × T) A) → i < length cs → AreRising (rows_of cs) → AreRising (get_or cs i e).items
   rising_in [] i e within rising = absurd (omega (arith, within))
@@ -120,6 +117,21 @@ module _ {T A : Type 0} where
           Contains-keys_from_lookup equal_numbers n here
           (ap has_some (sym (lookup_here (within_held cs i rising is held))) ∙ IsSome-lookup_from_Contains nat_eq_equiv n (rows_of cs) held)
 
+  -- ---- the same of a vector of chunks that is read as a slice
+  module _ {B : Type 0} (n : ℕ) (cs : Vec (Vec (ℕ × T) A) B) (l : List (Vec (ℕ × T) A)) (i : ℕ) (same : l ≡ cs.items) (chunks : AreChunks cs.items)
+      (at : IsChunkOf n l i) (held : IsHeld n (rows_of cs.items)) where
+    at_chunk : IsChunkOf n cs.items i
+    at_chunk = subst (λ l. IsChunkOf n l i) same at
+
+    pub chunk_within : i < vec_len cs
+    chunk_within = subst (λ len. i < len) (sym cs.ok.0) (within_held n cs.items i chunks.rising at_chunk held)
+
+    pub chunk_has : (e : Vec (ℕ × T) A) → e ≡ get_or cs.items i e → HasRow n e.items
+    chunk_has e is = record {
+      rising = subst (λ e. AreRising e.items) (sym is) (rising_in cs.items i e (within_held n cs.items i chunks.rising at_chunk held) chunks.rising);
+      held = subst (λ e. IsHeld n e.items) (sym is) (held_here n cs.items i e chunks.rising at_chunk held);
+    }
+
   pub not_found_in_all : (n : ℕ) (cs : List (Vec (ℕ × T) A)) (i : ℕ) → AreRising (rows_of cs) → IsChunkOf n cs i
       → false ≡ nat_lt i (length cs) → None ≡ lookup (nat_eq n) (rows_of cs)
   not_found_in_all n cs i rising is past =
@@ -133,9 +145,6 @@ module _ {T A : Type 0} where
       Contains-append_right c.items (rows_of cs) r (contains_all cs i e r (omega (arith, within)) stands)
 
   -- ---- no chunk is empty
-  abbrev AreFilled : List (Vec (ℕ × T) A) → Type 0
-  AreFilled cs = AllByRecursion (λ c. 0 < vec_len c) cs
-
   pub filled_set : (cs : List (Vec (ℕ × T) A)) (i : ℕ) (c' : Vec (ℕ × T) A) → AreFilled cs → 0 < vec_len c' → AreFilled (set cs i c')
   filled_set [] i c' filled some = tt
   filled_set (c ∷ cs) zero c' filled some = (some, filled.1)
@@ -146,6 +155,11 @@ module _ {T A : Type 0} where
   filled_remove [] (suc i) c' filled = tt
   filled_remove (c ∷ cs) zero c' filled = filled.1
   filled_remove (c ∷ cs) (suc i) c' filled = (filled.0, filled_remove cs i c' filled.1)
+
+  filled_back : (cs : List (Vec (ℕ × T) A)) (i : ℕ) (e : Vec (ℕ × T) A) → i < length cs → AreFilled (remove cs i) → 0 < vec_len (get_or cs i e) → AreFilled cs
+  filled_back [] i e within filled some = tt
+  filled_back (c ∷ cs) zero e within filled some = (some, filled)
+  filled_back (c ∷ cs) (suc i) e within filled some = (filled.0, filled_back cs i e (omega (arith, within)) filled.1 some)
 
   pub filled_in : (cs : List (Vec (ℕ × T) A)) (i : ℕ) (e : Vec (ℕ × T) A) → i < length cs → AreFilled cs → 0 < vec_len (get_or cs i e)
   filled_in [] i e within filled = absurd (omega (arith, within))
@@ -238,48 +252,37 @@ module _ {T A : Type 0} where
       are_chunks_put cs (cs ++ c ∷ []) n v chunks above (put_behind_rows cs c (n, v) is) (filled_behind cs c chunks.filled (omega (arith, one)))
 
   -- ---- the row of a number is taken out
-  pub set_there : (cs : List (Vec (ℕ × T) A)) (i : ℕ) (c' x : Vec (ℕ × T) A) → i < length cs → x ≡ get_or (set cs i c') i x → x ≡ c'
-  set_there [] i c' x within is = absurd (omega (arith, within))
-  set_there (c ∷ cs) zero c' x within is = is
-  set_there (c ∷ cs) (suc i) c' x within is = set_there cs i c' x (omega (arith, within)) is
-
-  without_chunk : (cs : List (Vec (ℕ × T) A)) (i : ℕ) (c' : Vec (ℕ × T) A) → rows_of (remove (set cs i c') i) ≡ rows_of (take i cs) ++ rows_of (drop (suc i) cs)
-  without_chunk [] zero c' = refl
-  without_chunk [] (suc i) c' = refl
-  without_chunk (c ∷ cs) zero c' = refl
-  without_chunk (c ∷ cs) (suc i) c' =
-      ap (λ rows. c.items ++ rows) (without_chunk cs i c') ∙ sym (append_assoc c.items (rows_of (take i cs)) (rows_of (drop (suc i) cs)))
-
   module _ (n : ℕ) (cs : List (Vec (ℕ × T) A)) (i : ℕ) (e c' : Vec (ℕ × T) A) (chunks : AreChunks cs) (at : IsChunkOf n cs i)
       (held : IsHeld n (rows_of cs)) (is : e ≡ get_or cs i e) (rest : c'.items ≡ without n e.items) where
-    within : i < length cs
-    within = within_held n cs i chunks.rising at held
-
-    taken : c'.items ≡ without n (get_or cs i e).items
-    taken = rest ∙ ap (λ c. without n c.items) is
-
     pub taken_rows : rows_of (set cs i c') ≡ without n (rows_of cs)
     taken_rows =
-        around_other cs i c' within ∙ ap (λ rows. rows_of (take i cs) ++ (rows ++ rows_of (drop (suc i) cs))) taken
+        let within = within_held n cs i chunks.rising at held in
+        around_other cs i c' within
+        ∙ ap (λ rows. rows_of (take i cs) ++ (rows ++ rows_of (drop (suc i) cs))) (rest ∙ ap (λ c. without n c.items) is)
         ∙ sym (without_here n cs i e chunks.rising at within)
 
-    pub taken_chunks : (vec_len c' ≡ 0 → ⊥) → AreChunks (set cs i c')
-    taken_chunks some = record {
-      rising = subst AreRising (sym taken_rows) (rising_without n (rows_of cs) chunks.rising);
-      filled = filled_set cs i c' chunks.filled (omega (arith, some));
-    }
+    pub taken_rising : AreRising (rows_of (set cs i c'))
+    taken_rising = subst AreRising (sym taken_rows) (rising_without n (rows_of cs) chunks.rising)
 
-    pub emptied_rows : vec_len c' ≡ 0 → rows_of (remove (set cs i c') i) ≡ without n (rows_of cs)
-    emptied_rows none =
-        without_chunk cs i c'
-        ∙ ap (λ rows. rows_of (take i cs) ++ (rows ++ rows_of (drop (suc i) cs))) (sym (empty_list c'.items (sym c'.ok.0 ∙ none)))
-        ∙ sym (around_other cs i c' within) ∙ taken_rows
+  -- ---- a chunk that is empty goes
+  emptied_rows : (cs : List (Vec (ℕ × T) A)) (i : ℕ) (e : Vec (ℕ × T) A) → i < length cs → (get_or cs i e).items ≡ [] → rows_of (remove cs i) ≡ rows_of cs
+  emptied_rows [] i e within none = absurd (omega (arith, within))
+  emptied_rows (c ∷ cs) zero e within none = ap (λ rows. rows ++ rows_of cs) (sym none)
+  emptied_rows (c ∷ cs) (suc i) e within none = ap (λ rows. c.items ++ rows) (emptied_rows cs i e (omega (arith, within)) none)
 
-    pub emptied_chunks : vec_len c' ≡ 0 → AreChunks (remove (set cs i c') i)
-    emptied_chunks none = record {
-      rising = subst AreRising (sym (emptied_rows none)) (rising_without n (rows_of cs) chunks.rising);
-      filled = filled_remove cs i c' chunks.filled;
-    }
+  module _ (cs : List (Vec (ℕ × T) A)) (i : ℕ) (e : Vec (ℕ × T) A) (empty : Bool) (within : i < length cs) (is : e ≡ get_or cs i e) (tested : empty ≡ (vec_len e == 0))
+      (rising : AreRising (rows_of cs)) (filled : AreFilled (remove cs i)) where
+    pub dropped_rows : empty ≡ true → rows_of (remove cs i) ≡ rows_of cs
+    dropped_rows so = emptied_rows cs i e within (ap (λ c. c.items) (sym is) ∙ empty_list e.items (sym e.ok.0 ∙ is_zero empty (vec_len e) tested so))
+
+    pub dropped_chunks : empty ≡ true → AreChunks (remove cs i)
+    dropped_chunks so = record { rising = subst AreRising (sym (dropped_rows so)) rising; filled = filled }
+
+    pub kept_chunks : empty ≡ false → AreChunks cs
+    kept_chunks not_so = record { rising = rising; filled = filled_back cs i e within filled (ap_len (is_some empty (vec_len e) tested not_so)) }
+      where
+        ap_len : (vec_len e ≡ 0 → ⊥) → 0 < vec_len (get_or cs i e)
+        ap_len some = let len = ap vec_len is in omega (arith, some, len)
 
 -- ---- a number has other regions
 module _ {R A : Type 0} (n : ℕ) (change : List R → List R) (cs : List (Vec (ℕ × List R) A)) (i : ℕ) (e c' : Vec (ℕ × List R) A)

@@ -7,18 +7,18 @@ filter-next : {X : Type 0} (p : X → Bool) (xs : List X) (i : ℕ) (d : X) → 
     → filter p (take (i + 1) xs) ≡ filter p (take i xs) ++ cond (p (get_or xs i d)) (get_or xs i d ∷ []) []
 filter-next p xs i d within = ap (filter p) (take_more xs i d within) ∙ filter-append p (take i xs) (get_or xs i d ∷ [])
 
--- an element that passes is kept
-pub kept-next : {X Y : Type 0} (f : X → Y) (p : X → Bool) (before : List Y) (xs : List X) (i : ℕ) (d : X) → i < length xs → p (get_or xs i d) ≡ true
-    → (before ++ map f (filter p (take i xs))) ++ f (get_or xs i d) ∷ [] ≡ before ++ map f (filter p (take (i + 1) xs))
-kept-next f p before xs i d within passes =
-    append_assoc before (map f (filter p (take i xs))) (f (get_or xs i d) ∷ [])
-    ∙ ap (λ l. before ++ l)
-    (sym (ap (map f) (filter-next p xs i d within ∙ ap (λ b. filter p (take i xs) ++ cond b (get_or xs i d ∷ []) []) passes)
-    ∙ map-append f (filter p (take i xs)) (get_or xs i d ∷ [])))
+module _ {X Y : Type 0} (f : X → Y) (p : X → Bool) (before : List Y) (xs : List X) (i : ℕ) (x : X) (old : List Y) (within : i < length xs) (is : x ≡ get_or xs i x)
+    (so_far : old ≡ before ++ map f (filter p (take i xs))) where
+  next : (b : Bool) → p x ≡ b → filter p (take (i + 1) xs) ≡ filter p (take i xs) ++ cond b (x ∷ []) []
+  next b tested =
+      filter-next p xs i x within ∙ ap (λ y. filter p (take i xs) ++ cond (p y) (y ∷ []) []) (sym is) ∙ ap (λ b. filter p (take i xs) ++ cond b (x ∷ []) []) tested
 
--- one that fails is not
-pub passed-over : {X Y : Type 0} (f : X → Y) (p : X → Bool) (before : List Y) (xs : List X) (i : ℕ) (d : X) → i < length xs → p (get_or xs i d) ≡ false
-    → before ++ map f (filter p (take i xs)) ≡ before ++ map f (filter p (take (i + 1) xs))
-passed-over f p before xs i d within fails =
-    ap (λ l. before ++ map f l)
-    (sym (filter-next p xs i d within ∙ ap (λ b. filter p (take i xs) ++ cond b (get_or xs i d ∷ []) []) fails ∙ append-nil (filter p (take i xs))))
+  -- an element that passes is kept
+  pub kept-next : p x ≡ true → (new : List Y) → new ≡ old ++ f x ∷ [] → new ≡ before ++ map f (filter p (take (i + 1) xs))
+  kept-next passes new added =
+      added ∙ ap (λ l. l ++ f x ∷ []) so_far ∙ append_assoc before (map f (filter p (take i xs))) (f x ∷ [])
+      ∙ ap (λ l. before ++ l) (sym (ap (map f) (next true passes) ∙ map-append f (filter p (take i xs)) (x ∷ [])))
+
+  -- one that fails is not
+  pub passed-over : p x ≡ false → old ≡ before ++ map f (filter p (take (i + 1) xs))
+  passed-over fails = so_far ∙ ap (λ l. before ++ map f l) (sym (next false fails ∙ append-nil (filter p (take i xs))))

@@ -4,7 +4,7 @@ use Rattle.std.specs.BTreeMap.{is_at}
 use Rattle.std.specs.Cmp.{nat_eq_equiv}
 use Rattle.std.specs.HashMap.{HashMap, get}
 use Rattle.std.specs.List.{list_any, flat_map, dedup}
-use Rattle.std.specs.List.Sorted.{IsStrictlySortedBy, IsStrictlyIncreasing, IsPermutation}
+use Rattle.std.specs.List.Sorted.{IsStrictlyIncreasing, IsPermutation}
 use Rattle.std.specs.Option.{option_map_or}
 use Rattle.std.proofs.lemmas.Cmp.{nat_cmp_total}
 use Rattle.std.proofs.lemmas.List.Elements.{Contains-get_or}
@@ -125,14 +125,6 @@ and_alike : (a b c : Bool) → (a ≡ true → b ≡ true) → (a ≡ true → c
 and_alike true b c one other = one refl ∙ sym (other refl)
 and_alike false b c one other = refl
 
--- two rising lists with the same members are one
-same_rising : (xs ys : List ℕ) → IsStrictlySortedBy nat_cmp xs → IsStrictlySortedBy nat_cmp ys
-    → ((n : ℕ) → list_any (nat_eq n) xs ≡ list_any (nat_eq n) ys) → xs ≡ ys
-same_rising xs ys rising rising' same =
-    btree_set_from_contains nat_cmp_total (record { keys = xs }) (record { keys = ys }) rising rising'
-    (λ n. any-alike (is_at (nat_cmp n)) (nat_eq n) (at_same n) xs ∙ same n ∙ sym (any-alike (is_at (nat_cmp n)) (nat_eq n) (at_same n) ys))
-    exact_unsigned
-
 -- what passes is there
 pub there_if : {X : Type 0} (f : X → Bool) (o : Option X) → option_map_or f o false ≡ true → (x : X) × (o ≡ Some x) × (f x ≡ true)
 there_if f None h = absurd (false≢true h)
@@ -180,14 +172,14 @@ module _ {R L : Type 0} (holds : R → L → Bool) (location : L) (held : List (
         → ((n : ℕ) → Contains (holders holds location held) n → Contains near n)
         → result ≡ filter passes near → result ≡ holders holds location held
     holding_is near result rising among kept =
-        kept ∙ same_rising (filter passes near) (filter passes (numbers held))
+        kept ∙ btree_set_from_contains nat_cmp_total (record { keys = filter passes near }) (record { keys = filter passes (numbers held) })
         (IsStrictlySortedBy-filter nat_cmp passes near (sorted_from_strictly_increasing near rising))
         (IsStrictlySortedBy-filter nat_cmp passes (numbers held) (rising_sorted held ordered))
-        (λ n. stands-filter passes n near
+        (λ n. any-alike (is_at (nat_cmp n)) (nat_eq n) (at_same n) (filter passes near) ∙ stands-filter passes n near
         ∙ and_alike (passes n) (list_any (nat_eq n) near) (list_any (nat_eq n) (numbers held))
         (λ h. list_any-from_Contains nat_eq_equiv n near (among n (passes_holder n h))) (stands_held n)
-        ∙ sym (stands-filter passes n (numbers held)))
-        ∙ sym holders_filter
+        ∙ sym (stands-filter passes n (numbers held)) ∙ sym (any-alike (is_at (nat_cmp n)) (nat_eq n) (at_same n) (filter passes (numbers held))))
+        exact_unsigned ∙ sym holders_filter
 
 module _ {R K O S : Type 0} (is_region : R → Type 0) (cover_of : R → List K) (outline_of : R → O) (eq : K → K → Bool) (same : O → O → Bool)
     (near : O → Bool) (probes : List K) (held : List (ℕ × List R)) (cells : HashMap K (List (Note O)) S)

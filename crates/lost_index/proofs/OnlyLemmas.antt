@@ -1,20 +1,14 @@
 -- That nothing is noted but what may be, step by step.
-use Rattle.std.proofs.Common.{◌≡◌, ◌⊎◌, inl, inr, ⊎_elim, ℕ, ◌+◌, ◌-◌, ◌<◌, ◌≤◌, Bool, true, ◌&&◌, ◌||◌, List, [], ◌∷◌, ◌++◌, length, take, drop, get_or, refl, sym, subst, ap, arith, ◌∙◌}
+use Rattle.std.proofs.Common.{◌≡◌, ◌⊎◌, inl, inr, ⊎_elim, ℕ, ◌+◌, ◌-◌, ◌<◌, ◌≤◌, Bool, true, ◌&&◌, List, [], ◌∷◌, length, take, drop, get_or, refl, sym, subst, ap, arith, ◌∙◌}
 use Rattle.std.specs.HashMap.{HashMap}
 use Rattle.std.specs.List.{list_any, slice_range}
 use Rattle.std.proofs.lemmas.Bool.{and_parts, and_from, or_left, or_right, or_cases}
 use Rattle.std.proofs.lemmas.List.{take-append-drop, drop-drop}
-use Rattle.std.proofs.lemmas.List.Folds.{list_any-append, list_any_more}
+use Rattle.std.proofs.lemmas.List.Folds.{list_any-append, list_any_at, list_any_more}
 use Rattle.lost_index.specs.declared.note.Note.{Note}
-use Rattle.lost_index.specs.Notes.{KeepsNotes, TakesBack, AddsAtMost, IsNotedOnlyFor, covers, covers_with}
+use Rattle.lost_index.specs.Notes.{HasNote, KeepsNotes, TakesBack, AddsAtMost, IsNotedOnlyFor, TakesOut, covers, covers_with}
 
--- what the first ones of a list have, the list has
-pub any-from_take : {X : Type 0} (test : X → Bool) (xs : List X) (i : ℕ) → list_any test (take i xs) ≡ true → list_any test xs ≡ true
-any-from_take test xs i h =
-    ap (list_any test) (sym (take-append-drop i xs)) ∙ list_any-append test (take i xs) (drop i xs)
-    ∙ or_left (list_any test (take i xs)) (list_any test (drop i xs)) h
-
--- what it has, the first ones have or the others
+-- what a list has, the first ones have or the others
 pub any-at : {X : Type 0} (test : X → Bool) (xs : List X) (i : ℕ) → list_any test xs ≡ true
     → (list_any test (take i xs) ≡ true) ⊎ (list_any test (drop i xs) ≡ true)
 any-at test xs i h =
@@ -28,23 +22,8 @@ any-next test xs i x within is h =
     ⊎_elim inl (λ at. inr (ap test is ∙ at))
     (or_cases (list_any test (take i xs)) (test (get_or xs i x)) (sym (list_any_more test xs i x within) ∙ h))
 
--- the next one is among the first ones with it
-pub any-here : {X : Type 0} (test : X → Bool) (xs : List X) (i : ℕ) (x : X) → i < length xs → x ≡ get_or xs i x → test x ≡ true
-    → list_any test (take (i + 1) xs) ≡ true
-any-here test xs i x within is h =
-    list_any_more test xs i x within ∙ or_right (list_any test (take i xs)) (test (get_or xs i x)) (ap test (sym is) ∙ h)
-
--- what a list has, it has with more behind it
-pub any-more : {X : Type 0} (test : X → Bool) (xs ys : List X) → list_any test xs ≡ true → list_any test (xs ++ ys) ≡ true
-any-more test xs ys h = list_any-append test xs ys ∙ or_left (list_any test xs) (list_any test ys) h
-
--- and what its next element has
-pub any-first : {X : Type 0} (test : X → Bool) (xs ys : List X) (x : X) → test x ≡ true → list_any test (xs ++ x ∷ ys) ≡ true
-any-first test xs ys x h =
-    list_any-append test xs (x ∷ ys) ∙ or_right (list_any test xs) (test x || list_any test ys) (or_left (test x) (list_any test ys) h)
-
 -- beside a test that stays as it is
-pub both_more : (a b c : Bool) → (b ≡ true → c ≡ true) → (a && b) ≡ true → (a && c) ≡ true
+both_more : (a b c : Bool) → (b ≡ true → c ≡ true) → (a && b) ≡ true → (a && c) ≡ true
 both_more a b c more h = and_from a c (and_parts a b h).0 (more (and_parts a b h).1)
 
 -- what is covered with an outline is covered
@@ -67,17 +46,35 @@ module _ {K O S : Type 0} (eq : K → K → Bool) (same : O → O → Bool) (old
     no_empty = λ listed. second.no_empty (first.no_empty listed);
   }
 
-  -- ---- two steps that add
-  pub AddsAtMost-two : (number : ℕ) (one two may : K → O → Bool) → AddsAtMost eq same number one old mid → AddsAtMost eq same number two mid new
-      → ((key : K) (outline : O) → one key outline ≡ true → may key outline ≡ true) → ((key : K) (outline : O) → two key outline ≡ true → may key outline ≡ true)
-      → AddsAtMost eq same number may old new
-  AddsAtMost-two number one two may first second first_may second_may = record {
-    own = λ key outline noted.
-        ⊎_elim (λ was. ⊎_elim inl (λ added. inr (first_may key outline added)) (first.own key outline was))
-        (λ added. inr (second_may key outline added)) (second.own key outline noted);
+  -- ---- a step that adds, where that may be
+  AddsAtMost-more : (number : ℕ) (may one : K → O → Bool) → AddsAtMost eq same number may old mid → AddsAtMost eq same number one mid new
+      → ((key : K) (outline : O) → one key outline ≡ true → may key outline ≡ true) → AddsAtMost eq same number may old new
+  AddsAtMost-more number may one first second within = record {
+    own = λ key outline noted. ⊎_elim (first.own key outline) (λ added. inr (within key outline added)) (second.own key outline noted);
     others = λ key n outline apart noted. first.others key n outline apart (second.others key n outline apart noted);
     no_empty = λ listed. second.no_empty (first.no_empty listed);
   }
+
+  -- under a key of a cover
+  pub AddsAtMost-key : (number : ℕ) (own : O) (cover : List K) (i : ℕ) (key : K) → (i < length cover) × (key ≡ get_or cover i key)
+      → AddsAtMost eq same number (λ k outline. same outline own && list_any (eq k) cover) old mid
+      → AddsAtMost eq same number (λ k outline. same outline own && eq k key) mid new
+      → AddsAtMost eq same number (λ k outline. same outline own && list_any (eq k) cover) old new
+  AddsAtMost-key number own cover i key found first second =
+      AddsAtMost-more number (λ k outline. same outline own && list_any (eq k) cover) (λ k outline. same outline own && eq k key) first second
+      (λ k outline. both_more (same outline own) (eq k key) (list_any (eq k) cover)
+      (λ here. list_any_at (eq k) cover i key found.0 (ap (eq k) (sym found.1) ∙ here)))
+
+  -- under the keys of a region, with its outline
+  pub AddsAtMost-region : {R : Type 0} (cover_of : R → List K) (outline_of : R → O) (number : ℕ) (regions : List R) (i : ℕ) (region : R) (own : O) → i < length regions
+      → region ≡ get_or regions i region → own ≡ outline_of region → AddsAtMost eq same number (covers_with eq same cover_of outline_of regions) old mid
+      → AddsAtMost eq same number (λ k outline. same outline own && list_any (eq k) (cover_of region)) mid new
+      → AddsAtMost eq same number (covers_with eq same cover_of outline_of regions) old new
+  AddsAtMost-region cover_of outline_of number regions i region own within is is_own first second =
+      AddsAtMost-more number (covers_with eq same cover_of outline_of regions) (λ k outline. same outline own && list_any (eq k) (cover_of region)) first second
+      (λ k outline here. list_any_at (λ r. same outline (outline_of r) && list_any (eq k) (cover_of r)) regions i region within
+      (ap (λ r. same outline (outline_of r) && list_any (eq k) (cover_of r)) (sym is)
+      ∙ subst (λ o. (same outline o && list_any (eq k) (cover_of region)) ≡ true) is_own here))
 
   -- ---- what is noted under some keys, where that is so of one part before, and of the other now
   pub only-two : {R : Type 0} (cover_of : R → List K) (outline_of : R → O) (number : ℕ) (regions : List R) (one two both : K → Bool)
@@ -86,6 +83,16 @@ module _ {K O S : Type 0} (eq : K → K → Bool) (same : O → O → Bool) (old
       → ((key : K) → both key ≡ true → (one key ≡ true) ⊎ (two key ≡ true)) → IsNotedOnlyFor eq same cover_of outline_of number regions both new
   only-two cover_of outline_of number regions one two both before fewer now either key outline at noted =
       ⊎_elim (λ at_one. before key outline at_one (fewer key number outline noted)) (λ at_two. now key outline at_two noted) (either key at)
+
+  -- ---- so is it where notes are taken out twice
+  pub TakesOut-two : {R : Type 0} (cover_of : R → List K) (outline_of : R → O) (number : ℕ) (regions : List R) (one two both : K → Bool)
+      → TakesOut eq same cover_of outline_of number regions one old mid → TakesOut eq same cover_of outline_of number regions two mid new → KeepsNotes eq same new mid
+      → ((key : K) → both key ≡ true → (one key ≡ true) ⊎ (two key ≡ true)) → TakesOut eq same cover_of outline_of number regions both old new
+  TakesOut-two cover_of outline_of number regions one two both first second fewer either = record {
+    others = λ key n outline apart noted. second.others key n outline apart (first.others key n outline apart noted);
+    remaining = λ key n outline under noted. second.remaining key n outline under (first.remaining key n outline under noted);
+    gone = only-two cover_of outline_of number regions one two both first.gone fewer second.gone either;
+  }
 
   -- ---- what was added is taken back, but for the regions that remain
   pub AddsAtMost-taken_back : {R : Type 0} (cover_of : R → List K) (outline_of : R → O) (number : ℕ) (added remaining : List R)
@@ -100,13 +107,14 @@ module _ {K O S : Type 0} (eq : K → K → Bool) (same : O → O → Bool) (old
     no_empty = λ listed. second.no_empty (first.no_empty listed);
   }
 
--- a step that adds less
-pub AddsAtMost-weaker : {K O S : Type 0} (eq : K → K → Bool) (same : O → O → Bool) (old new : HashMap K (List (Note O)) S) (number : ℕ) (less more : K → O → Bool)
-    → ((key : K) (outline : O) → less key outline ≡ true → more key outline ≡ true) → AddsAtMost eq same number less old new → AddsAtMost eq same number more old new
-AddsAtMost-weaker eq same old new number less more within adds = record {
-  own = λ key outline noted. ⊎_elim inl (λ added. inr (within key outline added)) (adds.own key outline noted);
-  others = adds.others;
-  no_empty = adds.no_empty;
+-- where nothing is noted nothing is taken out
+pub TakesOut-none : {R K O S : Type 0} (eq : K → K → Bool) (same : O → O → Bool) (cells : HashMap K (List (Note O)) S) (cover_of : R → List K) (outline_of : R → O)
+    (number : ℕ) (regions : List R) (at : K → Bool) → ((key : K) (outline : O) → at key ≡ true → HasNote eq same cells key number outline → ⊥)
+    → TakesOut eq same cover_of outline_of number regions at cells cells
+TakesOut-none eq same cells cover_of outline_of number regions at none = record {
+  others = λ key n outline apart noted. noted;
+  remaining = λ key n outline under noted. noted;
+  gone = λ key outline here noted. absurd (none key outline here noted);
 }
 
 -- of the regions of a number those in front of a part and behind it are taken back

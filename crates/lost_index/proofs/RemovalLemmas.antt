@@ -1,15 +1,15 @@
 -- What a cell has after the notes of a number were taken out, from the last of them to the first.
-use Rattle.std.proofs.Common.{◌≡◌, ℕ, ◌+◌, ◌<◌, ◌≤◌, ◌⊎◌, inl, inr, suc, Bool, true, false, not, cond, if◌then◌else◌, Some, IfSome, List, [], ◌∷◌, ◌++◌, length, take, drop, filter, remove, slice_get, get_or, nat_eq, All, refl, sym, ap, subst, arith, append_assoc, ◌∙◌}
+use Rattle.std.proofs.Common.{◌≡◌, ℕ, ◌+◌, ◌<◌, ◌≤◌, ◌⊎◌, inl, inr, suc, Bool, true, false, cond, if◌then◌else◌, Some, IfSome, List, [], ◌∷◌, ◌++◌, length, take, drop, filter, remove, slice_get, get_or, nat_eq, All, refl, sym, ap, subst, arith, append_assoc, ◌∙◌}
 use Rattle.std.specs.List.{AllWithin}
 use Rattle.std.specs.List.Sorted.{IsNonDecreasingBy}
-use Rattle.std.proofs.lemmas.Bool.{cases_lt, or_right}
+use Rattle.std.proofs.lemmas.Bool.{cases_lt}
 use Rattle.std.proofs.lemmas.Bool.Decides.{nat_tests}
 use Rattle.std.proofs.lemmas.List.{take_more, drop_more, take-append-drop, length-take, length-take-le, length-drop, get_or-take, get_or-drop}
 use Rattle.std.proofs.lemmas.List.Edits.{length-remove, get_or-remove_below, get_or-remove_above}
 use Rattle.std.proofs.lemmas.List.Elements.{filter-append}
 use Rattle.std.proofs.lemmas.Option.{slice_get_read}
 use Rattle.lost_index.specs.declared.note.Note.{Note}
-use Rattle.lost_index.specs.Notes.{number_of, covers_with, stays}
+use Rattle.lost_index.specs.Notes.{number_of, stays}
 
 -- a filter keeps all where all pass
 filter_all : {X : Type 0} (test : X → Bool) (xs : List X) → All (λ x. test x ≡ true) xs → filter test xs ≡ xs
@@ -88,24 +88,13 @@ apart_below number k below = grind (arith, nat_tests)
 apart_above : (number k : ℕ) → number < k → nat_eq number k ≡ false
 apart_above number k above = grind (arith, nat_tests)
 
-itself : (number k : ℕ) → k ≡ number → nat_eq number k ≡ true
-itself number k same = grind (arith, nat_tests)
-
 module _ {R K O : Type 0} (eq : K → K → Bool) (same : O → O → Bool) (cover_of : R → List K) (outline_of : R → O)
     (number : ℕ) (regions : List R) (key : K) where
   abbrev test : Note O → Bool
   test note = stays eq same cover_of outline_of number regions key note
 
-  pub stays_apart : (note : Note O) → nat_eq number note.number ≡ false → test note ≡ true
+  stays_apart : (note : Note O) → nat_eq number note.number ≡ false → test note ≡ true
   stays_apart note apart = rw apart refl
-
-  -- those of the number, where one of the regions has the key and the outline
-  pub stays_covered : (note : Note O) → covers_with eq same cover_of outline_of regions key note.outline ≡ true → test note ≡ true
-  stays_covered note covered = or_right (not (nat_eq number note.number)) (covers_with eq same cover_of outline_of regions key note.outline) covered
-
-  -- and only there
-  pub fails : (note : Note O) → note.number ≡ number → covers_with eq same cover_of outline_of regions key note.outline ≡ false → test note ≡ false
-  fails note same none = rw (itself number note.number same, none) refl
 
   pub front_stays : (start i : ℕ) (notes : List (Note O)) → AllWithin (λ note. number_of note < number) notes 0 start → i ≤ start
       → All (λ note. test note ≡ true) (take i notes)

@@ -1,16 +1,17 @@
 -- Rows in rising order of their numbers: where a number stands, and what a change of its row does.
-use Rattle.std.proofs.Common.{◌≡◌, ℕ, zero, suc, ◌<◌, ◌≤◌, ◌-◌, Bool, true, false, cond, nat_lt, nat_eq, nat_cmp, Some, None, is_some, List, [], ◌∷◌, ◌++◌, length, set, slice_get, get_or, remove, Contains, refl, sym, ap, arith, ◌∙◌}
+use Rattle.std.proofs.Common.{◌≡◌, ℕ, zero, suc, ◌<◌, ◌≤◌, ◌-◌, Vec, Bool, true, false, cond, nat_lt, nat_eq, nat_cmp, Some, None, is_some, List, [], ◌∷◌, ◌++◌, length, set, slice_get, get_or, remove, Contains, refl, sym, ap, subst, arith, ◌∙◌}
 use Rattle.std.specs.Cmp.{nat_eq_equiv, nat_cmp_is}
 use Rattle.std.specs.declared.cmp.Ordering.TheVariants.{Less}
 use Rattle.std.specs.List.{AllByRecursion, AllWithin, IsDistinct}
 use Rattle.std.specs.List.Sorted.{IsPartitionedBy, IsPartitionPoint, IsStrictlySortedBy}
 use Rattle.std.specs.Map.{lookup}
+use Rattle.std.specs.Vec.{vec_len}
 use Rattle.std.proofs.lemmas.Bool.{false≢true}
 use Rattle.std.proofs.lemmas.Bool.Decides.{nat_tests}
 use Rattle.std.proofs.lemmas.List.{get_or_default, set-get_or}
 use Rattle.std.proofs.lemmas.Option.{get_or_from_slice_get}
 use Rattle.std.proofs.lemmas.Map.Views.{IsSome-lookup_from_Contains}
-use Rattle.lost_index.specs.Chunks.{AreRising, ends_below}
+use Rattle.lost_index.specs.Chunks.{AreRising, HasRow, ends_below}
 use Rattle.lost_index.specs.Entries.{numbers, IsHeld, IsAbove, without, with_number}
 
 pub apart : (n k : ℕ) → (n ≡ k → ⊥) → nat_eq n k ≡ false
@@ -232,20 +233,30 @@ module _ {T : Type 0} where
       sym (lookup_lacking n rows (lacks_beside n rows i r rising within below (above i r (omega arith) within)
       (λ same. other (ap (λ row. row.0) is ∙ same))))
 
-  module _ (n : ℕ) (rows : List (ℕ × T)) (i : ℕ) (r : ℕ × T) (rising : AreRising rows) (held : IsHeld n rows) (place : IsPartitionPoint (λ row. row.0 < n) (λ row. n ≤ row.0) rows i)
-      (is : r ≡ get_or rows i r) where
+  -- ---- the row of a number that is held
+  abbrev IsPlace : ℕ → List (ℕ × T) → ℕ → Type 0
+  IsPlace n rows i = IsPartitionPoint (λ row. row.0 < n) (λ row. n ≤ row.0) rows i
+
+  pub row_within : {A : Type 0} (n : ℕ) (chunk : Vec (ℕ × T) A) (rows : List (ℕ × T)) (i : ℕ) → rows ≡ chunk.items → HasRow n chunk.items → IsPlace n rows i
+      → i < vec_len chunk
+  row_within n chunk rows i same row place =
+      subst (λ len. i < len) (sym chunk.ok.0) (held_within n chunk.items i row.held (subst (λ l. IsPlace n l i) same place).0)
+
+  module _ (n : ℕ) (rows : List (ℕ × T)) (i : ℕ) (r : ℕ × T) (row : HasRow n rows) (place : IsPlace n rows i) (is : r ≡ get_or rows i r) where
+    within : i < length rows
+    within = held_within n rows i row.held place.0
+
+    here : (get_or rows i r).0 ≡ n
+    here = held_there n rows i r row.rising row.held place.0 place.1
+
     pub value_there : lookup (nat_eq n) rows ≡ Some r.1
-    value_there =
-        found_at n rows i r (held_within n rows i held place.0) place.0 (held_there n rows i r rising held place.0 place.1)
-        ∙ ap (λ row. Some row.1) (sym is)
+    value_there = found_at n rows i r within place.0 here ∙ ap (λ row. Some row.1) (sym is)
 
     pub removed_there : remove rows i ≡ without n rows
-    removed_there = sym (removed_at n rows i r (held_within n rows i held place.0) place.0 (held_there n rows i r rising held place.0 place.1))
+    removed_there = sym (removed_at n rows i r within place.0 here)
 
     pub contained_there : Contains rows (n, r.1)
-    contained_there =
-        let within = held_within n rows i held place.0 in
-        (i, within, get_or_default rows i (n, r.1) r within ∙ sym is ∙ ap (λ k. (k, r.1)) (ap (λ row. row.0) is ∙ held_there n rows i r rising held place.0 place.1))
+    contained_there = (i, within, get_or_default rows i (n, r.1) r within ∙ sym is ∙ ap (λ k. (k, r.1)) (ap (λ row. row.0) is ∙ here))
 
   pub unchanged_there : (rows : List (ℕ × T)) (i : ℕ) (r : ℕ × T) → r ≡ get_or rows i r → set rows i (r.0, r.1) ≡ rows
   unchanged_there rows i r is = ap (set rows i) is ∙ set-get_or rows i r
@@ -275,23 +286,20 @@ module _ {T : Type 0} where
       (above_put r.0 n v rows rising.0 (highest 0 r (omega arith)), rising_put n v rows rising.1 (λ k d within. highest (suc k) d (omega (arith, within))))
 
   -- ---- in std's words
+  later : (P : ℕ → Type 0) (n : ℕ) → ((k : ℕ) → n < k → P k) → (rows : List (ℕ × T)) → AreAbove n rows → AllByRecursion P (numbers rows)
+  later P n from [] above = tt
+  later P n from (r ∷ rows) above = (from r.0 above.0, later P n from rows above.1)
+
   pub rising_distinct : (rows : List (ℕ × T)) → AreRising rows → IsDistinct nat_eq (numbers rows)
   unfolding IsDistinct
   rising_distinct [] rising = tt
-  rising_distinct (r ∷ rows) rising = (others rows rising.0, rising_distinct rows rising.1)
-    where
-      others : (rows : List (ℕ × T)) → AreAbove r.0 rows → AllByRecursion (λ k. nat_eq r.0 k ≡ false) (numbers rows)
-      others [] above = tt
-      others (d ∷ rows) above = (apart r.0 d.0 (λ same. let less = above.0 in omega (arith, less, same)), others rows above.1)
+  rising_distinct (r ∷ rows) rising =
+      (later (λ k. nat_eq r.0 k ≡ false) r.0 (λ k less. apart r.0 k (λ same. omega (arith, less, same))) rows rising.0, rising_distinct rows rising.1)
 
   pub rising_sorted : (rows : List (ℕ × T)) → AreRising rows → IsStrictlySortedBy nat_cmp (numbers rows)
   unfolding IsStrictlySortedBy
   rising_sorted [] rising = tt
-  rising_sorted (r ∷ rows) rising = (others rows rising.0, rising_sorted rows rising.1)
-    where
-      others : (rows : List (ℕ × T)) → AreAbove r.0 rows → AllByRecursion (λ k. nat_cmp r.0 k ≡ Less) (numbers rows)
-      others [] above = tt
-      others (d ∷ rows) above = (sym (nat_cmp_is r.0 d.0 Less above.0), others rows above.1)
+  rising_sorted (r ∷ rows) rising = (later (λ k. nat_cmp r.0 k ≡ Less) r.0 (λ k less. sym (nat_cmp_is r.0 k Less less)) rows rising.0, rising_sorted rows rising.1)
 
 -- ---- other regions of a number
 module _ {R : Type 0} (n : ℕ) (change : List R → List R) where
@@ -331,9 +339,7 @@ module _ {R : Type 0} (n : ℕ) (change : List R → List R) where
   length_with (r ∷ rows) =
       either (λ l. length l ≡ suc (length rows)) (nat_eq n r.0) ((r.0, change r.1) ∷ rows) (r ∷ with_number n change rows) refl (ap suc (length_with rows))
 
-  pub changed_there : (rows : List (ℕ × List R)) (i : ℕ) (r : ℕ × List R) → AreRising rows → IsHeld n rows
-      → IsPartitionPoint (λ row. row.0 < n) (λ row. n ≤ row.0) rows i → r ≡ get_or rows i r
+  pub changed_there : (rows : List (ℕ × List R)) (i : ℕ) (r : ℕ × List R) → HasRow n rows → IsPlace n rows i → r ≡ get_or rows i r
       → set rows i (r.0, change r.1) ≡ with_number n change rows
-  changed_there rows i r rising held place is =
-      ap (λ row. set rows i (row.0, change row.1)) is
-      ∙ sym (changed_at rows i r (held_within n rows i held place.0) place.0 (held_there n rows i r rising held place.0 place.1))
+  changed_there rows i r row place is =
+      ap (λ row. set rows i (row.0, change row.1)) is ∙ sym (changed_at rows i r (within n rows i r row place is) place.0 (here n rows i r row place is))

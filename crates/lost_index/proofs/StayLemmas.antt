@@ -7,7 +7,7 @@ use Rattle.std.proofs.lemmas.Bool.{and_parts, and_from, or_right, eqb-true}
 use Rattle.std.proofs.lemmas.Bool.Decides.{nat_tests}
 use Rattle.std.proofs.lemmas.Map.Views.{any-filter_same}
 use Rattle.lost_index.specs.declared.note.Note.{Note}
-use Rattle.lost_index.specs.Notes.{notes_of, is_note, has_note, covers_with, stays, HasNote, IsUnder, KeepsNotes, KeepsOthers, KeepsUnder, IsNotedOnlyFor}
+use Rattle.lost_index.specs.Notes.{notes_of, is_note, has_note, covers_with, stays, HasNote, IsUnder, KeepsNotes, KeepsOthers, KeepsUnder, IsNotedOnlyFor, TakesOut}
 use Rattle.lost_index.proofs.CellLemmas.{noted_along, noted_back, noted_here, noted_there}
 use Rattle.lost_index.proofs.NoteChangeLemmas.{any-from_contained, any-alike}
 
@@ -74,11 +74,11 @@ module _ {R K O S : Type 0} (eq : K → K → Bool) (equals : IsEquivalence eq) 
   filtered : (n : ℕ) (o : O) → has_note same n o (filter (stays eq same cover_of outline_of number regions key) cell) ≡ true → has_note same n o cell' ≡ true
   filtered n o stands = subst (λ l. has_note same n o l ≡ true) (sym is) stands
 
-  pub KeepsOthers-taken : KeepsOthers eq same number old new
+  KeepsOthers-taken : KeepsOthers eq same number old new
   KeepsOthers-taken k n o apart noted =
       along k n o (λ here stands. filtered n o (others_stay eq same alike.symm alike.congr cover_of outline_of number regions key cell n o apart ∙ stands)) noted
 
-  pub KeepsUnder-taken : KeepsUnder eq same (IsUnder cover_of outline_of regions) old new
+  KeepsUnder-taken : KeepsUnder eq same (IsUnder cover_of outline_of regions) old new
   KeepsUnder-taken k n o under noted =
       along k n o (λ here stands.
       let has = any-from_contained (eq key) (cover_of under.region) k under.covered here in
@@ -94,7 +94,7 @@ module _ {R K O S : Type 0} (eq : K → K → Bool) (equals : IsEquivalence eq) 
       (were_noted eq same alike.symm alike.congr cover_of outline_of number regions key cell n o (subst (λ l. has_note same n o l ≡ true) is at.1)))
       (noted_back eq equals.congr same old new key cell (Some cell') found updates k n o noted)
 
-  pub IsNotedOnlyFor-taken : IsNotedOnlyFor eq same cover_of outline_of number regions (λ k. eq k key) new
+  IsNotedOnlyFor-taken : IsNotedOnlyFor eq same cover_of outline_of number regions (λ k. eq k key) new
   IsNotedOnlyFor-taken k o at noted =
       let here : eq key k ≡ true = equals.symm key k ∙ at in
       let stands = noted_here eq equals.congr same old new key cell (Some cell') found updates k number o here noted in
@@ -103,3 +103,6 @@ module _ {R K O S : Type 0} (eq : K → K → Bool) (equals : IsEquivalence eq) 
       (sym (own_stay eq same alike.symm alike.congr cover_of outline_of number regions key cell o) ∙ subst (λ l. has_note same number o l ≡ true) is stands)).0 in
       sym (any-alike (λ r. same o (outline_of r) && list_any (eq key) (cover_of r)) (λ r. same o (outline_of r) && list_any (eq k) (cover_of r))
       (λ r. ap (λ b. same o (outline_of r) && b) (any-alike (eq key) (eq k) (λ z. equals.congr key k z here) (cover_of r))) regions) ∙ own
+
+  pub TakesOut-taken : TakesOut eq same cover_of outline_of number regions (λ k. eq k key) old new
+  TakesOut-taken = record { others = KeepsOthers-taken; remaining = KeepsUnder-taken; gone = IsNotedOnlyFor-taken }

@@ -97,6 +97,13 @@ module _ {K O S : Type 0} (eq : K → K → Bool) (same : O → O → Bool) wher
   IsNotedOnlyFor cover_of outline_of number regions at cells = (key : K) (outline : O) → at key ≡ true
       → HasNote cells key number outline → covers_with eq same cover_of outline_of regions key outline ≡ true
 
+  -- of the number's notes under such keys only those of the regions are left, and all others stay
+  pub record TakesOut {R : Type 0} (cover_of : R → List K) (outline_of : R → O) (number : ℕ) (regions : List R) (at : K → Bool)
+      (old new : HashMap K (List (Note O)) S) : Type 0 where
+    pub others : KeepsOthers number old new
+    pub remaining : KeepsUnder (IsUnder cover_of outline_of regions) old new
+    pub gone : IsNotedOnlyFor cover_of outline_of number regions at new
+
 -- the numbers of those notes whose outline passes
 abbrev pub numbers_near : {O : Type 0} → (O → Bool) → List (Note O) → List ℕ
 numbers_near near notes = map (λ note. note.number) (filter (λ note. near note.outline) notes)

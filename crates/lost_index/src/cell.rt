@@ -1,6 +1,6 @@
 //! The notes under one key.
 ghost use Rattle.std.specs.Prelude.{◌≡◌, ◌≤◌, ◌<◌, ◌∷◌, [], true, false, if◌then◌else◌, length, filter, insert, remove, slice_get, IfOk, IfSome, OnOk, OnErr, IsTrue, ◌↔◌};
-ghost use Rattle.std.specs.List.{AllWithin};
+ghost use Rattle.std.specs.List.Sorted.{IsPartitionPoint};
 ghost use Rattle.std.specs.Option.{option_map_or};
 ghost use Rattle.lost_index.specs.Notes.{number_of, is_note, has_note, stays};
 
@@ -97,7 +97,7 @@ impl<P: Profile> Cell<P> {
         let Some(note) = self.notes.get(position) else {
             return;
         };
-        if note.number == number && !entry::covers_with(remaining, key, &note.outline) {
+        if !is_kept(note, number, key, remaining) {
             self.notes.remove(position);
         }
     }
@@ -128,8 +128,7 @@ impl<P: Profile> Cell<P> {
 
     /// Where the notes of a number begin, or would.
     fn start_of(&self, number: u64) -> usize
-        ensures within { result ≤ length self.now }
-        ensures below { AllWithin (λ note. number_of note < number) self.now 0 result }
+        ensures { IsPartitionPoint (λ note. number_of note < number) (λ note. number ≤ number_of note) self.now result }
     {
         self.notes.partition_point(|note| note.number < number)
     }
@@ -137,11 +136,22 @@ impl<P: Profile> Cell<P> {
     /// Where the notes of a number end, or would.
     fn end_of(&self, number: u64) -> usize
         ensures within { result ≤ length self.now }
-        ensures up_to { AllWithin (λ note. number_of note ≤ number) self.now 0 result }
-        ensures above { AllWithin (λ note. number < number_of note) self.now result (length self.now) }
+        ensures point { IsPartitionPoint (λ note. number_of note ≤ number) (λ note. number < number_of note) self.now result }
     {
         self.notes.partition_point(|note| note.number <= number)
     }
+}
+
+/// Whether a note stays where [`Cell::remove`] removes those of the number.
+fn is_kept<P: Profile>(
+    note: &Note<P::Outline>,
+    number: u64,
+    key: &P::Key,
+    remaining: &[IndexedRegion<P>],
+) -> bool
+    ensures { result ≡ stays P.Key.eq P.Outline.eq P.cover_of P.outline_of number remaining.now key.now note.now }
+{
+    number != note.number || entry::covers_with(remaining, key, &note.outline)
 }
 
 /// Inserts a note at a position. A full list grows by a quarter, since most cells get few notes. If memory is refused,

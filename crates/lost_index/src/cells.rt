@@ -1,7 +1,7 @@
 //! The cells: the notes under each key.
 ghost use Rattle.std.specs.Prelude.{◌≡◌, ◌≢◌, ◌&&◌, [], false, OnOk, IfSome, IsTrue, IsFalse};
 ghost use Rattle.std.specs.HashMap.{get};
-ghost use Rattle.lost_index.specs.Notes.{notes_of, HasNote, IsUnder, KeepsNotes, KeepsOthers, KeepsUnder, AddsAtMost, TakesBack, IsNotedOnlyFor};
+ghost use Rattle.lost_index.specs.Notes.{notes_of, HasNote, KeepsNotes, AddsAtMost, TakesBack, TakesOut};
 
 use crate::cell::Cell;
 use crate::indexed_region::IndexedRegion;
@@ -36,10 +36,8 @@ pub(crate) fn remove_note<P: Profile>(
     number: u64,
     remaining: &[IndexedRegion<P>],
 )
-    ensures others { KeepsOthers P.Key.eq P.Outline.eq number cells.old cells.new }
-    ensures remaining { KeepsUnder P.Key.eq P.Outline.eq (IsUnder P.cover_of P.outline_of remaining.now) cells.old cells.new }
+    ensures taken { TakesOut P.Key.eq P.Outline.eq P.cover_of P.outline_of number remaining.now (λ other. P.Key.eq other key.now) cells.old cells.new }
     ensures fewer { TakesBack P.Key.eq P.Outline.eq cells.old cells.new }
-    ensures gone { IsNotedOnlyFor P.Key.eq P.Outline.eq P.cover_of P.outline_of number remaining.now (λ other. P.Key.eq other key.now) cells.new }
 {
     if remove_from_cell(cells, key, number, remaining) {
         cells.remove(key);
@@ -54,10 +52,8 @@ fn remove_from_cell<P: Profile>(
     number: u64,
     remaining: &[IndexedRegion<P>],
 ) -> bool
-    ensures others { KeepsOthers P.Key.eq P.Outline.eq number cells.old cells.new }
-    ensures remaining { KeepsUnder P.Key.eq P.Outline.eq (IsUnder P.cover_of P.outline_of remaining.now) cells.old cells.new }
+    ensures taken { TakesOut P.Key.eq P.Outline.eq P.cover_of P.outline_of number remaining.now (λ other. P.Key.eq other key.now) cells.old cells.new }
     ensures noted { KeepsNotes P.Key.eq P.Outline.eq cells.new cells.old }
-    ensures gone { IsNotedOnlyFor P.Key.eq P.Outline.eq P.cover_of P.outline_of number remaining.now (λ other. P.Key.eq other key.now) cells.new }
     ensures elsewhere { (other : _) → P.Key.eq key.now other ≡ false → get P.Key.eq cells.new other ≡ get P.Key.eq cells.old other }
     ensures empty { IsTrue result → notes_of (get P.Key.eq cells.new key.now) ≡ [] }
     ensures some { IsFalse result → IfSome (get P.Key.eq cells.new key.now) (λ notes. notes ≢ []) }

@@ -1,9 +1,9 @@
 //! Numbered rows in chunks, in rising order of their numbers.
-ghost use Rattle.std.specs.Prelude.{◌≡◌, ◌<◌, ◌≤◌, ◌++◌, ◌∷◌, [], Some, length, nat_eq, IsTrue, IfErr, OnOk, OnErr};
+ghost use Rattle.std.specs.Prelude.{◌≡◌, ◌<◌, ◌≤◌, ◌++◌, ◌∷◌, [], Some, length, remove as remove_at, nat_eq, IsTrue, IfErr, OnOk, OnErr};
 ghost use Rattle.std.specs.List.Sorted.{IsPartitionPoint};
 ghost use Rattle.std.specs.Map.{lookup};
 ghost use Rattle.std.specs.Option.{option_copied};
-ghost use Rattle.lost_index.specs.Chunks.{AreRising, AreChunks, IsChunkOf, rows_of, ends_below as is_below};
+ghost use Rattle.lost_index.specs.Chunks.{AreRising, HasRow, AreFilled, AreChunks, IsChunkOf, rows_of, ends_below as is_below};
 ghost use Rattle.lost_index.specs.Entries.{IsHeld, IsAbove, without};
 
 use std::alloc::Global;
@@ -74,9 +74,18 @@ pub(crate) fn put<T: Drop>(
     ensures given_back { IfErr result (λ back. back ≡ value) }
 {
     if has_room(chunks) {
-        put_in_last(chunks, number, value)
-    } else {
-        put_behind(chunks, alloc, number, value)
+        return put_in_last(chunks, number, value);
+    }
+    if chunks.reserve(1).is_err() {
+        return Err(value);
+    }
+    let mut chunk = Vec::new(alloc);
+    match chunk.push((number, value)) {
+        Ok(()) => {
+            chunks.push_reserved(chunk);
+            Ok(())
+        }
+        Err(refused) => Err(refused.value.1),
     }
 }
 
@@ -107,33 +116,6 @@ fn put_in_last<T: Drop>(chunks: &mut [Vec<(u64, T)>], number: u64, value: T) -> 
     }
 }
 
-/// Adds a chunk of one row at the end.
-fn put_behind<T: Drop>(
-    chunks: &mut Vec<Vec<(u64, T)>>,
-    alloc: Global,
-    number: u64,
-    value: T,
-) -> Result<(), T>
-    requires chunks { AreChunks chunks.old.items }
-    requires above { IsAbove number (rows_of chunks.old.items) }
-    ensures chunks { AreChunks chunks.new.items }
-    ensures put { OnOk result (rows_of chunks.new.items ≡ rows_of chunks.old.items ++ (number, value) ∷ []) }
-    ensures refused { OnErr result (rows_of chunks.new.items ≡ rows_of chunks.old.items) }
-    ensures given_back { IfErr result (λ back. back ≡ value) }
-{
-    if chunks.reserve(1).is_err() {
-        return Err(value);
-    }
-    let mut chunk = Vec::new(alloc);
-    match chunk.push((number, value)) {
-        Ok(()) => {
-            chunks.push_reserved(chunk);
-            Ok(())
-        }
-        Err(refused) => Err(refused.value.1),
-    }
-}
-
 /// Removes the row of a number that has one. It takes no memory.
 pub(crate) fn remove<T: Drop>(chunks: &mut Vec<Vec<(u64, T)>>, number: u64) -> T
     requires chunks { AreChunks chunks.old.items }
@@ -144,23 +126,40 @@ pub(crate) fn remove<T: Drop>(chunks: &mut Vec<Vec<(u64, T)>>, number: u64) -> T
 {
     let position = chunk_of(chunks, number);
     let value = remove_in(&mut chunks[position], number);
-    if chunks[position].is_empty() {
-        chunks.remove(position);
-    }
+    drop_empty(chunks, position);
     value
 }
 
-/// Removes the row of a number from its chunk, and gives back what a chunk that is half empty has too much.
+/// Removes the row of a number from its chunk.
 fn remove_in<T: Drop>(chunk: &mut Vec<(u64, T)>, number: u64) -> T
-    requires rising { AreRising chunk.old.items }
-    requires held { IsHeld number chunk.old.items }
+    requires { HasRow number chunk.old.items }
     ensures value { lookup (nat_eq number) chunk.old.items ≡ Some result }
     ensures rest { chunk.new.items ≡ without number chunk.old.items }
 {
     let place = place_in(chunk, number);
     let (_, value) = chunk.remove(place);
+    give_back(chunk);
+    value
+}
+
+/// Gives back what a chunk that is half empty has too much.
+fn give_back<T>(chunk: &mut Vec<(u64, T)>)
+    ensures { chunk.new.items ≡ chunk.old.items }
+{
     if chunk.len() <= chunk.capacity() / 2 {
         chunk.shrink_to_fit();
     }
-    value
+}
+
+/// Removes the chunk at a position if it is empty. The others are not.
+fn drop_empty<T: Drop>(chunks: &mut Vec<Vec<(u64, T)>>, position: usize)
+    requires within { position < length chunks.old.items }
+    requires rising { AreRising (rows_of chunks.old.items) }
+    requires others { AreFilled (remove_at chunks.old.items position) }
+    ensures chunks { AreChunks chunks.new.items }
+    ensures same { rows_of chunks.new.items ≡ rows_of chunks.old.items }
+{
+    if chunks[position].is_empty() {
+        chunks.remove(position);
+    }
 }

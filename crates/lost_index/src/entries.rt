@@ -1,7 +1,7 @@
 //! Changes of the entry of one number, in the chunks of the held numbers.
 ghost use Rattle.std.specs.Prelude.{◌≡◌, ◌≤◌, ◌++◌, OnOk, OnErr};
 ghost use Rattle.std.specs.List.{slice_range};
-ghost use Rattle.lost_index.specs.Chunks.{AreRising, AreChunks, rows_of};
+ghost use Rattle.lost_index.specs.Chunks.{HasRow, AreChunks, rows_of};
 ghost use Rattle.lost_index.specs.Entries.{IsHeld, HasRegions, with_number};
 
 use crate::chunks::{chunk_of, place_in};
@@ -32,8 +32,7 @@ fn append_in<P: Profile>(
     number: u64,
     more: &mut Entry<P>,
 ) -> Result<(), AllocError>
-    requires rising { AreRising chunk.old.items }
-    requires held { IsHeld number chunk.old.items }
+    requires { HasRow number chunk.old.items }
     ensures appended { OnOk result (chunk.new.items ≡ with_number number (λ regions. regions ++ more.old) chunk.old.items) }
     ensures refused { OnErr result (chunk.new.items ≡ chunk.old.items) }
     ensures given_back { OnErr result (more.new ≡ more.old) }
@@ -62,8 +61,7 @@ pub(crate) fn cut<P: Profile>(
 
 /// The same in the chunk that has the number.
 fn cut_in<P: Profile>(chunk: &mut Vec<(u64, Entry<P>)>, number: u64, from: usize, to: usize)
-    requires rising { AreRising chunk.old.items }
-    requires held { IsHeld number chunk.old.items }
+    requires row { HasRow number chunk.old.items }
     requires in_order { from ≤ to }
     requires within { HasRegions to number chunk.old.items }
     ensures { chunk.new.items ≡ with_number number (λ regions. slice_range regions from to) chunk.old.items }

@@ -1,7 +1,7 @@
 //! Adding notes of a number under the keys of its regions, and removing them.
 ghost use Rattle.std.specs.Prelude.{◌≤◌, ◌&&◌, true, length, All, OnOk, OnErr};
 ghost use Rattle.std.specs.List.{list_any, slice_range};
-ghost use Rattle.lost_index.specs.Notes.{HasNote, IsUnder, KeepsNotes, KeepsOthers, KeepsUnder, HaveNotes, AddsAtMost, TakesBack, IsNotedOnlyFor, covers, covers_with};
+ghost use Rattle.lost_index.specs.Notes.{HasNote, IsUnder, KeepsNotes, KeepsOthers, KeepsUnder, HaveNotes, AddsAtMost, TakesBack, IsNotedOnlyFor, TakesOut, covers, covers_with};
 
 use crate::cell::Cell;
 use crate::cells;
@@ -86,11 +86,9 @@ pub(crate) fn remove_notes<P: Profile>(
     gone: &[IndexedRegion<P>],
     remaining: &[IndexedRegion<P>],
 )
-    ensures others { KeepsOthers P.Key.eq P.Outline.eq number cells.old cells.new }
-    ensures remaining { KeepsUnder P.Key.eq P.Outline.eq (IsUnder P.cover_of P.outline_of remaining.now) cells.old cells.new }
+    ensures taken { TakesOut P.Key.eq P.Outline.eq P.cover_of P.outline_of number remaining.now
+        (covers P.Key.eq P.cover_of gone.now) cells.old cells.new }
     ensures fewer { TakesBack P.Key.eq P.Outline.eq cells.old cells.new }
-    ensures gone { IsNotedOnlyFor P.Key.eq P.Outline.eq P.cover_of P.outline_of number remaining.now
-        (covers P.Key.eq P.cover_of gone.now) cells.new }
 {
     for one in gone {
         remove_notes_under(cells, number, one, remaining);
@@ -126,11 +124,9 @@ fn remove_notes_under<P: Profile>(
     one: &IndexedRegion<P>,
     remaining: &[IndexedRegion<P>],
 )
-    ensures others { KeepsOthers P.Key.eq P.Outline.eq number cells.old cells.new }
-    ensures remaining { KeepsUnder P.Key.eq P.Outline.eq (IsUnder P.cover_of P.outline_of remaining.now) cells.old cells.new }
+    ensures taken { TakesOut P.Key.eq P.Outline.eq P.cover_of P.outline_of number remaining.now
+        (λ key. list_any (P.Key.eq key) (P.cover_of one.now)) cells.old cells.new }
     ensures fewer { TakesBack P.Key.eq P.Outline.eq cells.old cells.new }
-    ensures gone { IsNotedOnlyFor P.Key.eq P.Outline.eq P.cover_of P.outline_of number remaining.now
-        (λ key. list_any (P.Key.eq key) (P.cover_of one.now)) cells.new }
 {
     for position in 0..one.key_room() {
         let Some(key) = one.key_at(position) else {

@@ -68,26 +68,22 @@ module _ {State : Type 0} (step : State → Cut → Reply → State → Type 0) 
 
   -- further bytes are taken
   pub Moves-append : (a b c : Point State) (piece f g : Text) → Moves step a b piece f → Advances step b c g → Moves step a c piece (f ++ g)
-  Moves-append a b c piece f g m second =
-      let n = second m.rest m.held in
-      record {
-        lines = m.lines ++ n.lines;
-        rest = n.rest;
-        cuts = rw (← append_assoc piece f g) (cut-join (piece ++ f) g m.lines n.lines m.rest n.rest m.cuts n.cuts);
-        held = n.held;
-        serves = Serves-append a b c m.lines n.lines m.serves n.serves;
-      }
+  Moves-append a b c piece f g m second = let n = second m.rest m.held in record {
+    lines = m.lines ++ n.lines;
+    rest = n.rest;
+    cuts = rw (← append_assoc piece f g) (cut-join (piece ++ f) g m.lines n.lines m.rest n.rest m.cuts n.cuts);
+    held = n.held;
+    serves = Serves-append a b c m.lines n.lines m.serves n.serves;
+  }
 
   -- a fault comes among further bytes
   pub Stops-after : (a b c : Point State) (piece f g : Text) → Moves step a b piece f → Fails step b c g → Stops step a c piece (f ++ g)
-  Stops-after a b c piece f g m second =
-      let n = second m.rest m.held in
-      record {
-        lines = m.lines ++ n.lines;
-        others = n.others;
-        begins = rw (← append_assoc piece f g) (ended_lines-append (piece ++ f) g m.lines m.rest m.cuts ∙ ap (λ l. m.lines ++ l) n.begins ∙ sym (append_assoc m.lines n.lines n.others));
-        breaks = Breaks-after a b c m.lines n.lines m.serves n.breaks;
-      }
+  Stops-after a b c piece f g m second = let n = second m.rest m.held in record {
+    lines = m.lines ++ n.lines;
+    others = n.others;
+    begins = rw (← append_assoc piece f g) (ended_lines-append (piece ++ f) g m.lines m.rest m.cuts ∙ ap (λ l. m.lines ++ l) n.begins ∙ sym (append_assoc m.lines n.lines n.others));
+    breaks = Breaks-after a b c m.lines n.lines m.serves n.breaks;
+  }
 
   pub Advances-append : (a b c : Point State) (f g : Text) → Advances step a b f → Advances step b c g → Advances step a c (f ++ g)
   Advances-append a b c f g first second piece held = Moves-append a b c piece f g (first piece held) second

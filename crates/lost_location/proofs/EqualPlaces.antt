@@ -1,5 +1,6 @@
 -- Equal places are seen as one place.
-use Rattle.std.proofs.Common.{◌≡◌, Bool, true, false, ◌&&◌, [], ◌∷◌, ℤ, refl, ap}
+use Rattle.std.proofs.Common.{◌≡◌, true, ◌&&◌, [], ◌∷◌, ℤ, refl, ap}
+use Rattle.std.specs.Cmp.{first_so, second_so}
 use Rattle.std.specs.Ordering.{int_eq}
 use Rattle.std.proofs.lemmas.Bool.{false≢true}
 use Rattle.std.proofs.lemmas.Bool.Decides.{Decides-int_eq}
@@ -14,14 +15,6 @@ use Rattle.lost_location.specs.declared.place.Place.TheVariants.{Point as KeptPo
 use Rattle.lost_location.specs.Place.{place_of}
 use Rattle.lost_location.specs.contracts.place.PlacePartialEq.TheImpl.{ghosts}
 
-left_of : (a b : Bool) → (a && b) ≡ true → a ≡ true
-left_of true b h = refl
-left_of false b h = h
-
-right_of : (a b : Bool) → (a && b) ≡ true → b ≡ true
-right_of true b h = h
-right_of false b h = absurd (false≢true h)
-
 same_point : (a b c d : ℤ) → a ≡ b → c ≡ d → ◌≡◌ {A = Point} (record { lat = a; lon = c }) (record { lat = b; lon = d })
 same_point a b c d one other = cc
 
@@ -30,14 +23,14 @@ same_names a b c d one other = cc
 
 point_is : (a b : Point) → (int_eq a.lat b.lat && int_eq a.lon b.lon) ≡ true → a ≡ b
 point_is a b h =
-    let lat : a.lat ≡ b.lat = (Decides-int_eq a.lat b.lat).0 (left_of (int_eq a.lat b.lat) (int_eq a.lon b.lon) h) in
-    let lon : a.lon ≡ b.lon = (Decides-int_eq a.lon b.lon).0 (right_of (int_eq a.lat b.lat) (int_eq a.lon b.lon) h) in
+    let lat : a.lat ≡ b.lat = (Decides-int_eq a.lat b.lat).0 (first_so (int_eq a.lat b.lat) (int_eq a.lon b.lon) h) in
+    let lon : a.lon ≡ b.lon = (Decides-int_eq a.lon b.lon).0 (second_so (int_eq a.lat b.lat) (int_eq a.lon b.lon) h) in
     same_point a.lat b.lat a.lon b.lon lat lon
 
 pair_is : (a b : Text × Text) → same_pair a b ≡ true → a ≡ b
 pair_is a b h =
-    let name : a.0 ≡ b.0 = (bytes_eq-Decides a.0 b.0).0 (left_of (same_text a.0 b.0) (same_text a.1 b.1) h) in
-    let value : a.1 ≡ b.1 = (bytes_eq-Decides a.1 b.1).0 (right_of (same_text a.0 b.0) (same_text a.1 b.1) h) in
+    let name : a.0 ≡ b.0 = (bytes_eq-Decides a.0 b.0).0 (first_so (same_text a.0 b.0) (same_text a.1 b.1) h) in
+    let value : a.1 ≡ b.1 = (bytes_eq-Decides a.1 b.1).0 (second_so (same_text a.0 b.0) (same_text a.1 b.1) h) in
     same_names a.0 b.0 a.1 b.1 name value
 
 pairs_are : (a b : Pairs) → same_pairs a b ≡ true → a ≡ b
@@ -45,8 +38,8 @@ pairs_are [] [] h = refl
 pairs_are [] (y ∷ ys) h = absurd (false≢true h)
 pairs_are (x ∷ xs) [] h = absurd (false≢true h)
 pairs_are (x ∷ xs) (y ∷ ys) h =
-    let first : x ≡ y = pair_is x y (left_of (same_pair x y) (same_pairs xs ys) h) in
-    let rest : xs ≡ ys = pairs_are xs ys (right_of (same_pair x y) (same_pairs xs ys) h) in
+    let first : x ≡ y = pair_is x y (first_so (same_pair x y) (same_pairs xs ys) h) in
+    let rest : xs ≡ ys = pairs_are xs ys (second_so (same_pair x y) (same_pairs xs ys) h) in
     cc (first, rest)
 
 pub equal_places : (a b : Kept) → ghosts.eq a b ≡ true → place_of a ≡ place_of b

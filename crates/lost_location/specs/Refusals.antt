@@ -16,9 +16,13 @@ Refuses (Err refusal) fault = refusal ≢ Memory → fault ≡ Some refusal
 abbrev pub fault_if : Bool → MappingError → Option MappingError
 fault_if fails fault = first_fault ((fails, fault) ∷ [])
 
+-- a region is bad unless this holds
+abbrev pub bad_unless : Bool → Option MappingError
+bad_unless is_good = fault_if (not is_good) BadRegion
+
 -- a latitude and a longitude within their ranges
 abbrev pub is_position : ℤ × ℤ → Bool
 is_position position = is_none (point_fault position.0 position.1)
 
 abbrev pub regions_fault : List Region → Option MappingError
-regions_fault regions = fault_if (not (list_all is_region regions)) BadRegion
+regions_fault regions = bad_unless (list_all is_region regions)

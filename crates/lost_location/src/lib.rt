@@ -7,11 +7,13 @@ mod body;
 mod counts;
 mod kinds;
 mod lists;
+mod patterns;
 mod place;
 mod polygons;
 mod region;
 mod regions;
 mod rings;
+mod token_sets;
 
 pub use body::{Body, place_in};
 pub use counts::{Counts, MAX_PATTERNS, MAX_POLYGONS, MAX_TOKEN_SETS};

@@ -1,12 +1,14 @@
 //! The regions of a mapping while they are read.
-ghost use Rattle.std.specs.Prelude.{◌≡◌, [], ◌∷◌, ◌++◌, not, IfOk, OnOk, None};
+ghost use Rattle.std.specs.Prelude.{◌≡◌, [], ◌∷◌, ◌++◌, IfOk, OnOk, None};
 ghost use Rattle.std.specs.Option.{option_to_list};
 ghost use Rattle.lost_spec.specs.Place.{is_region, polygon_of, pattern_of, token_set_of, by_kind, no_regions};
-ghost use Rattle.lost_location.specs.Refusals.{Refuses, fault_if, regions_fault};
+ghost use Rattle.lost_location.specs.Refusals.{Refuses, bad_unless, regions_fault};
 ghost use Rattle.lost_location.specs.Region.{region_of, regions_of};
 
+use crate::patterns::read_pattern;
 use crate::region::Region;
-use crate::rings::{read_pattern, read_polygon, read_token_set};
+use crate::rings::read_polygon;
+use crate::token_sets::read_token_set;
 use lost_civic::CivicPattern;
 use lost_geo::Polygon;
 use lost_profile::TokenSet;
@@ -58,49 +60,24 @@ impl RegionLists {
         ensures polygons { OnOk result (self.new.polygons ≡ self.old.polygons ++ option_to_list (polygon_of (region_of region))) }
         ensures patterns { OnOk result (self.new.patterns ≡ self.old.patterns ++ option_to_list (pattern_of (region_of region))) }
         ensures token_sets { OnOk result (self.new.token_sets ≡ self.old.token_sets ++ option_to_list (token_set_of (region_of region))) }
-        ensures refuses { Refuses result (fault_if (not (is_region (region_of region))) MappingError.BadRegion) }
+        ensures refuses { Refuses result (bad_unless (is_region (region_of region))) }
     {
         match region {
-            Region::Ring(positions) => self.add_polygon(read_polygon(alloc, &positions)?),
-            Region::Pattern(pairs) => self.add_pattern(read_pattern(alloc, pairs)?),
-            Region::Tokens(texts) => self.add_token_set(read_token_set(alloc, &texts)?),
+            Region::Ring(positions) => push(&mut self.polygons, read_polygon(alloc, &positions)?),
+            Region::Pattern(pairs) => push(&mut self.patterns, read_pattern(alloc, pairs)?),
+            Region::Tokens(texts) => push(&mut self.token_sets, read_token_set(alloc, &texts)?),
             Region::Unreadable => Err(MappingError::BadRegion),
         }
     }
+}
 
-    fn add_polygon(&mut self, polygon: Polygon) -> Result<(), MappingError>
-        ensures polygons { OnOk result (self.new.polygons ≡ self.old.polygons ++ polygon ∷ []) }
-        ensures patterns { OnOk result (self.new.patterns ≡ self.old.patterns) }
-        ensures token_sets { OnOk result (self.new.token_sets ≡ self.old.token_sets) }
-        ensures refuses { Refuses result None }
-    {
-        match self.polygons.push(polygon) {
-            Ok(()) => Ok(()),
-            Err(_) => Err(MappingError::Memory),
-        }
-    }
-
-    fn add_pattern(&mut self, pattern: CivicPattern) -> Result<(), MappingError>
-        ensures polygons { OnOk result (self.new.polygons ≡ self.old.polygons) }
-        ensures patterns { OnOk result (self.new.patterns ≡ self.old.patterns ++ pattern ∷ []) }
-        ensures token_sets { OnOk result (self.new.token_sets ≡ self.old.token_sets) }
-        ensures refuses { Refuses result None }
-    {
-        match self.patterns.push(pattern) {
-            Ok(()) => Ok(()),
-            Err(_) => Err(MappingError::Memory),
-        }
-    }
-
-    fn add_token_set(&mut self, set: TokenSet) -> Result<(), MappingError>
-        ensures polygons { OnOk result (self.new.polygons ≡ self.old.polygons) }
-        ensures patterns { OnOk result (self.new.patterns ≡ self.old.patterns) }
-        ensures token_sets { OnOk result (self.new.token_sets ≡ self.old.token_sets ++ set ∷ []) }
-        ensures refuses { Refuses result None }
-    {
-        match self.token_sets.push(set) {
-            Ok(()) => Ok(()),
-            Err(_) => Err(MappingError::Memory),
-        }
+/// Puts a region behind those of its kind.
+fn push<T: Drop>(regions: &mut Vec<T>, region: T) -> Result<(), MappingError>
+    ensures regions { OnOk result (regions.new.items ≡ regions.old.items ++ region ∷ []) }
+    ensures refuses { Refuses result None }
+{
+    match regions.push(region) {
+        Ok(()) => Ok(()),
+        Err(_) => Err(MappingError::Memory),
     }
 }

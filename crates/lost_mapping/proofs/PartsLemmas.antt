@@ -1,5 +1,5 @@
 -- The refusal of parts, group by group in the order of the checks, and the mapping of parts that are not refused.
-use Rattle.std.proofs.Common.{◌≡◌, ◌≢◌, Bool, true, false, not, List, [], ◌∷◌, length, Option, Some, None, Result, Ok, Err, OnOk, arith, eqb-true, is_err, refl, sym, ap, ◌∙◌}
+use Rattle.std.proofs.Common.{◌≡◌, ◌≢◌, Bool, true, false, not, List, [], ◌∷◌, ◌++◌, length, Option, Some, None, Result, Ok, Err, OnOk, arith, eqb-true, is_err, refl, sym, ap, ◌∙◌}
 use Rattle.std.specs.List.{list_all}
 use Rattle.std.specs.Option.{option_or}
 use Rattle.lost_spec.specs.declared.faults.MappingError.{MappingError}
@@ -17,6 +17,12 @@ use Rattle.lost_mapping.specs.Shape.{IsShaped}
 
 -- ---- groups
 
+-- the first fault of two groups is that of the first group, or else that of the second
+first_of_two : {Fault : Type 0} (checks rest : List (Bool × Fault)) → first_fault (checks ++ rest) ≡ option_or (first_fault checks) (first_fault rest)
+first_of_two [] rest = refl
+first_of_two ((true, fault) ∷ checks) rest = refl
+first_of_two ((false, fault) ∷ checks) rest = first_of_two checks rest
+
 groups : (a b c d e f g h i j k : Bool)
     → first_fault ((a, BadSource) ∷ (b, BadSourceId) ∷ (c, BadStamp) ∷ (d, BadExpires) ∷ (e, BadService) ∷ (f, BadUri) ∷ (g, BadNumber) ∷ (h, BadRegion) ∷ (i, RegionMissing) ∷ (j, TooLarge) ∷ (k, BadKey) ∷ [])
     ≡ option_or
@@ -24,18 +30,15 @@ groups : (a b c d e f g h i j k : Bool)
     (option_or (first_fault ((c, BadStamp) ∷ [])) (option_or (first_fault ((d, BadExpires) ∷ [])) (first_fault ((e, BadService) ∷ [])))))
     (option_or (first_fault ((f, BadUri) ∷ (g, BadNumber) ∷ []))
     (option_or (first_fault ((h, BadRegion) ∷ [])) (first_fault ((i, RegionMissing) ∷ (j, TooLarge) ∷ (k, BadKey) ∷ []))))
-groups true b c d e f g h i j k = refl
-groups false true c d e f g h i j k = refl
-groups false false true d e f g h i j k = refl
-groups false false false true e f g h i j k = refl
-groups false false false false true f g h i j k = refl
-groups false false false false false true g h i j k = refl
-groups false false false false false false true h i j k = refl
-groups false false false false false false false true i j k = refl
-groups false false false false false false false false true j k = refl
-groups false false false false false false false false false true k = refl
-groups false false false false false false false false false false true = refl
-groups false false false false false false false false false false false = refl
+groups a b c d e f g h i j k =
+    first_of_two ((a, BadSource) ∷ (b, BadSourceId) ∷ (c, BadStamp) ∷ (d, BadExpires) ∷ (e, BadService) ∷ []) ((f, BadUri) ∷ (g, BadNumber) ∷ (h, BadRegion) ∷ (i, RegionMissing) ∷ (j, TooLarge) ∷ (k, BadKey) ∷ [])
+    ∙ rw (
+      first_of_two ((a, BadSource) ∷ (b, BadSourceId) ∷ []) ((c, BadStamp) ∷ (d, BadExpires) ∷ (e, BadService) ∷ []),
+      first_of_two ((c, BadStamp) ∷ []) ((d, BadExpires) ∷ (e, BadService) ∷ []),
+      first_of_two ((d, BadExpires) ∷ []) ((e, BadService) ∷ []),
+      first_of_two ((f, BadUri) ∷ (g, BadNumber) ∷ []) ((h, BadRegion) ∷ (i, RegionMissing) ∷ (j, TooLarge) ∷ (k, BadKey) ∷ []),
+      first_of_two ((h, BadRegion) ∷ []) ((i, RegionMissing) ∷ (j, TooLarge) ∷ (k, BadKey) ∷ []),
+    ) refl
 
 -- by the number of regions, a default has none, and another mapping has one
 right_count : (is_default : Bool) (regions : List Region) → has_right_regions is_default regions ≡ has_right_count is_default (length regions)

@@ -9,7 +9,7 @@ ghost use Rattle.lost_mapping.specs.StampText.{number_in, has_shape, end_of};
 use crate::calendar::day_number;
 use crate::digits::number_at;
 use crate::moment::Moment;
-use lost_spec::digits_value;
+use lost_spec::{are_digits, digits_value};
 
 /// The first 19 bytes of a stamp, in which 0 stands for any digit.
 const SHAPE: &[u8; 19] = b"0000-00-00T00:00:00";
@@ -148,12 +148,6 @@ fn are_fraction_digits(digits: &[u8]) -> bool
     ensures { result ≡ (is_between 1 9 (length digits.now) && list_all is_digit digits.now) }
 {
     !digits.is_empty() && digits.len() <= MAX_FRACTION_LEN && are_digits(digits)
-}
-
-fn are_digits(text: &[u8]) -> bool
-    ensures { result ≡ list_all is_digit text.now }
-{
-    text.iter().all(|byte| byte.is_ascii_digit())
 }
 
 /// The nanoseconds that such digits spell: those that are absent are zeros.

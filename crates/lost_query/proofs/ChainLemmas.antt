@@ -1,5 +1,5 @@
 -- A search of a chain, one service after the other, and what it is asked of the mappings that hold a place.
-use Rattle.std.specs.Prelude.{◌≡◌, ◌≢◌, ℕ, zero, suc, ◌-◌, ◌<◌, ◌≤◌, Bool, true, false, cond, not, ◌&&◌, List, [], ◌∷◌, length, take, filter, Option, Some}
+use Rattle.std.specs.Prelude.{◌≡◌, ◌≢◌, ℕ, zero, suc, ◌-◌, ◌<◌, ◌≤◌, Bool, true, false, not, ◌&&◌, List, [], ◌∷◌, length, take, filter, Option, Some}
 use Rattle.std.specs.List.{list_any}
 use Rattle.std.proofs.Common.{⊎_elim, refl, sym, ap, subst, ◌∙◌, arith}
 use Rattle.std.proofs.lemmas.Bool.{cases_lt, or_left, or_right}
@@ -11,20 +11,12 @@ use Rattle.lost_spec.specs.Book.{Book}
 use Rattle.lost_spec.specs.Find.{holds, is_holder, at, unless_empty, first_with}
 use Rattle.lost_spec.specs.Services.{is_holding, holding}
 use Rattle.lost_spec.specs.Positions.{positions}
+use Rattle.lost_spec.proofs.FilterLemmas.{filter-filter as filter-within}
 use Rattle.lost_query.specs.Finding.{at_positions, of_chain}
 use Rattle.lost_query.proofs.PositionLemmas.{at_positions-positions}
+use Rattle.lost_query.proofs.SplitLemmas.{filter_alike, filter-filter}
 
 -- ---- what a service has
-
--- a filter of a filter keeps what passes both
-filter-filter : {Thing : Type 0} (p q r : Thing → Bool) → ((x : Thing) → r x ≡ (q x && p x)) → (xs : List Thing) → filter p (filter q xs) ≡ filter r xs
-filter-filter p q r both [] = refl
-filter-filter p q r both (x ∷ xs) =
-    let later = filter-filter p q r both xs in
-    rw (both x) (elim (q x) as (λ b. filter p (cond b (x ∷ filter q xs) (filter q xs)) ≡ cond (b && p x) (x ∷ filter r xs) (filter r xs)) [
-      | true ↦ ap (λ ys. cond (p x) (x ∷ ys) ys) later
-      | false ↦ later
-    ])
 
 -- three tests in another order
 and_other_way : (a b c : Bool) → ((a && b) && c) ≡ ((a && c) && b)
@@ -37,15 +29,6 @@ and_other_way true true true = refl
 -- to hold a place for a service is to hold it, and to have the service
 is_holder-and : (t : Instant) (l : Place) (u : Service) (m : Mapping) → is_holder t l u m ≡ (is_holding t l m && same_service m.service u)
 is_holder-and t l u m = and_other_way (is_live m t) (same_service m.service u) (not m.is_default && holds m l)
-
--- a stricter filter may follow a weaker one
-and_implied : (a b : Bool) → (a ≡ true → b ≡ true) → a ≡ (b && a)
-and_implied true b implied = sym (ap (λ c. c && true) (implied refl))
-and_implied false false implied = refl
-and_implied false true implied = refl
-
-filter-within : {Thing : Type 0} (p q : Thing → Bool) → ((x : Thing) → p x ≡ true → q x ≡ true) → (xs : List Thing) → filter p (filter q xs) ≡ filter p xs
-filter-within p q implied xs = filter-filter p q p (λ x. and_implied (p x) (q x) (implied x)) xs
 
 -- what has a cut of a service has a service of its chain
 has_cut : (v s : Service) (d n : ℕ) → 0 < d → d ≤ n → same_service v (take d s) ≡ true → list_any (λ u. same_service v u) (cuts n s) ≡ true
@@ -73,7 +56,8 @@ at-from_chain b t l s u d places some within cut are =
     sym (filter-within has on_chain implied (at_positions b.mappings places))
     ∙ ap (filter has) are
     ∙ filter-within has on_chain implied (holding b t l)
-    ∙ filter-filter has (is_holding t l) (is_holder t l u) (is_holder-and t l u) b.mappings
+    ∙ filter-filter (is_holding t l) has b.mappings
+    ∙ sym (filter_alike (is_holder t l u) (λ m. is_holding t l m && has m) (is_holder-and t l u) b.mappings)
 
 -- what holds a place has those of each chain which do
 pub of_chain-holding : (b : Book) (t : Instant) (l : Place) (s : Service) (places : List ℕ) → places ≡ positions (is_holding t l) b.mappings

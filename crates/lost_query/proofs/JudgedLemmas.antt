@@ -112,13 +112,15 @@ valid_name found address matching are name =
     list_any-filter_both (λ p. matches p address) (names_it name) (patterns_in found) ∙ ap (list_any (names_it name)) (sym are)
 
 -- what is named by a pattern that matches is valid, and what is not is not
-pub named_valid : (found : List Mapping) (address : Pairs) (matching : List Pairs) → matching ≡ filter (λ p. matches p address) (patterns_in found) → (elements : List Element) → filter (is_named matching) elements ≡ filter (is_valid_element found address) elements
-named_valid found address matching are elements =
+pub named_valid : (found : List Mapping) (address : Pairs) (matching : List Pairs) → matching ≡ filter (λ p. matches p address) (patterns_in found) → (elements given : List Element) → elements ≡ given → filter (is_named matching) elements ≡ filter (is_valid_element found address) given
+named_valid found address matching are elements given same =
     filter_alike (is_named matching) (is_valid_element found address) (λ e. sym (valid_name found address matching are (element_name e))) elements
+    ∙ ap (filter (is_valid_element found address)) same
 
-pub named_others : (found : List Mapping) (address : Pairs) (matching : List Pairs) → matching ≡ filter (λ p. matches p address) (patterns_in found) → (elements : List Element) → filter (λ e. not (is_named matching e)) elements ≡ filter (λ e. not (is_valid_element found address e)) elements
-named_others found address matching are elements =
+pub named_others : (found : List Mapping) (address : Pairs) (matching : List Pairs) → matching ≡ filter (λ p. matches p address) (patterns_in found) → (elements given : List Element) → elements ≡ given → filter (λ e. not (is_named matching e)) elements ≡ filter (λ e. not (is_valid_element found address e)) given
+named_others found address matching are elements given same =
     filter_alike (λ e. not (is_named matching e)) (λ e. not (is_valid_element found address e)) (λ e. ap not (sym (valid_name found address matching are (element_name e)))) elements
+    ∙ ap (filter (λ e. not (is_valid_element found address e))) same
 
 -- a name of no element is not valid
 pub no_other_valid : (found : List Mapping) (address : Pairs) (matching : List Pairs) → matching ≡ filter (λ p. matches p address) (patterns_in found) → AllByRecursion (λ p. pattern_fault p ≡ None) matching → ValidatesNoOther found address

@@ -6,18 +6,6 @@ use Rattle.std.proofs.lemmas.List.Elements.{filter_more}
 use Rattle.lost_spec.specs.Text.{Text, same_text, is_among}
 use Rattle.lost_spec.specs.Civic.{Pairs, names_of, value_of, comparison_text}
 
--- ---- a name in a list of pairs
-
--- a name has a comparison text where it stands
-pub is_some-compared : (name : Text) (pairs : Pairs) → is_some (option_map comparison_text (value_of name pairs)) ≡ is_among name (names_of pairs)
-is_some-compared name [] = refl
-is_some-compared name (pair ∷ rest) =
-    let found = find (λ (other : Text × Text). same_text name other.0) rest in
-    elim (same_text name pair.0) as (λ b. is_some (option_map comparison_text (option_map (λ (other : Text × Text). other.1) (cond b (Some pair) found))) ≡ (b || is_among name (names_of rest))) [
-      | true ↦ refl
-      | false ↦ is_some-compared name rest
-    ]
-
 pub is_some-copied : {X : Type 0} (o : Option (Bor X)) → is_some o ≡ is_some (option_copied o)
 is_some-copied None = refl
 is_some-copied (Some x) = refl

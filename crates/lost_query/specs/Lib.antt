@@ -1,5 +1,6 @@
 pub mod Children
 pub mod Judged
+pub mod Reference
 pub mod Used
 pub mod Finding
 pub mod Ask

@@ -4,11 +4,11 @@ ghost use Rattle.std.specs.List.{list_any};
 ghost use Rattle.std.specs.Fn.{FnReturnsAt};
 ghost use Rattle.lost_spec.specs.Mapping as spec;
 
-use crate::holdings::{Holdings, Positions};
+use crate::holdings::{Holdings, Picked};
+use crate::reference::Reference;
 use crate::services::services_below;
-use crate::validation::patterns::{refers, refers_naming};
-use lost_book::{Book, serves};
-use lost_civic::{CivicAddress, Element};
+use lost_book::Book;
+use lost_civic::Element;
 use lost_location::Place;
 use lost_mapping::{Mapping, Moment};
 use lost_urn::ServiceUrn;
@@ -38,50 +38,28 @@ impl Holdings for Book {
         Book::implemented(self, moment, service)
     }
 
-    fn holding(&self, moment: &Moment, place: &Place) -> Result<Positions, AllocError> {
+    fn holding(&self, moment: &Moment, place: &Place) -> Picked {
         Ok(SmallVec::from_vec(Book::holding(self, moment, place)?))
     }
 
-    fn at(
-        &self,
-        moment: &Moment,
-        place: &Place,
-        service: &ServiceUrn,
-    ) -> Result<Positions, AllocError> {
+    fn at(&self, moment: &Moment, place: &Place, service: &ServiceUrn) -> Picked {
         Ok(SmallVec::from_vec(Book::at(self, moment, place, service)?))
     }
 
-    fn defaults(&self, moment: &Moment, service: &ServiceUrn) -> Result<Positions, AllocError> {
+    fn defaults(&self, moment: &Moment, service: &ServiceUrn) -> Picked {
         Ok(SmallVec::from_vec(Book::defaults(self, moment, service)?))
     }
 
-    fn of_service(&self, moment: &Moment, service: &ServiceUrn) -> Result<Positions, AllocError> {
+    fn of_service(&self, moment: &Moment, service: &ServiceUrn) -> Picked {
         Ok(SmallVec::from_vec(Book::of_service(self, moment, service)?))
     }
 
-    fn is_agreed(
-        &self,
-        moment: &Moment,
-        service: &ServiceUrn,
-        address: &CivicAddress,
-        elements: &[Element],
-    ) -> Result<bool, AllocError> {
-        Ok(has_some(self, |mapping| {
-            serves(mapping, moment, service) && refers(mapping, address, elements)
-        }))
+    fn is_agreed(&self, reference: &Reference<'_>) -> Result<bool, AllocError> {
+        Ok(has_some(self, |mapping| reference.is_in(mapping)))
     }
 
-    fn is_named(
-        &self,
-        moment: &Moment,
-        service: &ServiceUrn,
-        address: &CivicAddress,
-        elements: &[Element],
-        named: Element,
-    ) -> Result<bool, AllocError> {
-        Ok(has_some(self, |mapping| {
-            serves(mapping, moment, service) && refers_naming(mapping, address, elements, named)
-        }))
+    fn is_named(&self, reference: &Reference<'_>, named: Element) -> Result<bool, AllocError> {
+        Ok(has_some(self, |mapping| reference.is_in_naming(mapping, named)))
     }
 
     fn services_below(

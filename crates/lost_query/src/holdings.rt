@@ -7,10 +7,11 @@ ghost use Rattle.lost_spec.specs.Positions.{positions};
 ghost use Rattle.lost_spec.specs.Find.{is_holder, is_standby, serves, is_implemented};
 ghost use Rattle.lost_spec.specs.Services.{is_holding, has_live_key, all_services, holding};
 ghost use Rattle.lost_query.specs.Finding.{at_positions, of_chain};
-ghost use Rattle.lost_query.specs.Judged.{is_referring, is_naming};
+ghost use Rattle.lost_query.specs.Reference.{is_referring_by, is_naming_by};
 ghost use Rattle.lost_location.specs.Place.{place_of};
 
-use lost_civic::{CivicAddress, Element};
+use crate::reference::Reference;
+use lost_civic::Element;
 use lost_location::Place;
 use lost_mapping::{Mapping, Moment};
 use lost_urn::ServiceUrn;
@@ -19,6 +20,9 @@ use std::alloc::AllocError;
 
 /// Positions of mappings in a book's list, rising. Up to eight take no memory (own rule).
 pub type Positions = SmallVec<usize, 8>;
+
+/// The positions that a question picks, unless memory is refused.
+pub type Picked = Result<Positions, AllocError>;
 
 /// A store of mappings. Contracts see it as a book, however it keeps them. A position is that of a mapping in the
 /// book's list, from 0; lists of positions are rising.
@@ -48,18 +52,13 @@ pub trait Holdings {
         ensures { result ≡ is_implemented (book self.now) moment.now service.now };
 
     /// The mappings that are live, are no defaults and hold the place (RFC 5222, section 11).
-    fn holding(&self, moment: &Moment, place: &Place) -> Result<Positions, AllocError>
+    fn holding(&self, moment: &Moment, place: &Place) -> Picked
         ensures { IfOk result (λ found.
             found.items ≡ positions (is_holding moment.now (place_of place.now)) (book self.now).mappings) };
 
     /// Of the mappings that are live, are no defaults and hold the place, those that have this service or one above it,
     /// and perhaps others (RFC 5222, section 8; policy own).
-    fn of_chain(
-        &self,
-        moment: &Moment,
-        place: &Place,
-        service: &ServiceUrn,
-    ) -> Result<Positions, AllocError>
+    fn of_chain(&self, moment: &Moment, place: &Place, service: &ServiceUrn) -> Picked
         ensures within { IfOk result (λ found.
             All (λ position. position < length (book self.now).mappings) found.items) }
         ensures of_chain { IfOk result (λ found. of_chain service.now (at_positions (book self.now).mappings found.items)
@@ -69,49 +68,31 @@ pub trait Holdings {
     }
 
     /// The mappings that are live, are no defaults, have this service and hold the place (RFC 5222, section 8).
-    fn at(
-        &self,
-        moment: &Moment,
-        place: &Place,
-        service: &ServiceUrn,
-    ) -> Result<Positions, AllocError>
+    fn at(&self, moment: &Moment, place: &Place, service: &ServiceUrn) -> Picked
         ensures { IfOk result (λ found.
             found.items ≡ positions (is_holder moment.now (place_of place.now) service.now) (book self.now).mappings) };
 
     /// The live defaults of this service.
-    fn defaults(&self, moment: &Moment, service: &ServiceUrn) -> Result<Positions, AllocError>
+    fn defaults(&self, moment: &Moment, service: &ServiceUrn) -> Picked
         ensures { IfOk result (λ found.
             found.items ≡ positions (is_standby moment.now service.now) (book self.now).mappings) };
 
     /// The live mappings of this service, defaults too (RFC 5222, section 8.4.2; own policy).
-    fn of_service(&self, moment: &Moment, service: &ServiceUrn) -> Result<Positions, AllocError>
+    fn of_service(&self, moment: &Moment, service: &ServiceUrn) -> Picked
         ensures { IfOk result (λ found.
             found.items ≡ positions (λ m. serves m moment.now service.now) (book self.now).mappings) };
 
-    /// Whether some live mapping of this service, defaults too, has a pattern that names each of these elements with the
-    /// address's comparison text (RFC 5222, section 8.4.2; own policy).
-    fn is_agreed(
-        &self,
-        moment: &Moment,
-        service: &ServiceUrn,
-        address: &CivicAddress,
-        elements: &[Element],
-    ) -> Result<bool, AllocError>
+    /// Whether some mapping, defaults too, has this reference: it is live, has the service, and a pattern of it names each
+    /// of the elements with the address's comparison text (RFC 5222, section 8.4.2; own policy).
+    fn is_agreed(&self, reference: &Reference<'_>) -> Result<bool, AllocError>
         ensures { IfOk result (λ agreed.
-            agreed ≡ list_any (is_referring moment.now service.now address.now elements.now) (book self.now).mappings) };
+            agreed ≡ list_any (is_referring_by reference.now) (book self.now).mappings) };
 
-    /// Whether some live mapping of this service, defaults too, has a pattern that names each of these elements with the
-    /// address's comparison text, and another element with any text (RFC 5222, section 8.4.2; own policy).
-    fn is_named(
-        &self,
-        moment: &Moment,
-        service: &ServiceUrn,
-        address: &CivicAddress,
-        elements: &[Element],
-        named: Element,
-    ) -> Result<bool, AllocError>
+    /// Whether some mapping, defaults too, has this reference in a pattern that names another element too, with any text
+    /// (RFC 5222, section 8.4.2; own policy).
+    fn is_named(&self, reference: &Reference<'_>, named: Element) -> Result<bool, AllocError>
         ensures { IfOk result (λ found.
-            found ≡ list_any (is_naming moment.now service.now address.now elements.now named) (book self.now).mappings) };
+            found ≡ list_any (is_naming_by reference.now named) (book self.now).mappings) };
 
     /// The services just below one, or the topmost, of all live mappings, defaults too, in the order of their texts,
     /// each once (RFC 5222, section 10; own order).

@@ -14,6 +14,7 @@ mod holdings;
 mod lists;
 mod picks;
 mod places;
+mod reference;
 mod refusals;
 mod services;
 mod shown;
@@ -23,11 +24,11 @@ mod warnings;
 
 pub use answering::{answer, answer_asked};
 pub use asked::{Asked, place_used};
-pub use holdings::{Holdings, Positions};
+pub use holdings::{Holdings, Picked, Positions};
 pub use lost_location::{Place, law_equal_places_are_one};
 pub use lost_mapping::{
     AnswerError, Body, Boundary, FoundMappings, Location, Locations, Path, Reply, Request,
     Validation, Warning,
 };
+pub use reference::Reference;
 pub use services::children::Children;
-pub use validation::patterns::{refers, refers_naming};

@@ -4,11 +4,13 @@ ghost use Rattle.lost_spec.specs.Text.{ascending_by};
 ghost use Rattle.lost_spec.specs.Validation.{unknown_names, validation};
 ghost use Rattle.lost_civic.specs.Element.{element_name, all_elements};
 ghost use Rattle.lost_query.specs.Finding.{mappings_of};
-ghost use Rattle.lost_query.specs.Judged.{stands_in, is_valid_element, is_contradicted, ValidatesNoOther};
+ghost use Rattle.lost_query.specs.Judged.{stands_in, is_valid_element, ValidatesNoOther};
+ghost use Rattle.lost_query.specs.Reference.{is_contradicted_by};
 ghost use Rattle.lost_mapping.specs.Reply.{validation_of};
 
 use crate::found::Found;
 use crate::holdings::Holdings;
+use crate::reference::Reference;
 use crate::validation::elements::{append, elements_of, names_of, part, unknown_names};
 use crate::validation::patterns::{is_named, matching_patterns};
 use lost_civic::{CivicAddress, Element};
@@ -33,9 +35,13 @@ pub(crate) fn validate<H: Holdings>(
         validation_of judged ≡ validation (H.book holdings.now) moment.now service.now (mappings_of found.now) address.now) }
 {
     let (valid, others) = part_valid(alloc, found, address)?;
-    let (invalid, unchecked) = part_invalid(
-        alloc, holdings, moment, service, address, &valid, &others,
-    )?;
+    let reference = Reference {
+        moment,
+        service,
+        address,
+        elements: &valid,
+    };
+    let (invalid, unchecked) = part_invalid(alloc, holdings, &reference, &others)?;
     make_validation(alloc, address, &invalid, &unchecked, &valid)
 }
 
@@ -60,25 +66,22 @@ fn part_valid(
 }
 
 /// Splits the elements that are not valid into the invalid ones and the rest, in their order (RFC 5222, section 8.4.2;
-/// policy own).
+/// policy own). The reference has the valid ones.
 fn part_invalid<H: Holdings>(
     alloc: Global,
     holdings: &H,
-    moment: &Moment,
-    service: &ServiceUrn,
-    address: &CivicAddress,
-    valid: &[Element],
+    reference: &Reference<'_>,
     others: &[Element],
 ) -> Result<(Vec<Element>, Vec<Element>), AllocError>
     ensures invalid { IfOk result (λ parts.
-        parts.0.items ≡ filter (is_contradicted (H.book holdings.now) moment.now service.now address.now valid.now) others.now) }
+        parts.0.items ≡ filter (is_contradicted_by (H.book holdings.now) reference.now) others.now) }
     ensures unchecked { IfOk result (λ parts.
-        parts.1.items ≡ filter (λ e. not (is_contradicted (H.book holdings.now) moment.now service.now address.now valid.now e)) others.now) }
+        parts.1.items ≡ filter (λ e. not (is_contradicted_by (H.book holdings.now) reference.now e)) others.now) }
 {
     let mut invalid = Vec::new(alloc);
     let mut unchecked = Vec::new(alloc);
     for element in others {
-        if is_contradicted(alloc, holdings, moment, service, address, valid, *element)? {
+        if is_contradicted(alloc, holdings, reference, *element)? {
             invalid.push(*element)?;
         } else {
             unchecked.push(*element)?;
@@ -87,26 +90,26 @@ fn part_invalid<H: Holdings>(
     Ok((invalid, unchecked))
 }
 
-/// Whether some reference pattern names an element, and none with the address's comparison text. The reference patterns
-/// are those of live mappings of the service that name each valid element with that text (RFC 5222, section 8.4.2;
-/// own policy).
+/// Whether some reference pattern names an element, and none with the address's comparison text. The reference has the
+/// valid elements (RFC 5222, section 8.4.2; own policy).
 fn is_contradicted<H: Holdings>(
     alloc: Global,
     holdings: &H,
-    moment: &Moment,
-    service: &ServiceUrn,
-    address: &CivicAddress,
-    valid: &[Element],
+    reference: &Reference<'_>,
     element: Element,
 ) -> Result<bool, AllocError>
     ensures { IfOk result (λ contradicted.
-        contradicted ≡ is_contradicted (H.book holdings.now) moment.now service.now address.now valid.now element) }
+        contradicted ≡ is_contradicted_by (H.book holdings.now) reference.now element) }
 {
-    let elements = with_one_more(alloc, valid, element)?;
-    if holdings.is_agreed(moment, service, address, &elements)? {
+    let elements = with_one_more(alloc, reference.elements, element)?;
+    let longer = Reference {
+        elements: &elements,
+        ..*reference
+    };
+    if holdings.is_agreed(&longer)? {
         return Ok(false);
     }
-    holdings.is_named(moment, service, address, valid, element)
+    holdings.is_named(reference, element)
 }
 
 /// These elements and one more at the end.

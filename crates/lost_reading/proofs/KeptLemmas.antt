@@ -56,14 +56,8 @@ unknown_put k d all kept unknown same name known =
 -- ---- what an object's members make
 
 pub request_same : (name : Text) (all kept : Members) → HaveSameKnown all kept → request_named name all ≡ request_named name kept
-request_same name all kept same = rw (
-  same (codes "service") refl,
-  same (codes "location") refl,
-  same (codes "validateLocation") refl,
-  same (codes "serviceBoundary") refl,
-  same (codes "path") refl,
-  same (codes "key") refl,
-) refl
+request_same name all kept same =
+    rw (same (codes "service") refl, same (codes "location") refl, same (codes "validateLocation") refl, same (codes "serviceBoundary") refl, same (codes "path") refl, same (codes "key") refl) refl
 
 pub order_same : (name : Text) (all kept : Members) → HaveSameKnown all kept → order_named name all ≡ order_named name kept
 order_same name all kept same = rw (

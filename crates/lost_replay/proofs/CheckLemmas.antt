@@ -84,6 +84,15 @@ module _ (name : Text) (t : Instant) (says : ℕ → Bool → Type 0) (old new :
         edition = finds.edition ∙ are.published_edits;
       }
 
+  -- what was found of lines that were judged
+  found_of : (lines : List Text) (said : List Reply) (findings : Findings) (lets : LetThrough says (length lines)) (run : Run Checks old lines said new) → length lines ≤ 2 ^ 64 - 1 → Finds findings new
+      → AreFindings findings (judged lines said lets run).outcomes (judged lines said lets run).end
+  unfolding judged
+  found_of lines said findings lets run few finds =
+      let c = checked_lines lines said run in
+      let r = from_none name t says old.replayer new.replayer begins.name_is begins.moment_is begins.books_are lines c.replies c.run in
+      found lines said findings r.end c r.are few finds
+
   -- the counts of a replay of the same lines
   abbrev counts_of_replay : List Text → List Reply → Counts
   counts_of_replay lines replies = record { lines = length lines; long_lines = long_count lines; memory = memory_count replies; faults = 0 }
@@ -120,38 +129,13 @@ module _ (name : Text) (t : Instant) (says : ℕ → Bool → Type 0) (old new :
   module _ (findings : Findings) (finds : Finds findings new) (most : ℕ) (few : most ≤ 2 ^ 64 - 1) (unread left before after : Option Text) where
     checked_so_far : IsWholeSoFar says Checks old new most unread left before after → IsCheckedSoFar says name t most unread left before after findings
     checked_so_far s =
-        let c = checked_lines s.lines s.replies s.run in
-        let r = from_none name t says old.replayer new.replayer begins.name_is begins.moment_is begins.books_are s.lines c.replies c.run in
         let within : length s.lines ≤ 2 ^ 64 - 1 = few_taken s.lines (ended_lines s.consumed) most s.ended few in
-        record {
-          lines = s.lines;
-          said = text_of s.replies;
-          judged = record { replies = c.replies; end = r.end; run = r.run; outcomes = c.outcomes; are = c.are; are_said = c.says; let_through = s.let_through };
-          consumed = s.consumed;
-          read = s.read;
-          ended = s.ended;
-          written = s.written;
-          found = found s.lines s.replies findings r.end c r.are within finds;
-        }
+        record { lines = s.lines; said = text_of s.replies; judged = judged s.lines s.replies s.let_through s.run; consumed = s.consumed; read = s.read; ended = s.ended; written = s.written; found = found_of s.lines s.replies findings s.let_through s.run within finds }
 
     checked_held : (has_ended : Bool) → IsHeldBack says Checks old new most unread left before after has_ended → IsCheckHeldBack says name t most unread left before after has_ended findings
     checked_held has_ended s =
-        let c = checked_lines s.lines s.replies s.run in
-        let r = from_none name t says old.replayer new.replayer begins.name_is begins.moment_is begins.books_are s.lines c.replies c.run in
         let within : length s.lines ≤ 2 ^ 64 - 1 = few_below (length s.lines) most s.within few in
-        record {
-          lines = s.lines;
-          line = s.line;
-          said = text_of s.replies;
-          judged = record { replies = c.replies; end = r.end; run = r.run; outcomes = c.outcomes; are = c.are; are_said = c.says; let_through = s.let_through };
-          consumed = s.consumed;
-          refused = s.refused;
-          within = s.within;
-          read = s.read;
-          next = s.next;
-          written = s.written;
-          found = found s.lines s.replies findings r.end c r.are within finds;
-        }
+        record { lines = s.lines; line = s.line; said = text_of s.replies; judged = judged s.lines s.replies s.let_through s.run; consumed = s.consumed; refused = s.refused; within = s.within; read = s.read; next = s.next; written = s.written; found = found_of s.lines s.replies findings s.let_through s.run within finds }
 
   -- the turns are spent, or the gate refused a line
   checked_spent : (findings : Findings) → Finds findings new → (turns : Turns) → turns.lines ≤ 2 ^ 64 - 1 → (unread left before after : Option Text) (reads : ℕ) (has_ended : Bool)

@@ -4,31 +4,19 @@ use Rattle.lost_spec.specs.Text.{Text}
 use Rattle.lost_lines.specs.Run.{Reply}
 use Rattle.lost_replay.specs.Outcome.{IsOutcomeOf}
 use Rattle.lost_replay.specs.declared.outcome.Outcome.{Outcome}
-use Rattle.lost_replay.specs.declared.outcome.Outcome.TheVariants.{Answered, Staged, Committed, Refused, BadRequest, Unjudged}
+use Rattle.lost_replay.specs.declared.outcome.Outcome.TheVariants.{Refused, BadRequest, Unjudged}
 
 abbrev pub is_refused : Outcome → Bool
-is_refused Answered = false
-is_refused (Staged pending) = false
-is_refused (Committed edition) = false
 is_refused (Refused code) = true
-is_refused BadRequest = false
-is_refused Unjudged = false
+is_refused _ = false
 
 abbrev pub is_bad_request : Outcome → Bool
-is_bad_request Answered = false
-is_bad_request (Staged pending) = false
-is_bad_request (Committed edition) = false
-is_bad_request (Refused code) = false
 is_bad_request BadRequest = true
-is_bad_request Unjudged = false
+is_bad_request _ = false
 
 abbrev pub is_unjudged : Outcome → Bool
-is_unjudged Answered = false
-is_unjudged (Staged pending) = false
-is_unjudged (Committed edition) = false
-is_unjudged (Refused code) = false
-is_unjudged BadRequest = false
 is_unjudged Unjudged = true
+is_unjudged _ = false
 
 -- each outcome is that of its line and of the reply to it
 abbrev pub AreOutcomes : List Text → List Reply → List Outcome → Type 0

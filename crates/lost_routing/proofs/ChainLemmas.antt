@@ -1,5 +1,5 @@
 -- What is found at a place for a service and those above it has all that is asked of it.
-use Rattle.std.proofs.Common.{◌≡◌, ◌<◌, ℕ, zero, suc, Bool, true, false, not, cond, ◌&&◌, ⊎_elim, List, [], ◌∷◌, All, length, take, filter, refl, sym, ap, subst, ◌∙◌}
+use Rattle.std.proofs.Common.{◌≡◌, ◌<◌, ℕ, zero, suc, Bool, true, false, not, ◌&&◌, ⊎_elim, List, [], ◌∷◌, All, length, take, filter, refl, sym, ap, subst, ◌∙◌}
 use Rattle.std.specs.List.{list_any}
 use Rattle.std.proofs.lemmas.Bool.{false≢true, or_cases}
 use Rattle.lost_spec.specs.Place.{Place}
@@ -13,6 +13,7 @@ use Rattle.lost_spec.specs.Positions.{positions}
 use Rattle.lost_urn.specs.Order.{same_service_is}
 use Rattle.lost_query.specs.Finding.{at_positions, of_chain}
 use Rattle.lost_query.proofs.PositionLemmas.{at_positions-positions, positions-within}
+use Rattle.lost_query.proofs.SplitLemmas.{filter_alike, filter-filter}
 use Rattle.lost_routing.specs.Chain.{is_chain_holder}
 
 -- ---- what has a service of a chain
@@ -32,20 +33,7 @@ below_cut v s (suc n) h =
     (λ later. below_cut v s n later)
     (or_cases (same_service v (take (suc n) s)) (list_any (λ u. same_service v u) (cuts n s)) h)
 
--- ---- filters
-
-filter-both : (p on : Mapping → Bool) (ms : List Mapping) → filter on (filter p ms) ≡ filter (λ m. p m && on m) ms
-filter-both p on [] = refl
-filter-both p on (m ∷ ms) =
-    let later = filter-both p on ms in
-    elim (p m) as (λ b. filter on (cond b (m ∷ filter p ms) (filter p ms)) ≡ cond (b && on m) (m ∷ filter (λ x. p x && on x) ms) (filter (λ x. p x && on x) ms)) [
-      | true ↦ ap (λ l. cond (on m) (m ∷ l) l) later
-      | false ↦ later
-    ]
-
-filter-alike : (p q : Mapping → Bool) → ((m : Mapping) → p m ≡ q m) → (ms : List Mapping) → filter p ms ≡ filter q ms
-filter-alike p q alike [] = refl
-filter-alike p q alike (m ∷ ms) = rw (alike m, filter-alike p q alike ms) refl
+-- ---- tests
 
 and_false : (a : Bool) → (a && false) ≡ false
 and_false true = refl
@@ -75,10 +63,10 @@ module _ (t : Instant) (l : Place) (s : Service) (ms : List Mapping) (found : Li
   pub chain_found : of_chain s (at_positions ms found) ≡ of_chain s (filter (is_holding t l) ms)
   chain_found =
       ap (of_chain s) (at_positions-positions (is_chain_holder t l s) ms found are)
-      ∙ filter-both (is_chain_holder t l s) on_chain ms
-      ∙ filter-alike (λ m. is_chain_holder t l s m && on_chain m) (λ m. is_holding t l m && on_chain m)
+      ∙ filter-filter (is_chain_holder t l s) on_chain ms
+      ∙ filter_alike (λ m. is_chain_holder t l s m && on_chain m) (λ m. is_holding t l m && on_chain m)
       (λ m. third_implied (is_live m t) (not m.is_default) (is_at_or_below s m.service) (holds m l) (on_chain m) (below_cut m.service s (length s))) ms
-      ∙ sym (filter-both (is_holding t l) on_chain ms)
+      ∙ sym (filter-filter (is_holding t l) on_chain ms)
 
 -- so too of a book, whose mappings these are
 module _ (b : Book) (ms : List Mapping) (t : Instant) (l : Place) (s : Service) (held : ms ≡ b.mappings)

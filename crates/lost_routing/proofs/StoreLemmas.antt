@@ -189,6 +189,10 @@ pub last_there : {X : Type 0} (xs : List X) (x d : X) → slice_index_or (xs ++ 
 last_there [] x d = refl
 last_there (y ∷ xs) x d = last_there xs x d
 
-pub last_gone : {X : Type 0} (xs : List X) (x : X) → remove (xs ++ x ∷ []) (length xs) ≡ xs
+last_gone : {X : Type 0} (xs : List X) (x : X) → remove (xs ++ x ∷ []) (length xs) ≡ xs
 last_gone [] x = refl
 last_gone (y ∷ xs) x = ap (λ l. y ∷ l) (last_gone xs x)
+
+-- what was put last is taken away again
+pub taken_back : {X : Type 0} (xs more rest : List X) (x : X) (i : ℕ) → more ≡ xs ++ x ∷ [] → rest ≡ remove more i → i ≡ length xs → rest ≡ xs
+taken_back xs more rest x i put gone at = gone ∙ ap (λ l. remove l i) put ∙ ap (remove (xs ++ x ∷ [])) at ∙ last_gone xs x

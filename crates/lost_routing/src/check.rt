@@ -25,11 +25,11 @@ impl Register for Routing {
     ghost book = { λ b. b };
 
     fn edits(&self) -> u64 {
-        Routing::edition(self)
+        self.edits
     }
 
     fn count(&self) -> usize {
-        Routing::len(self)
+        self.store.len()
     }
 
     fn limits(&self) -> Limits {

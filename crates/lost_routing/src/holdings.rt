@@ -4,10 +4,10 @@ ghost use Rattle.std.specs.Option.{option_copied};
 ghost use Rattle.lost_spec.specs.Services.{all_services};
 
 use crate::routing::Routing;
-use lost_civic::{CivicAddress, Element};
+use lost_civic::Element;
 use lost_location::Place;
 use lost_mapping::{Mapping, Moment};
-use lost_query::{Holdings, Positions};
+use lost_query::{Holdings, Picked, Reference};
 use lost_urn::ServiceUrn;
 use std::alloc::AllocError;
 
@@ -15,15 +15,15 @@ impl Holdings for Routing {
     ghost book = { λ b. b };
 
     fn edition(&self) -> u64 {
-        Routing::edition(self)
+        self.edits
     }
 
     fn len(&self) -> usize {
-        Routing::len(self)
+        self.store.len()
     }
 
     fn mapping(&self, position: usize) -> &Mapping {
-        Routing::mapping(self, position)
+        self.store.mapping(position)
     }
 
     fn by_key(&self, moment: &Moment, key: &str) -> Option<usize> {
@@ -35,56 +35,32 @@ impl Holdings for Routing {
         self.store.implemented(moment, service)
     }
 
-    fn holding(&self, moment: &Moment, place: &Place) -> Result<Positions, AllocError> {
+    fn holding(&self, moment: &Moment, place: &Place) -> Picked {
         self.store.holding(moment, place)
     }
 
-    fn of_chain(
-        &self,
-        moment: &Moment,
-        place: &Place,
-        service: &ServiceUrn,
-    ) -> Result<Positions, AllocError> {
+    fn of_chain(&self, moment: &Moment, place: &Place, service: &ServiceUrn) -> Picked {
         self.store.chain_at(moment, place, service)
     }
 
-    fn at(
-        &self,
-        moment: &Moment,
-        place: &Place,
-        service: &ServiceUrn,
-    ) -> Result<Positions, AllocError> {
+    fn at(&self, moment: &Moment, place: &Place, service: &ServiceUrn) -> Picked {
         self.store.at(moment, place, service)
     }
 
-    fn defaults(&self, moment: &Moment, service: &ServiceUrn) -> Result<Positions, AllocError> {
+    fn defaults(&self, moment: &Moment, service: &ServiceUrn) -> Picked {
         self.store.defaults(moment, service)
     }
 
-    fn of_service(&self, moment: &Moment, service: &ServiceUrn) -> Result<Positions, AllocError> {
+    fn of_service(&self, moment: &Moment, service: &ServiceUrn) -> Picked {
         self.store.of_service(moment, service)
     }
 
-    fn is_agreed(
-        &self,
-        moment: &Moment,
-        service: &ServiceUrn,
-        address: &CivicAddress,
-        elements: &[Element],
-    ) -> Result<bool, AllocError> {
-        self.store.is_agreed(moment, service, address, elements)
+    fn is_agreed(&self, reference: &Reference<'_>) -> Result<bool, AllocError> {
+        self.store.is_agreed(reference)
     }
 
-    fn is_named(
-        &self,
-        moment: &Moment,
-        service: &ServiceUrn,
-        address: &CivicAddress,
-        elements: &[Element],
-        named: Element,
-    ) -> Result<bool, AllocError> {
-        self.store
-            .is_named(moment, service, address, elements, named)
+    fn is_named(&self, reference: &Reference<'_>, named: Element) -> Result<bool, AllocError> {
+        self.store.is_named(reference, named)
     }
 
     #[tactic(auto, unfolding(lost_spec::specs::Services::all_services))]

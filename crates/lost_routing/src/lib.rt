@@ -8,6 +8,7 @@ mod classes;
 mod edits;
 mod entering;
 mod holdings;
+mod picking;
 mod placed;
 mod questions;
 mod routing;

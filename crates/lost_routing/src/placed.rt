@@ -15,18 +15,13 @@ use crate::store::Store;
 use lost_book::{holds, serves};
 use lost_location::Place;
 use lost_mapping::{Mapping, Moment};
-use lost_query::Positions;
-use lost_tables::picks;
+use lost_query::Picked;
 use lost_urn::ServiceUrn;
 use std::alloc::AllocError;
 
 impl Store {
     /// The mappings that pass a test. Only mappings that hold the place pass it.
-    fn selected<F: Fn(&Mapping) -> bool>(
-        &self,
-        place: &Place,
-        passes: F,
-    ) -> Result<Positions, AllocError>
+    fn selected<F: Fn(&Mapping) -> bool>(&self, place: &Place, passes: F) -> Picked
         requires callable { F.IsAlwaysCallable passes }
         ensures { (test : spec.Mapping → Bool) → ((m : spec.Mapping) (r : Bool) → FnReturnsAt F.Fn passes m r → r ≡ test m)
             → ((m : spec.Mapping) → test m ≡ true → holds m (place_of place.now) ≡ true)
@@ -36,17 +31,11 @@ impl Store {
             return scan(self.alloc, &self.mappings, passes);
         }
         let candidates = self.regions.near(place)?;
-        picks::select(
-            self.alloc,
-            &self.numbers,
-            &self.mappings,
-            candidates.as_slice(),
-            passes,
-        )
+        self.pick(candidates.as_slice(), passes)
     }
 
     /// The mappings that hold the place, live or not.
-    pub(crate) fn holders_of(&self, place: &Place) -> Result<Positions, AllocError>
+    pub(crate) fn holders_of(&self, place: &Place) -> Picked
         ensures { IfOk result (λ found.
             found.items ≡ positions (λ m. holds m (place_of place.now)) self.now.mappings) }
     {
@@ -54,7 +43,7 @@ impl Store {
     }
 
     /// The mappings that are live, are no defaults and hold the place.
-    pub(crate) fn holding(&self, moment: &Moment, place: &Place) -> Result<Positions, AllocError>
+    pub(crate) fn holding(&self, moment: &Moment, place: &Place) -> Picked
         ensures { IfOk result (λ found.
             found.items ≡ positions (is_holding moment.now (place_of place.now)) self.now.mappings) }
     {
@@ -64,12 +53,7 @@ impl Store {
     }
 
     /// The mappings that are live, are no defaults, have this service and hold the place.
-    pub(crate) fn at(
-        &self,
-        moment: &Moment,
-        place: &Place,
-        service: &ServiceUrn,
-    ) -> Result<Positions, AllocError>
+    pub(crate) fn at(&self, moment: &Moment, place: &Place, service: &ServiceUrn) -> Picked
         ensures { IfOk result (λ found.
             found.items ≡ positions (is_holder moment.now (place_of place.now) service.now) self.now.mappings) }
     {
@@ -79,12 +63,7 @@ impl Store {
     }
 
     /// The mappings that are live, are no defaults, have this service or one above it and hold the place.
-    pub(crate) fn chain_at(
-        &self,
-        moment: &Moment,
-        place: &Place,
-        service: &ServiceUrn,
-    ) -> Result<Positions, AllocError>
+    pub(crate) fn chain_at(&self, moment: &Moment, place: &Place, service: &ServiceUrn) -> Picked
         ensures { IfOk result (λ found.
             found.items ≡ positions (is_chain_holder moment.now (place_of place.now) service.now) self.now.mappings) }
     {
@@ -99,7 +78,7 @@ impl Store {
         place: &Place,
         service: &ServiceUrn,
         passes: F,
-    ) -> Result<Positions, AllocError>
+    ) -> Picked
         requires callable { F.IsAlwaysCallable passes }
         ensures { (test : spec.Mapping → Bool) → ((m : spec.Mapping) (r : Bool) → FnReturnsAt F.Fn passes m r → r ≡ test m)
             → ((m : spec.Mapping) → test m ≡ true → IsHolderBelow service.now (place_of place.now) m)
@@ -109,13 +88,7 @@ impl Store {
             return scan(self.alloc, &self.mappings, passes);
         }
         let candidates = self.near_below(place, service)?;
-        picks::select(
-            self.alloc,
-            &self.numbers,
-            &self.mappings,
-            candidates.as_slice(),
-            passes,
-        )
+        self.pick(candidates.as_slice(), passes)
     }
 
     /// The numbers of the mappings that may hold the place and have the service or one above it; mostly those alone.

@@ -10,10 +10,9 @@ ghost use Rattle.lost_spec.specs.Services.{has_live_key};
 use crate::store::Store;
 use lost_book::{has_identity, has_key, serves};
 use lost_mapping::{Identity, Mapping, Moment};
-use lost_query::Positions;
+use lost_query::Picked;
 use lost_tables::picks;
 use lost_urn::ServiceUrn;
-use std::alloc::AllocError;
 
 impl Store {
     /// The position of the mapping with this identity.
@@ -72,19 +71,12 @@ impl Store {
 
     /// The defaults that are live and have this service.
     #[tactic(auto, using(crate::proofs::CoverLemmas::covers_default))]
-    pub(crate) fn defaults(
-        &self,
-        moment: &Moment,
-        service: &ServiceUrn,
-    ) -> Result<Positions, AllocError>
+    pub(crate) fn defaults(&self, moment: &Moment, service: &ServiceUrn) -> Picked
         ensures { IfOk result (λ found.
             found.items ≡ positions (is_standby moment.now service.now) self.now.mappings) }
     {
         let candidates = self.tables.of_default(service.text());
-        picks::select(
-            self.alloc,
-            &self.numbers,
-            &self.mappings,
+        self.pick(
             candidates,
             |mapping| serves(mapping, moment, service) && mapping.is_default(),
         )
@@ -92,21 +84,11 @@ impl Store {
 
     /// The mappings that are live and have this service.
     #[tactic(auto, using(crate::proofs::CoverLemmas::covers_service))]
-    pub(crate) fn of_service(
-        &self,
-        moment: &Moment,
-        service: &ServiceUrn,
-    ) -> Result<Positions, AllocError>
+    pub(crate) fn of_service(&self, moment: &Moment, service: &ServiceUrn) -> Picked
         ensures { IfOk result (λ found.
             found.items ≡ positions (λ m. serves m moment.now service.now) self.now.mappings) }
     {
         let candidates = self.tables.of_service(service.text());
-        picks::select(
-            self.alloc,
-            &self.numbers,
-            &self.mappings,
-            candidates,
-            |mapping| serves(mapping, moment, service),
-        )
+        self.pick(candidates, |mapping| serves(mapping, moment, service))
     }
 }

@@ -5,9 +5,9 @@ ghost use Rattle.lost_spec.specs.Mapping as spec;
 ghost use Rattle.lost_spec.specs.Positions.{positions};
 
 use lost_mapping::Mapping;
-use lost_query::Positions;
+use lost_query::{Picked, Positions};
 use lost_tables::TieredVec;
-use std::alloc::{AllocError, Global};
+use std::alloc::Global;
 
 /// The most mappings for a look at each: to ask the index about a place costs as much as some thirty looks.
 pub(crate) const FEW: usize = 16;
@@ -17,7 +17,7 @@ pub(crate) fn scan<F: Fn(&Mapping) -> bool>(
     alloc: Global,
     mappings: &TieredVec<Mapping>,
     passes: F,
-) -> Result<Positions, AllocError>
+) -> Picked
     requires { F.IsAlwaysCallable passes }
     ensures { (test : spec.Mapping → Bool) → ((m : spec.Mapping) (r : Bool) → FnReturnsAt F.Fn passes m r → r ≡ test m)
         → IfOk result (λ found. found.items ≡ positions test mappings.now) }

@@ -5,29 +5,33 @@ use lost_desk::Desk;
 use lost_json::{DeskReply, internal_error};
 use lost_mapping::{Moment, Source};
 use lost_status::{Status, WorkerCounts};
-use lost_worker::{CachedReader, DeskWitness, Replier};
-use std::alloc::{AllocError, Global};
+use lost_worker::{CachedReader, DeskWitness, Replied, Replier};
+use std::alloc::Global;
 use std::hash::BuildHasher;
 use std::time::Clock;
 
 /// A reader whose replies are counted by their kinds. It replies as the reader does.
 #[derive(Drop)]
 pub(crate) struct Counting<'r, 's, S: BuildHasher + Drop> {
-    pub(crate) reader: &'r mut CachedReader<S>,
-    pub(crate) counts: &'s WorkerCounts,
+    reader: &'r mut CachedReader<S>,
+    counts: &'s WorkerCounts,
+}
+
+impl<'r, 's, S: BuildHasher + Drop> Counting<'r, 's, S> {
+    /// This reader, counted here.
+    pub(crate) fn of(
+        reader: &'r mut CachedReader<S>,
+        counts: &'s WorkerCounts,
+    ) -> Counting<'r, 's, S> {
+        Counting { reader, counts }
+    }
 }
 
 impl<S: BuildHasher + Drop> Replier for Counting<'_, '_, S> {
     ghost reader = { λ c. c.reader.now };
 
-    fn reply_line(
-        &mut self,
-        alloc: Global,
-        name: &Source,
-        moment: &Moment,
-        line: &[u8],
-    ) -> Result<Vec<u8>, AllocError> {
-        match self.reader.reply_line(alloc, name, moment, line) {
+    fn reply_line(&mut self, alloc: Global, name: &Source, time: &Moment, line: &[u8]) -> Replied {
+        match self.reader.reply_line(alloc, name, time, line) {
             Ok(reply) => {
                 self.counts.count_reply(reply.as_slice());
                 self.counts.set_cache_hits(self.reader.hits());

@@ -1,4 +1,6 @@
 //! The thread of the desk.
+ghost use Rattle.lost_lines.specs.Calls.{AreFresh};
+
 use crate::counting::{DeskCounting, tell_book};
 use crate::shared::Shared;
 use lost_desk::Desk;
@@ -7,7 +9,7 @@ use lost_listening::{DeskDoor, DeskTurn, TurnInput, TurnOutput, is_of_waiting};
 use lost_sockets::{Listener, Peer, Stream, accept};
 use lost_worker::serve_desk_with;
 use std::io;
-use std::io::{Eprint, Read};
+use std::io::{Eprint, Read, Write};
 use std::sync::Wait;
 use std::sync::atomic::{AtomicBool, Ordering};
 use std::time::Clock;
@@ -69,20 +71,7 @@ fn serve_turn<R: Wait + Clock + Eprint + Drop, G>(
     }
     let mut input = Watched::new(TurnInput::new(shared.alloc, &turn));
     let mut output = Watched::new(TurnOutput::new(&turn));
-    let mut counting = DeskCounting {
-        rt: shared.rt,
-        status: shared.status,
-    };
-    let served = serve_desk_with(
-        shared.rt,
-        shared.alloc,
-        &mut input,
-        &mut output,
-        desk,
-        &mut counting,
-        Turns::USUAL,
-    );
-    let Err(fault) = served else {
+    let Err(fault) = answer_lines(shared, &mut input, &mut output, desk) else {
         return None;
     };
     let cause = input.inner().cause().or(output.inner().cause());
@@ -117,6 +106,18 @@ fn serve_desk_stream<R: Wait + Clock + Eprint + Drop, G>(
     }
     let mut input = Watched::new(DeskInput { stream, was_silent });
     let mut output = Watched::new(stream);
+    answer_lines(shared, &mut input, &mut output, desk)
+}
+
+/// Answers a desk's lines, and counts their outcomes.
+fn answer_lines<R: Wait + Clock + Eprint + Drop, G, I: Read, O: Write>(
+    shared: &Shared<'_, R, G>,
+    input: &mut Watched<I>,
+    output: &mut Watched<O>,
+    desk: &mut Desk,
+) -> Result<Counts, ServeError>
+    requires fresh { AreFresh input.old output.old }
+{
     let mut counting = DeskCounting {
         rt: shared.rt,
         status: shared.status,
@@ -124,8 +125,8 @@ fn serve_desk_stream<R: Wait + Clock + Eprint + Drop, G>(
     serve_desk_with(
         shared.rt,
         shared.alloc,
-        &mut input,
-        &mut output,
+        input,
+        output,
         desk,
         &mut counting,
         Turns::USUAL,

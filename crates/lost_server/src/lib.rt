@@ -16,6 +16,7 @@ mod serving;
 mod shared;
 mod standing;
 mod starting;
+mod system;
 mod watching;
 mod workers;
 
@@ -28,3 +29,4 @@ pub use run_fault::RunFault;
 pub use running::serve;
 pub use server_fault::{MapFault, ServerFault};
 pub use starting::run_server;
+pub use system::{Machine, System};

@@ -1,6 +1,7 @@
 //! A server's settings.
 use lost_listening::ClientLimits;
 use lost_mapping::Source;
+use lost_sockets::Addresses;
 use std::time::Duration;
 
 /// How a server treats its connections.
@@ -20,18 +21,14 @@ pub struct ConnectionSettings {
 pub struct ServerOrder<'a> {
     /// The server's name.
     pub name: &'a Source,
+    /// Where it listens.
+    pub addresses: Addresses<'a>,
     /// The file of desk lines that is read before the server listens; `-` for standard input.
     pub map: Option<&'a str>,
     /// Whether the server starts even if lines of its map were refused or are not committed.
     pub keeps_going: bool,
-    /// The address of queries.
-    pub queries: &'a str,
-    /// The address of the desk.
-    pub desk: Option<&'a str>,
-    /// The address of the status.
-    pub status: Option<&'a str>,
-    /// The mode of the files of Unix sockets.
-    pub socket_mode: u32,
+    /// Whether the progress through a long map is reported.
+    pub shows_progress: bool,
     /// How many threads answer requests: 1 to 64.
     pub workers: u32,
     /// How many query connections are served, beside one of a desk. Without it there is no end, and desks are served
@@ -41,6 +38,4 @@ pub struct ServerOrder<'a> {
     pub settings: ConnectionSettings,
     /// The limits on query connections if their number is not given.
     pub limits: ClientLimits,
-    /// Whether the progress through a long map is reported.
-    pub shows_progress: bool,
 }

@@ -49,18 +49,19 @@ pub fn serve<
 {
     match open_desk(rt, alloc, Limits::widest(), workers) {
         Ok((mut desk, readers)) => {
-            let result = serve_open(
+            let run = Run {
                 rt,
                 alloc,
                 name,
-                query_listener,
-                desk_listener,
+                gate,
+                settings,
+            };
+            let result = run.serve(
+                (query_listener, desk_listener),
                 workers,
                 connections,
                 &mut desk,
                 readers,
-                gate,
-                settings,
             );
             desk.close(rt);
             result
@@ -69,47 +70,62 @@ pub fn serve<
     }
 }
 
-/// Serves the connections of two listeners with an open desk and its readers.
-fn serve_open<
+/// What a run keeps to the end.
+#[derive(Drop)]
+struct Run<'r, R, G> {
+    rt: &'r R,
+    alloc: Global,
+    name: &'r Source,
+    gate: &'r G,
+    settings: ConnectionSettings,
+}
+
+impl<R, G> Run<'_, R, G>
+where
     R: Threads + Wait + Clock + Eprint + RandomSource + Clone + Send + Sync,
     G: Gate + Sync,
->(
-    rt: &R,
-    alloc: Global,
-    name: &Source,
-    query_listener: &TcpListener,
-    desk_listener: &TcpListener,
-    workers: u32,
-    connections: u32,
-    desk: &mut Desk,
-    readers: Readers,
-    gate: &G,
-    settings: ConnectionSettings,
-) -> Result<Counts, RunFault>
-    requires { readers.each.opening ≡ desk.old.opening }
+{
+    /// Serves the connections of two listeners, of queries and of the desk, with an open desk and its readers.
+    fn serve(
+        &self,
+        listeners: (&TcpListener, &TcpListener),
+        workers: u32,
+        connections: u32,
+        desk: &mut Desk,
+        readers: Readers,
+    ) -> Result<Counts, RunFault>
+        requires { readers.each.opening ≡ desk.old.opening }
+        ensures { result ≢ Err RunFault.Workers }
+    {
+        let (rt, alloc, settings) = (self.rt, self.alloc, self.settings);
+        let status = shared_status(alloc, workers, Duration::from_secs(0))?;
+        let notices = notices_of(rt, alloc, settings.is_quiet, &status, None)?;
+        let doors = doors_of(listeners)?;
+        let is_over = AtomicBool::new(false);
+        let shared = Shared {
+            rt,
+            alloc,
+            name: self.name,
+            gate: self.gate,
+            notices: &notices,
+            settings,
+            is_over: &is_over,
+            status: &status,
+            counts_replies: false,
+        };
+        serve_all(&shared, &doors, desk, readers, connections)
+    }
+}
+
+/// A server's own handles of the listeners of queries and of the desk.
+fn doors_of(listeners: (&TcpListener, &TcpListener)) -> Result<Doors, RunFault>
     ensures { result ≢ Err RunFault.Workers }
 {
-    let status = shared_status(alloc, workers, Duration::from_secs(0))?;
-    let notices = notices_of(rt, alloc, settings.is_quiet, &status, None)?;
-    let queries = listener_of(query_listener)?;
-    let desks = listener_of(desk_listener)?;
-    let is_over = AtomicBool::new(false);
-    let shared = Shared {
-        rt,
-        alloc,
-        name,
-        gate,
-        notices: &notices,
-        settings,
-        is_over: &is_over,
-        status: &status,
-        counts_replies: false,
-    };
-    let doors = Doors {
-        queries,
-        desk: Some(desks),
-    };
-    serve_all(&shared, &doors, desk, readers, connections)
+    let (queries, desks) = listeners;
+    Ok(Doors {
+        queries: listener_of(queries)?,
+        desk: Some(listener_of(desks)?),
+    })
 }
 
 /// A server's own handle of a listener, with the same address.

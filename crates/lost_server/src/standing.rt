@@ -8,7 +8,7 @@ use crate::run_fault::RunFault;
 use crate::serving::sum_of;
 use crate::shared::Shared;
 use crate::watching::Watcher;
-use crate::workers::{PLACES, told_reader};
+use crate::workers::cached_readers;
 use lost_desk::{Desk, Readers};
 use lost_lines::Counts;
 use lost_listening::{ClientLimits, Doors, Hall};
@@ -23,9 +23,6 @@ use std::sync::atomic::Ordering;
 use std::thread;
 use std::thread::Threads;
 use std::time::Clock;
-
-/// The most workers.
-const MAX_WORKERS: u32 = 64;
 
 /// One worker: its number, from 0, its reader, and the connections that it watches.
 #[derive(Drop)]
@@ -62,33 +59,23 @@ pub(crate) fn watch_all<
     in_threads(shared, &hall, workers, doors, desk, entrances)
 }
 
-/// A worker for each reader. It begins with what the desk has published, and keeps places by hashes with keys of its
-/// own, which no client knows. Adds the entrance of each.
+/// A worker for each reader. Adds the entrance of each.
 fn standing_workers<R: RandomSource + Net>(
     rt: &R,
     alloc: Global,
     desk: &mut Desk,
-    mut readers: Readers,
+    readers: Readers,
     entrances: &mut Vec<Entrance>,
 ) -> Result<Vec<StandingWorker>, AllocError>
     requires { readers.each.opening ≡ desk.old.opening }
     ensures { desk.new ≡ desk.old }
 {
     let mut workers = Vec::new(alloc);
-    for number in 0..MAX_WORKERS as usize {
-        let Some(reader) = told_reader(desk, &mut readers) else {
-            break;
-        };
-        let Ok(hasher) = RandomState::new(rt) else {
-            return Err(AllocError);
-        };
-        let Ok(reader) = CachedReader::with_hasher(alloc, reader, PLACES, hasher) else {
-            return Err(AllocError);
-        };
+    for reader in cached_readers(rt, alloc, desk, readers)? {
         let (entrance, arrivals, poll) = entrance_of(rt, alloc)?;
         entrances.push(entrance)?;
         workers.push(StandingWorker {
-            number,
+            number: workers.len(),
             reader,
             watcher: Watcher::new(alloc, arrivals, poll)?,
         })?;
@@ -108,9 +95,10 @@ fn in_threads<R: Threads + Wait + Clock + Eprint + Drop + Send + Sync, G: Sync>(
 ) -> Result<Counts, RunFault>
     ensures { result ≢ Err RunFault.Workers }
 {
+    let rt = shared.rt;
     thread::scope(
         thread::scope_env(),
-        shared.rt,
+        rt,
         |scope| -> Result<Counts, RunFault>
             ensures { result ≢ Err RunFault.Workers }
         {
@@ -131,9 +119,9 @@ fn in_threads<R: Threads + Wait + Clock + Eprint + Drop + Send + Sync, G: Sync>(
             };
             shared.is_over.store(true, Ordering::SeqCst);
             close_all(&mut entrances);
-            let counts = sum_of(shared.rt, threads);
+            let counts = sum_of(rt, threads);
             if let Ok(desks) = desks {
-                desks.join(shared.rt);
+                desks.join(rt);
             }
             Ok(counts.plus(handed?))
         },
@@ -160,10 +148,7 @@ fn watch<R: Wait + Clock + Eprint + Drop, G>(
     } = worker;
     match shared.status.worker(number) {
         Some(counts) if shared.counts_replies => {
-            let mut counting = Counting {
-                reader: &mut reader,
-                counts,
-            };
+            let mut counting = Counting::of(&mut reader, counts);
             watcher.watch(shared, hall, Some(counts), &mut counting)
         }
         _ => watcher.watch(shared, hall, None, &mut reader),

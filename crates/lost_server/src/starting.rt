@@ -10,11 +10,12 @@ use crate::server_fault::{MapFault, ServerFault};
 use crate::serving::serve_all;
 use crate::shared::Shared;
 use crate::standing::watch_all;
+use crate::system::System;
 use lost_book::Limits;
 use lost_desk::{Desk, Readers, open_desk};
 use lost_lines::{Counts, NoGate};
 use lost_listening::{Doors, Mouth, Ready, answer_status, notices_of, shared_status, start_voice};
-use lost_sockets::{Address, Listener, listen, remove_socket};
+use lost_sockets::{Address, Addresses, Listener, listen, remove_socket};
 use lost_status::Status;
 use std::alloc::{AllocError, Global};
 use std::fs::Files;
@@ -23,7 +24,6 @@ use std::net::{Net, TcpListener, TcpStream};
 use std::random::RandomSource;
 use std::sync::atomic::{AtomicBool, Ordering};
 use std::sync::{Arc, Wait};
-use std::thread::Threads;
 use std::time::{Clock, Duration};
 use std::{fs, thread};
 
@@ -40,24 +40,24 @@ const STANDARD_INPUT: &str = "-";
 /// [`ServerFault::Map`] if the map was not loaded, before it listens; [`ServerFault::Address`] if an address cannot be
 /// listened on; [`ServerFault::Ready`] if `ready` fails; [`ServerFault::Run`] as [`crate::serve`] says.
 pub fn run_server<
-    R: Threads
-        + Wait
-        + Clock
-        + Eprint
-        + Input
-        + Files
-        + AllocGlobal
-        + Net<Listener = TcpListener, Stream = TcpStream>
-        + RandomSource
-        + Clone
-        + Send
-        + Sync
-        + 'static,
+    R: System + Net<Listener = TcpListener, Stream = TcpStream> + Send + Sync,
     Y: Ready,
 >(rt: &R, order: &ServerOrder<'_>, ready: &Y, is_over: &AtomicBool) -> Result<Counts, ServerFault> {
     match open_desk(rt, rt.alloc(), Limits::widest(), order.workers) {
         Ok((mut desk, readers)) => {
-            let result = run_open(rt, order, ready, is_over, &mut desk, readers);
+            let result = match status_of(rt, order.workers) {
+                Ok(status) => {
+                    let start = Start {
+                        rt,
+                        order,
+                        ready,
+                        is_over,
+                        status: &status,
+                    };
+                    start.run(&mut desk, readers)
+                }
+                Err(fault) => Err(fault),
+            };
             desk.close(rt);
             result
         }
@@ -65,253 +65,169 @@ pub fn run_server<
     }
 }
 
-/// Runs a server over an open desk, and meanwhile answers for its status, if that is ordered.
-fn run_open<
-    R: Threads
-        + Wait
-        + Clock
-        + Eprint
-        + Input
-        + Files
-        + AllocGlobal
-        + Net<Listener = TcpListener, Stream = TcpStream>
-        + RandomSource
-        + Clone
-        + Send
-        + Sync
-        + 'static,
-    Y: Ready,
->(
-    rt: &R,
-    order: &ServerOrder<'_>,
-    ready: &Y,
-    is_over: &AtomicBool,
-    desk: &mut Desk,
-    readers: Readers,
-) -> Result<Counts, ServerFault>
-    requires { readers.each.opening ≡ desk.old.opening }
-{
-    let status = status_of(rt, order.workers)?;
-    let Some(address) = order.status else {
-        return start(rt, order, ready, is_over, desk, readers, &status);
-    };
-    let listener = listen_at(rt, "--status", address, order.socket_mode)?;
-    let result = beside_status(rt, order, ready, is_over, desk, readers, &status, &listener);
-    remove_socket(rt, Address::of(address));
-    result
+/// The counts of a server that ran, or why it did not start or stopped.
+type Ran = Result<Counts, ServerFault>;
+
+/// A server that starts: what it runs on, its order, whom it tells that it is ready, whether it is over, and its
+/// counters.
+#[derive(Drop)]
+struct Start<'s, 'o, R, Y> {
+    rt: &'s R,
+    order: &'s ServerOrder<'o>,
+    ready: &'s Y,
+    is_over: &'s AtomicBool,
+    status: &'s Arc<Status>,
 }
 
-/// Runs a server while a thread answers for its status.
-fn beside_status<
-    R: Threads
-        + Wait
-        + Clock
-        + Eprint
-        + Input
-        + Files
-        + AllocGlobal
-        + Net<Listener = TcpListener, Stream = TcpStream>
-        + RandomSource
-        + Clone
-        + Send
-        + Sync
-        + 'static,
+impl<R, Y> Start<'_, '_, R, Y>
+where
+    R: System + Net<Listener = TcpListener, Stream = TcpStream> + Send + Sync,
     Y: Ready,
->(
-    rt: &R,
-    order: &ServerOrder<'_>,
-    ready: &Y,
-    is_over: &AtomicBool,
-    desk: &mut Desk,
-    readers: Readers,
-    status: &Arc<Status>,
-    listener: &Listener,
-) -> Result<Counts, ServerFault>
-    requires { readers.each.opening ≡ desk.old.opening }
 {
-    if listener.set_nonblocking(true).is_err() {
-        return Err(ServerFault::Run(RunFault::Accept));
+    /// Runs the server over an open desk, and meanwhile answers for its status, if that is ordered.
+    fn run(&self, desk: &mut Desk, readers: Readers) -> Ran
+        requires { readers.each.opening ≡ desk.old.opening }
+    {
+        let addresses = self.order.addresses;
+        let Some(address) = addresses.status else {
+            return self.start(desk, readers);
+        };
+        let listener = listen_at(self.rt, "--status", address, addresses.socket_mode)?;
+        let result = self.start_beside(&listener, desk, readers);
+        remove_socket(self.rt, Address::of(address));
+        result
     }
-    let has_ended = AtomicBool::new(false);
-    let has_ended = &has_ended;
-    thread::scope(
-        thread::scope_env(),
-        rt,
-        |scope| -> Result<Counts, ServerFault>
-            requires { readers.each.opening ≡ desk.now.opening }
-        {
-            let Ok(answering) = scope.spawn(move || answer_status(
-                rt,
-                rt.alloc(),
-                listener,
-                status,
-                has_ended,
-            )) else {
-                return Err(ServerFault::Run(RunFault::Memory));
-            };
-            ready.begins(listener);
-            let result = start(rt, order, ready, is_over, desk, readers, status);
-            has_ended.store(true, Ordering::SeqCst);
-            answering.join(rt);
-            result
-        },
-    )
-}
 
-/// Reads the map, listens, and answers connections.
-fn start<
-    R: Threads
-        + Wait
-        + Clock
-        + Eprint
-        + Input
-        + Files
-        + AllocGlobal
-        + Net<Listener = TcpListener, Stream = TcpStream>
-        + RandomSource
-        + Clone
-        + Send
-        + Sync
-        + 'static,
-    Y: Ready,
->(
-    rt: &R,
-    order: &ServerOrder<'_>,
-    ready: &Y,
-    is_over: &AtomicBool,
-    desk: &mut Desk,
-    readers: Readers,
-    status: &Arc<Status>,
-) -> Result<Counts, ServerFault>
-    requires { readers.each.opening ≡ desk.old.opening }
-{
-    if let Some(path) = order.map {
-        load_from(rt, path, order, desk)?;
-        if let Ok(since) = rt.since_1970() {
-            status.set_commit(since);
+    /// Runs the server while a thread answers for its status at this listener.
+    fn start_beside(&self, listener: &Listener, desk: &mut Desk, readers: Readers) -> Ran
+        requires { readers.each.opening ≡ desk.old.opening }
+    {
+        if listener.set_nonblocking(true).is_err() {
+            return Err(ServerFault::Run(RunFault::Accept));
         }
+        let (rt, status) = (self.rt, self.status);
+        let has_ended = AtomicBool::new(false);
+        let has_ended = &has_ended;
+        thread::scope(
+            thread::scope_env(),
+            rt,
+            |scope| -> Ran
+                requires { readers.each.opening ≡ desk.now.opening }
+            {
+                let Ok(answering) = scope.spawn(move || answer_status(
+                    rt,
+                    rt.alloc(),
+                    listener,
+                    status,
+                    has_ended,
+                )) else {
+                    return Err(ServerFault::Run(RunFault::Memory));
+                };
+                self.ready.begins(listener);
+                let result = self.start(desk, readers);
+                has_ended.store(true, Ordering::SeqCst);
+                answering.join(rt);
+                result
+            },
+        )
     }
-    tell_book(status, desk);
-    let doors = open_doors(rt, order)?;
-    let result = answer(rt, order, ready, is_over, &doors, desk, readers, status);
-    remove_sockets(rt, order);
-    result
+
+    /// Reads the map, listens, and answers connections.
+    fn start(&self, desk: &mut Desk, readers: Readers) -> Ran
+        requires { readers.each.opening ≡ desk.old.opening }
+    {
+        if let Some(path) = self.order.map {
+            load_from(self.rt, path, self.order, desk)?;
+            if let Ok(since) = self.rt.since_1970() {
+                self.status.set_commit(since);
+            }
+        }
+        tell_book(self.status, desk);
+        let doors = open_doors(self.rt, &self.order.addresses)?;
+        let result = self.answer(&doors, desk, readers);
+        remove_sockets(self.rt, &self.order.addresses);
+        result
+    }
+
+    /// Tells that it is ready, and answers connections.
+    fn answer(&self, doors: &Doors, desk: &mut Desk, readers: Readers) -> Ran
+        requires { readers.each.opening ≡ desk.old.opening }
+    {
+        if self.order.connections.is_none()
+            && let Some(desks) = &doors.desk
+            && desks.set_nonblocking(true).is_err()
+        {
+            return Err(ServerFault::Run(RunFault::Accept));
+        }
+        let Ok((mouth, voice)) = start_voice(self.rt, self.rt.alloc()) else {
+            return Err(ServerFault::Run(RunFault::Memory));
+        };
+        let result = self.answer_aloud(mouth, doors, desk, readers);
+        voice.finish(self.rt);
+        result
+    }
+
+    /// Tells that it is ready, and answers connections. Lines about them go to `mouth`.
+    fn answer_aloud(&self, mouth: Mouth, doors: &Doors, desk: &mut Desk, readers: Readers) -> Ran
+        requires { readers.each.opening ≡ desk.old.opening }
+    {
+        let (rt, order, status) = (self.rt, self.order, self.status);
+        let Ok(notices) = notices_of(rt, rt.alloc(), order.settings.is_quiet, status, Some(mouth))
+        else {
+            return Err(ServerFault::Run(RunFault::Memory));
+        };
+        let shared = Shared {
+            rt,
+            alloc: rt.alloc(),
+            name: order.name,
+            gate: &NoGate,
+            notices: &notices,
+            settings: order.settings,
+            is_over: self.is_over,
+            status,
+            counts_replies: order.addresses.status.is_some(),
+        };
+        status.set_ready();
+        if self.ready.ready(doors).is_err() {
+            return Err(ServerFault::Ready);
+        }
+        let served = match order.connections {
+            Some(connections) => serve_all(&shared, doors, desk, readers, connections),
+            None => watch_all(&shared, &order.limits, doors, desk, readers),
+        };
+        served.map_err(ServerFault::Run)
+    }
 }
 
 /// Listens on the addresses of queries and of the desk.
 fn open_doors<
     R: Files + Net<Listener = TcpListener, Stream = TcpStream> + RandomSource + AllocGlobal,
->(rt: &R, order: &ServerOrder<'_>) -> Result<Doors, ServerFault> {
-    let queries = listen_at(rt, "--queries", order.queries, order.socket_mode)?;
-    let Some(address) = order.desk else {
+>(rt: &R, addresses: &Addresses<'_>) -> Result<Doors, ServerFault> {
+    let queries = listen_at(rt, "--queries", addresses.queries, addresses.socket_mode)?;
+    let Some(address) = addresses.desk else {
         return Ok(Doors {
             queries,
             desk: None,
         });
     };
-    match listen_at(rt, "--desk", address, order.socket_mode) {
+    match listen_at(rt, "--desk", address, addresses.socket_mode) {
         Ok(desk) => Ok(Doors {
             queries,
             desk: Some(desk),
         }),
         Err(fault) => {
-            remove_socket(rt, Address::of(order.queries));
+            remove_socket(rt, Address::of(addresses.queries));
             Err(fault)
         }
     }
 }
 
 /// Removes the files of Unix sockets.
-fn remove_sockets<R: Files>(rt: &R, order: &ServerOrder<'_>) {
-    remove_socket(rt, Address::of(order.queries));
-    if let Some(address) = order.desk {
+fn remove_sockets<R: Files>(rt: &R, addresses: &Addresses<'_>) {
+    remove_socket(rt, Address::of(addresses.queries));
+    if let Some(address) = addresses.desk {
         remove_socket(rt, Address::of(address));
     }
-}
-
-/// Tells `ready`, and answers connections.
-fn answer<
-    R: Threads
-        + Wait
-        + Clock
-        + Eprint
-        + AllocGlobal
-        + Net
-        + RandomSource
-        + Clone
-        + Send
-        + Sync
-        + 'static,
-    Y: Ready,
->(
-    rt: &R,
-    order: &ServerOrder<'_>,
-    ready: &Y,
-    is_over: &AtomicBool,
-    doors: &Doors,
-    desk: &mut Desk,
-    readers: Readers,
-    status: &Arc<Status>,
-) -> Result<Counts, ServerFault>
-    requires { readers.each.opening ≡ desk.old.opening }
-{
-    if order.connections.is_none()
-        && let Some(desks) = &doors.desk
-        && desks.set_nonblocking(true).is_err()
-    {
-        return Err(ServerFault::Run(RunFault::Accept));
-    }
-    let Ok((mouth, voice)) = start_voice(rt, rt.alloc()) else {
-        return Err(ServerFault::Run(RunFault::Memory));
-    };
-    let result = answer_aloud(
-        rt, order, ready, is_over, doors, desk, readers, status, mouth,
-    );
-    voice.finish(rt);
-    result
-}
-
-/// Tells `ready`, and answers connections. Lines about them go to `mouth`.
-fn answer_aloud<
-    R: Threads + Wait + Clock + Eprint + AllocGlobal + Net + RandomSource + Clone + Send + Sync,
-    Y: Ready,
->(
-    rt: &R,
-    order: &ServerOrder<'_>,
-    ready: &Y,
-    is_over: &AtomicBool,
-    doors: &Doors,
-    desk: &mut Desk,
-    readers: Readers,
-    status: &Arc<Status>,
-    mouth: Mouth,
-) -> Result<Counts, ServerFault>
-    requires { readers.each.opening ≡ desk.old.opening }
-{
-    let Ok(notices) = notices_of(rt, rt.alloc(), order.settings.is_quiet, status, Some(mouth))
-    else {
-        return Err(ServerFault::Run(RunFault::Memory));
-    };
-    let shared = Shared {
-        rt,
-        alloc: rt.alloc(),
-        name: order.name,
-        gate: &NoGate,
-        notices: &notices,
-        settings: order.settings,
-        is_over,
-        status,
-        counts_replies: order.status.is_some(),
-    };
-    status.set_ready();
-    if ready.ready(doors).is_err() {
-        return Err(ServerFault::Ready);
-    }
-    let served = match order.connections {
-        Some(connections) => serve_all(&shared, doors, desk, readers, connections),
-        None => watch_all(&shared, &order.limits, doors, desk, readers),
-    };
-    served.map_err(ServerFault::Run)
 }
 
 /// Reads the map from a file, or from standard input.

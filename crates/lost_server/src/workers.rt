@@ -19,7 +19,7 @@ use std::time::Clock;
 const MAX_WORKERS: u32 = 64;
 
 /// How many places each worker's cache has room for.
-pub(crate) const PLACES: u32 = 1_024;
+const PLACES: u32 = 1_024;
 
 /// One worker: its number, from 0, its reader, and where it takes connections from.
 #[derive(Drop)]
@@ -29,20 +29,41 @@ pub(crate) struct WorkerParts<R: Wait + Clock + Eprint + Drop> {
     queries: Queries<R>,
 }
 
-/// A worker for each reader. All take query connections from one channel. Each begins with what the desk has published,
-/// and keeps places by hashes with keys of its own, which no client knows.
+/// A worker for each reader. All take query connections from one channel.
 pub(crate) fn workers_of<R: Wait + Clock + Eprint + RandomSource + Drop>(
     rt: &R,
     alloc: Global,
     desk: &mut Desk,
-    mut readers: Readers,
+    readers: Readers,
     queries: Queries<R>,
 ) -> Result<Vec<WorkerParts<R>>, AllocError>
     requires { readers.each.opening ≡ desk.old.opening }
     ensures { desk.new ≡ desk.old }
 {
     let mut workers = Vec::new(alloc);
-    for number in 0..MAX_WORKERS as usize {
+    for reader in cached_readers(rt, alloc, desk, readers)? {
+        workers.push(WorkerParts {
+            number: workers.len(),
+            reader,
+            queries: queries.clone()?,
+        })?;
+    }
+    Ok(workers)
+}
+
+/// All readers, each with a cache. Each begins with what the desk has published, and keeps places by hashes with keys of
+/// its own, which no client knows.
+pub(crate) fn cached_readers<R: RandomSource>(
+    rt: &R,
+    alloc: Global,
+    desk: &mut Desk,
+    mut readers: Readers,
+) -> Result<Vec<CachedReader<RandomState>>, AllocError>
+    requires { readers.each.opening ≡ desk.old.opening }
+    ensures { desk.new ≡ desk.old }
+{
+    let mut cached = Vec::new(alloc);
+    for _number in 0..MAX_WORKERS {
         let Some(reader) = told_reader(desk, &mut readers) else {
             break;
         };
@@ -52,17 +73,13 @@ pub(crate) fn workers_of<R: Wait + Clock + Eprint + RandomSource + Drop>(
         let Ok(reader) = CachedReader::with_hasher(alloc, reader, PLACES, hasher) else {
             return Err(AllocError);
         };
-        workers.push(WorkerParts {
-            number,
-            reader,
-            queries: queries.clone()?,
-        })?;
+        cached.push(reader)?;
     }
-    Ok(workers)
+    Ok(cached)
 }
 
 /// A reader that nobody has taken. Each of its replies is from a list that begins with what the desk has published.
-pub(crate) fn told_reader(desk: &mut Desk, readers: &mut Readers) -> Option<Reader>
+fn told_reader(desk: &mut Desk, readers: &mut Readers) -> Option<Reader>
     requires { readers.old.each.opening ≡ desk.old.opening }
     ensures told { IfSome result (λ reader. BeginsWith reader.seen desk.old.published) }
     ensures desk { desk.new ≡ desk.old }
@@ -85,10 +102,7 @@ pub(crate) fn work<R: Wait + Clock + Eprint + Drop, G: Gate>(
     } = worker;
     match shared.status.worker(number) {
         Some(counts) if shared.counts_replies => {
-            let mut counting = Counting {
-                reader: &mut reader,
-                counts,
-            };
+            let mut counting = Counting::of(&mut reader, counts);
             answer_queries(shared, &queries, &mut counting)
         }
         _ => answer_queries(shared, &queries, &mut reader),

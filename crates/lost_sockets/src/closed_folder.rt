@@ -30,7 +30,10 @@ impl ClosedFolder {
         rt: &R,
         path: &str,
     ) -> Result<ClosedFolder, ListenError> {
-        let folder = ClosedFolder::named(rt.alloc(), path, random_number(rt)?)?;
+        let number = random_number(rt)?;
+        let Ok(folder) = ClosedFolder::named(rt.alloc(), path, number) else {
+            return Err(ListenError::Memory);
+        };
         let mut builder = DirBuilder::new();
         builder.mode(FOLDER_MODE);
         match builder.create(rt, folder.path.as_str()) {

@@ -3,6 +3,7 @@
 
 mod accepting;
 mod address;
+mod addresses;
 mod closed_folder;
 mod files;
 mod listen_error;
@@ -15,6 +16,7 @@ mod unix;
 
 pub use accepting::accept;
 pub use address::Address;
+pub use addresses::Addresses;
 pub use files::most_files;
 pub use listen_error::ListenError;
 pub use listener::{Listener, listen};

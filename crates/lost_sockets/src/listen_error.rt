@@ -2,7 +2,6 @@
 ghost use Rattle.std.specs.Prelude.{◌≡◌, Some};
 ghost use Rattle.lost_sockets.specs.ListenError.{tcp_error_of, unix_error_of, listen_error_text};
 
-use std::alloc::AllocError;
 use std::error::Error;
 use std::fmt;
 use std::fmt::{Display, Formatter};
@@ -69,17 +68,6 @@ impl Display for ListenError {
 }
 
 impl Error for ListenError {}
-
-impl From<AllocError> for ListenError {
-    ghost use Rattle.std.specs.Prelude.{◌≡◌};
-    ghost use Rattle.lost_sockets.specs.declared.listen_error.ListenError.TheVariants.{Memory};
-
-    ghost from_gives = { λ _ error. error ≡ Memory };
-
-    fn from(_: AllocError) -> ListenError {
-        ListenError::Memory
-    }
-}
 
 /// Why a host and a port cannot be listened on, by the system's error.
 pub(crate) fn tcp_error_of(kind: ErrorKind) -> ListenError

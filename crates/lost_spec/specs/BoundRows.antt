@@ -1,5 +1,6 @@
 -- Rows of our own at the bounds: what lies just within each of them, and what lies just past it.
 use Rattle.std.specs.Prelude.{◌≡◌, ℕ, true, false, List, [], ◌∷◌, ◌++◌, map, Some, None, Ok, Err, pos, negsuc, replicate, codes}
+use Rattle.std.specs.List.{list_all, list_any}
 use Rattle.lost_spec.specs.declared.faults.UrnError.TheVariants.{BadCharacter, TooManyLabels}
 use Rattle.lost_spec.specs.declared.faults.GeoError.TheVariants.{Latitude, Longitude}
 use Rattle.lost_spec.specs.declared.faults.CivicError.TheVariants.{Repeated, TooLong as CivicTooLong}
@@ -35,20 +36,13 @@ StampFractions =
 -- the last hour, minute and second, month, day and year, and those past them; which years are leap years
 abbrev pub StampBounds : Type 0
 StampBounds =
-    (is_stamp (codes "9999-12-31T23:59:59Z") ≡ true)
-    × (is_stamp (codes "0001-01-01T00:00:00Z") ≡ true)
-    × (is_stamp (codes "2026-01-01T24:00:00Z") ≡ false)
-    × (is_stamp (codes "2026-01-01T00:60:00Z") ≡ false)
-    × (is_stamp (codes "2026-13-01T00:00:00Z") ≡ false)
-    × (is_stamp (codes "2026-00-01T00:00:00Z") ≡ false)
-    × (is_stamp (codes "2026-01-00T00:00:00Z") ≡ false)
-    × (is_stamp (codes "2026-01-32T00:00:00Z") ≡ false)
-    × (is_stamp (codes "2026-10-31T00:00:00Z") ≡ true)
-    × (is_stamp (codes "2026-11-30T00:00:00Z") ≡ true)
-    × (is_stamp (codes "2026-11-31T00:00:00Z") ≡ false)
-    × (is_stamp (codes "2000-02-29T00:00:00Z") ≡ true)
-    × (is_stamp (codes "2100-02-29T00:00:00Z") ≡ false)
-    × (is_stamp (codes "2026-01-01t00:00:00Z") ≡ false)
+    (list_all is_stamp (
+    codes "9999-12-31T23:59:59Z" ∷ codes "0001-01-01T00:00:00Z" ∷ codes "2026-10-31T00:00:00Z"
+    ∷ codes "2026-11-30T00:00:00Z" ∷ codes "2000-02-29T00:00:00Z" ∷ []) ≡ true)
+    × (list_any is_stamp (
+    codes "2026-01-01T24:00:00Z" ∷ codes "2026-01-01T00:60:00Z" ∷ codes "2026-13-01T00:00:00Z"
+    ∷ codes "2026-00-01T00:00:00Z" ∷ codes "2026-01-00T00:00:00Z" ∷ codes "2026-01-32T00:00:00Z"
+    ∷ codes "2026-11-31T00:00:00Z" ∷ codes "2100-02-29T00:00:00Z" ∷ codes "2026-01-01t00:00:00Z" ∷ []) ≡ false)
 
 abbrev pub on_day : ℕ → ℕ → Instant
 on_day day nanosecond = record { day = pos day; nanosecond = nanosecond }
@@ -111,17 +105,10 @@ sixteen =
 -- which texts are URIs, the longest, and how many there are
 abbrev pub UriBounds : Type 0
 UriBounds =
-    (is_uri (codes "Z:a") ≡ true)
-    × (is_uri (codes "z+9-A.:!~") ≡ true)
-    × (is_uri (codes "9z:a") ≡ false)
-    × (is_uri (codes "a_b:c") ≡ false)
-    × (is_uri (codes ":a") ≡ false)
-    × (is_uri (codes "sip") ≡ false)
-    × (is_uri (codes "sip:") ≡ false)
-    × (is_uri (codes "sip:a b") ≡ false)
-    × (is_uri (codes "sip:" ++ 127 ∷ []) ≡ false)
-    × (is_uri (codes "sip:" ++ letters 2044) ≡ true)
-    × (is_uri (codes "sip:" ++ letters 2045) ≡ false)
+    (list_all is_uri (codes "Z:a" ∷ codes "z+9-A.:!~" ∷ (codes "sip:" ++ letters 2044) ∷ []) ≡ true)
+    × (list_any is_uri (
+    codes "9z:a" ∷ codes "a_b:c" ∷ codes ":a" ∷ codes "sip" ∷ codes "sip:" ∷ codes "sip:a b"
+    ∷ (codes "sip:" ++ 127 ∷ []) ∷ (codes "sip:" ++ letters 2045) ∷ []) ≡ false)
     × (are_uris sixteen ≡ true)
     × (are_uris (codes "q:1" ∷ sixteen) ≡ false)
 

@@ -121,16 +121,29 @@ mapping_on x service ring = mapping_with x service (points ring ∷ []) []
 abbrev pub renewed : Mapping → Stamp → Text → List (ℤ × ℤ) → Mapping
 renewed m stamp key ring = record m { stamp = stamp; regions = regions_with (points ring ∷ []) []; key = Some key }
 
--- the ring of A, and those of B, C and the world
+-- the mappings A, B and C, each with its ring, and D with that of A
 abbrev pub ring_a : List (ℤ × ℤ)
 ring_a = square (pos 0) (pos 0) (pos 10_000_000) (pos 10_000_000)
+
+abbrev pub mapping_a : Mapping
+mapping_a = mapping_on (codes "A") police ring_a
 
 abbrev pub ring_b : List (ℤ × ℤ)
 ring_b = square (pos 0) (pos 10_000_000) (pos 10_000_000) (pos 20_000_000)
 
+abbrev pub mapping_b : Mapping
+mapping_b = mapping_on (codes "B") police ring_b
+
 abbrev pub ring_c : List (ℤ × ℤ)
 ring_c = square (negsuc 4_999_999) (negsuc 4_999_999) (pos 15_000_000) (pos 25_000_000)
 
+abbrev pub mapping_c : Mapping
+mapping_c = mapping_on (codes "C") sos ring_c
+
+abbrev pub mapping_d : Mapping
+mapping_d = mapping_on (codes "D") police ring_a
+
+-- rings of the world, of a far square, and of a wide one
 abbrev pub world_ring : List (ℤ × ℤ)
 world_ring = square (negsuc 899_999_999) (negsuc 1_799_999_999) (pos 900_000_000) (pos 1_800_000_000)
 
@@ -139,18 +152,6 @@ far_ring = square (pos 50_000_000) (pos 50_000_000) (pos 60_000_000) (pos 60_000
 
 abbrev pub wide_ring : List (ℤ × ℤ)
 wide_ring = square (pos 0) (pos 0) (pos 60_000_000) (pos 60_000_000)
-
-abbrev pub mapping_a : Mapping
-mapping_a = mapping_on (codes "A") police ring_a
-
-abbrev pub mapping_b : Mapping
-mapping_b = mapping_on (codes "B") police ring_b
-
-abbrev pub mapping_c : Mapping
-mapping_c = mapping_on (codes "C") sos ring_c
-
-abbrev pub mapping_d : Mapping
-mapping_d = mapping_on (codes "D") police ring_a
 
 -- the default T of service sos
 abbrev pub mapping_t : Mapping

@@ -1,6 +1,6 @@
 -- Where mappings hold, and where requests ask: the kinds of places, each with its profile, what a location of it has, and its regions.
-use Rattle.std.specs.Prelude.{Bool, true, false, not, ◌&&◌, ◌||◌, if◌then◌else◌, List, [], map, length, Option, Some, None, is_none, ℤ, nat_lt, filter_map, codes}
-use Rattle.std.specs.List.{list_all, list_any}
+use Rattle.std.specs.Prelude.{Bool, true, false, ◌&&◌, ◌||◌, if◌then◌else◌, List, [], ◌∷◌, map, length, Option, Some, None, is_none, ℤ, nat_lt, filter_map, codes}
+use Rattle.std.specs.List.{list_all, list_any, find}
 use lib.Pointwise.{pointwise}
 use Rattle.lost_spec.specs.declared.places.PlaceKind.{PlaceKind}
 use Rattle.lost_spec.specs.declared.places.PlaceKind.TheVariants.{Geodetic2d, Civic, XToken}
@@ -11,18 +11,15 @@ use Rattle.lost_spec.specs.Token.{is_token, is_token_set, contains_token}
 
 -- ---- kinds
 
--- the kind of place that a profile names (RFC 5222, section 12.1; tokens own)
-abbrev pub kind_of : Text → Option PlaceKind
-kind_of profile =
-    if same_text profile (codes "geodetic-2d") then Some Geodetic2d
-    else (if same_text profile (codes "civic") then Some Civic
-    else (if same_text profile (codes "x-token") then Some XToken else None))
-
--- the name of a kind's profile
+-- the name of a kind's profile (RFC 5222, section 12.1; tokens own)
 abbrev pub profile_of : PlaceKind → Text
 profile_of Geodetic2d = codes "geodetic-2d"
 profile_of Civic = codes "civic"
 profile_of XToken = codes "x-token"
+
+-- the kind of place that a profile names
+abbrev pub kind_of : Text → Option PlaceKind
+kind_of profile = find (λ kind. same_text profile (profile_of kind)) (Geodetic2d ∷ Civic ∷ XToken ∷ [])
 
 -- a location of this kind has a reference system (RFC 5222, section 12.2)
 abbrev pub has_system : Option PlaceKind → Bool

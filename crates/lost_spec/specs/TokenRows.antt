@@ -9,7 +9,7 @@ use Rattle.lost_spec.specs.Token.{is_token, is_token_set, contains_token}
 use Rattle.lost_spec.specs.Place.{Regions, PointBody, AddressBody, TokenBody, Region, RingRegion, PatternRegion, TokenRegion}
 use Rattle.lost_spec.specs.Mapping.{Mapping, build, parts_fault}
 use Rattle.lost_spec.specs.Book.{Book, Publish, Replace, refusal, book_of}
-use Rattle.lost_spec.specs.Request.{Location, FindService, GetServiceBoundary, ByValue, GetServiceBoundaryResponse, Reply, Errors}
+use Rattle.lost_spec.specs.Request.{FindService, GetServiceBoundary, ByValue, GetServiceBoundaryResponse, Reply, Errors}
 use Rattle.lost_spec.specs.Examples.{points, second_day, police, parts_of, regions_with, mapping_with, ring_a, wide_pattern, address_with, usual_limits, ask, geodetic, civic, x_token, location_at, at_point, at_address, at_token, find_at, own_path, by_reference, found_reply}
 use Rattle.lost_spec.specs.Rows.{published, parts_a}
 use Rattle.lost_spec.specs.BoundRows.{letters}

@@ -17,4 +17,4 @@ pub mod rows;
 
 pub use code::Coded;
 pub use desk_text::DeskText;
-pub use digits::digits_value;
+pub use digits::{are_digits, digits_value};

@@ -1,5 +1,5 @@
 -- The compact line of a findService at one point or token is read as that request.
-use Rattle.std.proofs.Common.{◌≡◌, ℤ, [], ◌∷◌, ◌++◌, Option, Some, None, Ok, option_map, option_and_then, refl, sym, ap, ◌∙◌, subst, arith, append_assoc, append-nil}
+use Rattle.std.proofs.Common.{◌≡◌, ℤ, [], ◌∷◌, ◌++◌, Option, Some, None, Ok, option_map, option_and_then, refl, sym, ap, ◌∙◌, subst, arith, append_assoc}
 use Rattle.std.specs.Borrow.{Bor}
 use Rattle.std.specs.Str.{IsUtf8, IsAscii}
 use Rattle.std.proofs.lemmas.Str.{IsUtf8-append, IsUtf8-from_ascii}
@@ -10,11 +10,8 @@ use Rattle.lost_tape.proofs.ServiceBytes.{service_plain}
 use Rattle.std.specs.Fmt.{signed_decimal}
 use Rattle.json.specs.Json as json
 use Rattle.json.specs.Json.{Json}
-use Rattle.json.specs.Lex.{tokens}
 use Rattle.json.specs.Print.{escape_byte, escape, print_from, print}
 use Rattle.json.specs.Tree.{json_tokens}
-use Rattle.json.proofs.Printed.Tokens.{tokens-print}
-use Rattle.json.proofs.Printed.Trees.{value-json_tokens, ArePrintable-json_tokens}
 use Rattle.serde_json.specs.Data.{Num, Data, number, string, array, object, no_items, item, Members, no_members, member}
 use Rattle.serde_json.specs.Find.{as_i64}
 use Rattle.serde_json.specs.Read.{number_of, of_json, read}
@@ -33,7 +30,8 @@ use Rattle.lost_tape.specs.declared.locations.Content.TheVariants.{Pair, Decimal
 use Rattle.lost_tape.specs.declared.compact.PlaceLine.{PlaceLine}
 use Rattle.lost_tape.proofs.CompactParts.{content_then}
 use Rattle.lost_tape.proofs.NumberLemmas.{Spells, spells}
-use Rattle.lost_tape.proofs.TreeLemmas.{line_request-read, desk_line-read}
+use Rattle.lost_reading.proofs.KeptLemmas.{line_request-read, desk_line-read}
+use Rattle.lost_tape.proofs.TreeLemmas.{read_printed}
 
 -- ---- the value of such a line, as JSON and as a tree
 
@@ -123,22 +121,26 @@ module _ (id service : Text) (plain_id : IsPlain id) (plain_service : IsPlain se
       ∙ ap (λ t. before_id ++ t) (quote_then id _ plain_id)
       ∙ ap (λ t. before_id ++ (id ++ t)) (sym (content_then (Pair lat lon) (service ++ after_service))))
 
+  -- a printed line that holds a text between quotes, where that needs no escape
+  quoted_is : (to text behind printed : Text) → IsPlain text
+      → printed ≡ before_id ++ ((escape id ++ 34 ∷ []) ++ (to ++ ((escape text ++ 34 ∷ []) ++ (behind ++ ((escape service ++ 34 ∷ []) ++ (125 ∷ 125 ∷ []))))))
+      → printed ≡ before_id ++ (id ++ (34 ∷ (to ++ (text ++ (34 ∷ (behind ++ (service ++ after_service)))))))
+  quoted_is to text behind printed plain is =
+      is
+      ∙ ap (λ t. before_id ++ ((escape id ++ 34 ∷ []) ++ (to ++ ((escape text ++ 34 ∷ []) ++ (behind ++ t))))) end
+      ∙ ap (λ t. before_id ++ ((escape id ++ 34 ∷ []) ++ (to ++ t))) (quote_then text (behind ++ (service ++ after_service)) plain)
+      ∙ ap (λ t. before_id ++ t) (quote_then id (to ++ (text ++ (34 ∷ (behind ++ (service ++ after_service))))) plain_id)
+
   decimal_is : (text : Bor Text) → IsPlain text.now → place_line id (Decimal text) service ≡ print (json_tokens (place_json id (decimal_json text.now) service))
   unfolding place_line before_decimal after_decimal
   decimal_is text plain =
-      sym (printed_decimal id text.now service
-      ∙ ap (λ t. before_id ++ ((escape id ++ 34 ∷ []) ++ (to_decimal ++ ((escape text.now ++ 34 ∷ []) ++ (behind_decimal ++ t))))) end
-      ∙ ap (λ t. before_id ++ ((escape id ++ 34 ∷ []) ++ (to_decimal ++ t))) (quote_then text.now (behind_decimal ++ (service ++ after_service)) plain)
-      ∙ ap (λ t. before_id ++ t) (quote_then id _ plain_id)
+      sym (quoted_is to_decimal text.now behind_decimal (print (json_tokens (place_json id (decimal_json text.now) service))) plain (printed_decimal id text.now service)
       ∙ ap (λ t. before_id ++ (id ++ t)) (sym (content_then (Decimal text) (service ++ after_service))))
 
   token_is : (text : Bor Text) → IsPlain text.now → place_line id (Token text) service ≡ print (json_tokens (place_json id (token_json text.now) service))
   unfolding place_line before_token after_token
   token_is text plain =
-      sym (printed_token id text.now service
-      ∙ ap (λ t. before_id ++ ((escape id ++ 34 ∷ []) ++ (to_token ++ ((escape text.now ++ 34 ∷ []) ++ (behind_token ++ t))))) end
-      ∙ ap (λ t. before_id ++ ((escape id ++ 34 ∷ []) ++ (to_token ++ t))) (quote_then text.now (behind_token ++ (service ++ after_service)) plain)
-      ∙ ap (λ t. before_id ++ t) (quote_then id _ plain_id)
+      sym (quoted_is to_token text.now behind_token (print (json_tokens (place_json id (token_json text.now) service))) plain (printed_token id text.now service)
       ∙ ap (λ t. before_id ++ (id ++ t)) (sym (content_then (Token text) (service ++ after_service))))
 
 -- it is UTF-8
@@ -178,25 +180,14 @@ pair_of_json id la lo service lat lon p q = rw (p, q)
 read_pair : (id la lo service : Text) (lat lon : ℤ) (p : Spells la lat) (q : Spells lo lon)
     → read (print (json_tokens (place_json id (pair_json la lo) service))) ≡ Some (place_tree id (pair_tree p.held q.held) service)
 read_pair id la lo service lat lon p q =
-    let j = place_json id (pair_json la lo) service in
-    let same : tokens (print (json_tokens j)) ≡ json_tokens j ++ [] =
-    tokens-print (json_tokens j) (ArePrintable-json_tokens j ((((tt, ((p.is_number, (q.is_number, tt)), (tt, tt))), tt), (tt, tt)), tt)) ∙ sym (append-nil (json_tokens j)) in
-    ap (λ o. option_and_then of_json (option_and_then (λ r. json.if_last r.0 r.1) o)) (ap (json.value 127) same ∙ value-json_tokens j 127 [] (omega arith))
+    read_printed (place_json id (pair_json la lo) service) ((((tt, ((p.is_number, (q.is_number, tt)), (tt, tt))), tt), (tt, tt)), tt) (omega arith)
     ∙ pair_of_json id la lo service p.held q.held p.reads q.reads
 
 read_decimal : (id text service : Text) → read (print (json_tokens (place_json id (decimal_json text) service))) ≡ Some (place_tree id (decimal_tree text) service)
-read_decimal id text service =
-    let j = place_json id (decimal_json text) service in
-    let same : tokens (print (json_tokens j)) ≡ json_tokens j ++ [] =
-    tokens-print (json_tokens j) (ArePrintable-json_tokens j ((((tt, (tt, (tt, tt))), tt), (tt, tt)), tt)) ∙ sym (append-nil (json_tokens j)) in
-    ap (λ o. option_and_then of_json (option_and_then (λ r. json.if_last r.0 r.1) o)) (ap (json.value 127) same ∙ value-json_tokens j 127 [] (omega arith))
+read_decimal id text service = read_printed (place_json id (decimal_json text) service) ((((tt, (tt, (tt, tt))), tt), (tt, tt)), tt) (omega arith)
 
 read_token : (id text service : Text) → read (print (json_tokens (place_json id (token_json text) service))) ≡ Some (place_tree id (token_tree text) service)
-read_token id text service =
-    let j = place_json id (token_json text) service in
-    let same : tokens (print (json_tokens j)) ≡ json_tokens j ++ [] =
-    tokens-print (json_tokens j) (ArePrintable-json_tokens j ((((tt, (tt, (tt, tt))), tt), (tt, tt)), tt)) ∙ sym (append-nil (json_tokens j)) in
-    ap (λ o. option_and_then of_json (option_and_then (λ r. json.if_last r.0 r.1) o)) (ap (json.value 127) same ∙ value-json_tokens j 127 [] (omega arith))
+read_token id text service = read_printed (place_json id (token_json text) service) ((((tt, (tt, (tt, tt))), tt), (tt, tt)), tt) (omega arith)
 
 request_of_pair : (id service : Text) (a b : Num) (lat lon : ℤ) (s : Service) → as_i64 a ≡ Some lat → as_i64 b ≡ Some lon → read_service service ≡ Ok s
     → request_in (place_tree id (pair_tree a b) service) ≡ Some (place_request id (codes "geodetic-2d") (PointBody lat lon) s)

@@ -1,13 +1,14 @@
 -- The parts that a compact line is cut into.
-use Rattle.std.proofs.Common.{◌≡◌, ℕ, ℤ, ◌≤◌, List, ◌++◌, true, length, take, drop, sym, ap, ◌∙◌, arith, append_assoc, take-append-drop}
+use Rattle.std.proofs.Common.{◌≡◌, ℕ, ℤ, ◌≤◌, List, ◌++◌, true, length, take, drop, sym, ap, ◌∙◌, subst, arith, append_assoc, take-append-drop}
 use Rattle.std.proofs.lemmas.List.{get_or-take, length-take-le}
 use Rattle.std.specs.Borrow.{Bor}
 use Rattle.std.specs.Fmt.{signed_decimal}
+use Rattle.std.specs.Str.{IsUtf8}
 use Rattle.json.specs.Run.{is_plain}
 use Rattle.json.specs.Written.{PlainBetween}
 use Rattle.json.proofs.Printed.Plain.{escape_on_plain}
 use Rattle.lost_spec.specs.Text.{Text}
-use Rattle.lost_tape.specs.Compact.{before_id, before_lat, before_lon, after_lon, before_decimal, after_decimal, before_token, after_token, after_service, content_text, place_line}
+use Rattle.lost_tape.specs.Compact.{before_id, before_lat, before_lon, after_lon, before_decimal, after_decimal, before_token, after_token, after_service, content_text, place_line, IsContentBefore}
 use Rattle.lost_writing.specs.FoundLine.{IsPlain}
 use Rattle.lost_tape.specs.declared.locations.Content.{Content}
 use Rattle.lost_tape.specs.declared.locations.Content.TheVariants.{Pair, Decimal, Token}
@@ -50,17 +51,23 @@ pair_of_parts text r1 r2 r3 rest lat lon e1 e2 e3 e4 =
     let is : before_lat ++ text ≡ content_before (Pair lat lon) rest = cc in
     is ∙ sym (content_then (Pair lat lon) rest)
 
-pub decimal_of_parts : (text named r1 rest : Text) (found : Bor Text) → text ≡ named ++ r1 → r1 ≡ after_decimal ++ rest → found.now ≡ named
-    → before_decimal ++ text ≡ content_text (Decimal found) ++ rest
-decimal_of_parts text named r1 rest found e1 e2 same =
-    let is : before_decimal ++ text ≡ content_before (Decimal found) rest = cc in
-    is ∙ sym (content_then (Decimal found) rest)
+-- a text that is found of plain bytes stands as it is
+sound_text : (found named : Text) → (found ≡ named) × IsUtf8 named → IsPlain named → IsPlain found × IsUtf8 found
+sound_text found named is plain = (subst IsPlain (sym is.0) plain, subst IsUtf8 (sym is.0) is.1)
 
-pub token_of_parts : (text named r1 rest : Text) (found : Bor Text) → text ≡ named ++ r1 → r1 ≡ after_token ++ rest → found.now ≡ named
-    → before_token ++ text ≡ content_text (Token found) ++ rest
-token_of_parts text named r1 rest found e1 e2 same =
-    let is : before_token ++ text ≡ content_before (Token found) rest = cc in
-    is ∙ sym (content_then (Token found) rest)
+-- what is found stands between what is before and what is after it
+follows : (before after text named r1 rest found : Text) → text ≡ named ++ r1 → r1 ≡ after ++ rest → found ≡ named → before ++ text ≡ before ++ (found ++ (after ++ rest))
+follows before after text named r1 rest found e1 e2 same = cc
+
+pub decimal_of_parts : (text named r1 rest : Text) (found : Bor Text) → text ≡ named ++ r1 → r1 ≡ after_decimal ++ rest → (found.now ≡ named) × IsUtf8 named → IsPlain named
+    → IsContentBefore (before_decimal ++ text) (Decimal found) rest
+decimal_of_parts text named r1 rest found e1 e2 is plain =
+    record { begins = follows before_decimal after_decimal text named r1 rest found.now e1 e2 is.0 ∙ sym (content_then (Decimal found) rest); sound = sound_text found.now named is plain }
+
+pub token_of_parts : (text named r1 rest : Text) (found : Bor Text) → text ≡ named ++ r1 → r1 ≡ after_token ++ rest → (found.now ≡ named) × IsUtf8 named → IsPlain named
+    → IsContentBefore (before_token ++ text) (Token found) rest
+token_of_parts text named r1 rest found e1 e2 is plain =
+    record { begins = follows before_token after_token text named r1 rest found.now e1 e2 is.0 ∙ sym (content_then (Token found) rest); sound = sound_text found.now named is plain }
 
 -- a line is written of its parts
 pub line_of_parts : (line r1 id r2 r3 service : Text) (content : Content) → line ≡ before_id ++ r1 → r1 ≡ id ++ r2 → r2 ≡ content_text content ++ r3 → r3 ≡ service ++ after_service

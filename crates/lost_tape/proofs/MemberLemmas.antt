@@ -1,9 +1,6 @@
 -- The members of an object, one after another.
-use Rattle.std.proofs.Common.{◌≡◌, ℕ, List, [], ◌∷◌, Option, Some, None, Ordering, Less, Equal, Greater, nat_cmp, Bor, map, option_map, refl, sym, ap, ◌∙◌}
+use Rattle.std.proofs.Common.{◌≡◌, ℕ, List, [], ◌∷◌, Option, Some, None, map, option_map, refl, sym, ap, ◌∙◌}
 use Rattle.std.specs.Prelude.{IfSome, MatchOption}
-use Rattle.std.specs.BTreeMap.{insert_entry}
-use Rattle.std.specs.Cmp.Lexicographic.{slice_cmp}
-use Rattle.std.specs.Ordering.{match_ordering}
 use Rattle.json.specs.Token.{Token}
 use Rattle.json.specs.Json as json
 use Rattle.json.specs.Json.{Json}
@@ -14,7 +11,9 @@ use Rattle.serde_json.specs.Read.{of_json, of_members}
 use Rattle.lost_spec.specs.Text.{Text}
 use Rattle.lost_spec.specs.Civic.{Pairs}
 use Rattle.lost_reading.specs.Members.{pairs_of}
-use Rattle.lost_tape.specs.Tapes.{tree_at, data_of, text_members, IsTree, HoldsMembers}
+use Rattle.lost_writing.proofs.NamedLemmas.{Entry}
+use Rattle.lost_writing.specs.Named.{named_members}
+use Rattle.lost_tape.specs.Tapes.{tree_at, data_of, IsTree, HoldsMembers}
 use Rattle.lost_tape.proofs.TreeLemmas.{held, tree_at-from, data_of-from, IsTree-from}
 use Rattle.lost_tape.proofs.PartLemmas.{went, object_of}
 
@@ -55,21 +54,6 @@ is_text (string t) s e = let same : t ≡ s = cc in ap string same
 is_text (array ds) s e = absurd (cc)
 is_text (object ms) s e = absurd (cc)
 
--- a name and a text
-abbrev pub Entry : Type 0
-Entry = Bor Text × Bor Text
-
-by_order : (order : Ordering) (a b c : List Entry) → text_members (match_ordering order a b c) ≡ match_ordering order (text_members a) (text_members b) (text_members c)
-by_order Less a b c = refl
-by_order Equal a b c = refl
-by_order Greater a b c = refl
-
--- an entry more is a member more
-pub text_members-insert_entry : (entries : List Entry) (name text : Bor Text)
-    → text_members (insert_entry (λ x y. slice_cmp nat_cmp x.now y.now) entries name text) ≡ put name.now (string text.now) (text_members entries)
-text_members-insert_entry [] name text = refl
-text_members-insert_entry (entry ∷ entries) name text = by_order (slice_cmp nat_cmp name.now entry.0.now) _ _ _ ∙ rw (text_members-insert_entry entries name text)
-
 abbrev pub seen_entry : Entry → Text × Text
 seen_entry entry = (entry.0.now, entry.1.now)
 
@@ -77,6 +61,6 @@ abbrev pub seen_entries : List Entry → Pairs
 seen_entries entries = map seen_entry entries
 
 -- members that are texts are pairs
-pub pairs_of-text_members : (entries : List Entry) → pairs_of (text_members entries) ≡ Some (seen_entries entries)
-pairs_of-text_members [] = refl
-pairs_of-text_members (entry ∷ entries) = ap (λ o. option_map (λ pairs. seen_entry entry ∷ pairs) o) (pairs_of-text_members entries)
+pub pairs_of-named_members : (entries : List Entry) → pairs_of (named_members entries) ≡ Some (seen_entries entries)
+pairs_of-named_members [] = refl
+pairs_of-named_members (entry ∷ entries) = ap (λ o. option_map (λ pairs. seen_entry entry ∷ pairs) o) (pairs_of-named_members entries)

@@ -1,8 +1,6 @@
 -- The tree of a value, where its tokens stand, and the tree of a whole text.
 use Rattle.std.proofs.Common.{◌≡◌, ℕ, ◌+◌, ◌*◌, ◌≤◌, List, [], ◌++◌, map, length, true, true≢false, Option, Some, None, is_some, option_map, option_and_then, refl, sym, ap, ◌∙◌, subst, arith, length-append, append-nil}
-use Rattle.std.specs.Prelude.{if◌then◌else◌, unwrap_or, IsSome}
-use Rattle.std.specs.Str.{IsUtf8}
-use Rattle.std.proofs.lemmas.Str.{is_utf8-from_IsUtf8}
+use Rattle.std.specs.Prelude.{unwrap_or, IsSome}
 use Rattle.std.specs.List.{list_all}
 use Rattle.std.proofs.lemmas.List.Folds.{list_all-append}
 use Rattle.std.proofs.lemmas.Bool.{and_parts}
@@ -11,16 +9,15 @@ use Rattle.json.specs.Lex.{tokens}
 use Rattle.json.specs.Json as json
 use Rattle.json.specs.Json.{Json, value, if_last, document}
 use Rattle.json.specs.Find.{BeginsWith}
-use Rattle.json.specs.Tree.{json_tokens, items_tokens, members_tokens, depth, items_depth, members_depth}
-use Rattle.json.proofs.Printed.Trees.{value-json_tokens}
+use Rattle.json.specs.Print.{print}
+use Rattle.json.specs.Tree.{json_tokens, items_tokens, members_tokens, depth, items_depth, members_depth, HasNumbers}
+use Rattle.json.proofs.Printed.Tokens.{tokens-print}
+use Rattle.json.proofs.Printed.Trees.{value-json_tokens, ArePrintable-json_tokens}
 use Rattle.json.proofs.Unique.Spelling.{value-json_tokens_back, tokens-document}
 use Rattle.json.specs.Tape.{node_token}
 use Rattle.json.specs.declared.tape.Node.{Node}
 use Rattle.serde_json.specs.Data.{Data, null, number, Members, put}
 use Rattle.serde_json.specs.Read.{number_of, of_json, of_items, of_members, read}
-use Rattle.lost_reading.specs.Desk.{order_in, desk_line}
-use Rattle.lost_reading.specs.Members.{tree_of}
-use Rattle.lost_reading.specs.Requests.{request_in, line_request}
 use Rattle.lost_tape.specs.Tapes.{tree_at, data_of, IsTree, is_sure, nests_within, IsTapeOf}
 use Rattle.lost_tape.proofs.NestLemmas.{depth_within}
 
@@ -139,16 +136,10 @@ tape_at text ts (Some j) e h same begins = (same, j, e, begins j e)
 pub is_tape_of : (text : List ℕ) (ts : List Token) → (ts ≡ tokens text) × IsSome (document text) → ((j : Json) → document text ≡ Some j → BeginsWith ts j) → IsTapeOf text ts
 is_tape_of text ts ok begins = tape_at text ts (document text) refl ok.1 ok.0 begins
 
--- ---- a line
+-- ---- a printed value
 
-tree_of-read : (line text : List ℕ) → (text ≡ line) × IsUtf8 line → read text ≡ tree_of line
-unfolding tree_of
-tree_of-read line text h = ap read h.0 ∙ sym (ap (λ b. if b then read line else None) (is_utf8-from_IsUtf8 line h.1))
-
-pub line_request-read : (line text : List ℕ) → (text ≡ line) × IsUtf8 line → option_and_then request_in (read text) ≡ line_request line
-unfolding line_request
-line_request-read line text h = ap (option_and_then request_in) (tree_of-read line text h)
-
-pub desk_line-read : (line text : List ℕ) → (text ≡ line) × IsUtf8 line → option_and_then order_in (read text) ≡ desk_line line
-unfolding desk_line
-desk_line-read line text h = ap (option_and_then order_in) (tree_of-read line text h)
+-- the text of a value is read as that value
+pub read_printed : (j : Json) → HasNumbers j → depth j ≤ 127 → read (print (json_tokens j)) ≡ of_json j
+read_printed j numbers shallow =
+    let same : tokens (print (json_tokens j)) ≡ json_tokens j ++ [] = tokens-print (json_tokens j) (ArePrintable-json_tokens j numbers) ∙ sym (append-nil (json_tokens j)) in
+    ap (λ o. option_and_then of_json (option_and_then (λ r. if_last r.0 r.1) o)) (ap (value 127) same ∙ value-json_tokens j 127 [] shallow)

@@ -8,11 +8,8 @@ use lib.Signed.{mag}
 use Rattle.std.proofs.lemmas.Grind.{flat_map-append}
 use Rattle.json.specs.Json as json
 use Rattle.json.specs.Json.{Json}
-use Rattle.json.specs.Lex.{tokens}
 use Rattle.json.specs.Print.{escape_byte, escape, quoted, print, print_from}
 use Rattle.json.specs.Tree.{json_tokens, items_tokens, members_tokens, depth, items_depth, members_depth, HasNumbers, ItemsHaveNumbers, MembersHaveNumbers}
-use Rattle.json.proofs.Printed.Tokens.{tokens-print}
-use Rattle.json.proofs.Printed.Trees.{value-json_tokens, ArePrintable-json_tokens}
 use Rattle.serde_json.specs.Data.{Num, Data, number, string, array, object, Items, no_items, item, Members, no_members, member, put}
 use Rattle.serde_json.specs.Find.{as_str, as_i64}
 use Rattle.serde_json.specs.Read.{number_of, of_json, of_items, of_members, read}
@@ -25,13 +22,14 @@ use Rattle.lost_reading.specs.Members.{each_of, list_in, position_in, pairs_of}
 use Rattle.lost_reading.specs.Desk.{Stage, parts_of_members, mapping_order, order_in, desk_line}
 use Rattle.lost_writing.specs.FoundLine.{IsPlain}
 use Rattle.lost_tape.specs.Numbers.{IsNumberBefore}
-use Rattle.lost_tape.specs.Values.{HasTree, IsValueBefore, IsPartBefore, IsListBefore, AreNamedBefore, named_texts, before_polygon, after_polygon, before_pattern, after_pattern, region_kind, with_head, with_number, with_tail, AreMembersBehind, AreMembersFirst, compact_parts, IsMappingOf, IsMappingText}
+use Rattle.lost_tape.specs.Values.{HasTree, IsValueBefore, IsPartBefore, IsListBefore, AreNamedBefore, named_texts, before_polygon, after_polygon, before_pattern, after_pattern, region_kind, with_head, with_number, with_tail, AreMembersBehind, AreMembersFirst, parts_numbered, compact_parts, IsMappingOf, IsMappingText}
 use Rattle.lost_tape.specs.declared.compact_desk.Head.{Head}
 use Rattle.lost_tape.specs.declared.compact_desk.Tail.{Tail}
 use Rattle.lost_tape.proofs.NumberLemmas.{Spells, spells}
 use Rattle.lost_tape.proofs.PartsLemmas.{parts_made}
 use Rattle.lost_tape.proofs.PrintLemmas.{first_of, later_of, member_first, commas, json_items, items_text, text_value, pair_text, pair_commas, named_text}
-use Rattle.lost_tape.proofs.TreeLemmas.{desk_line-read}
+use Rattle.lost_reading.proofs.KeptLemmas.{desk_line-read}
+use Rattle.lost_tape.proofs.TreeLemmas.{read_printed}
 
 -- ---- a text
 
@@ -290,29 +288,12 @@ mapping_reads : (head : Head) (dialled : Option Text) (tail : Tail) (r u : Json)
 mapping_reads head None tail r u regions uris a b = rw (a, b) refl
 mapping_reads head (Some dialled) tail r u regions uris a b = rw (a, b) refl
 
-parts_numbered : Head → List Region → Tail → List Text → Option Text → Parts
-parts_numbered head regions tail uris dialled = record {
-  source = tail.source.now;
-  source_id = tail.source_id.now;
-  last_updated = head.last_updated.now;
-  expires = head.expires.now;
-  service = head.service.now;
-  uris = uris;
-  number = dialled;
-  regions = regions;
-  is_default = false;
-  display_names = [];
-  key = Some head.key.now;
-}
-
 with_the_number : (head : Head) (areas : List Region) (tail : Tail) (texts : List Text) (dialled : Option Text) → option_copied tail.number ≡ dialled
     → Some (parts_numbered head areas tail texts dialled) ≡ Some (compact_parts head areas tail texts)
-unfolding parts_numbered
 with_the_number head areas tail texts dialled same = ap (λ n. Some (parts_numbered head areas tail texts n)) (sym same)
 
 mapping_parts : (head : Head) (dialled : Option Text) (tail : Tail) (regions uris : Items) (areas : List Region) (texts : List Text) → each_of region_kind regions ≡ Some areas → each_of as_str uris ≡ Some texts
     → option_copied tail.number ≡ dialled → parts_of_members (mapping_tree head regions dialled tail uris) ≡ Some (compact_parts head areas tail texts)
-unfolding parts_numbered
 mapping_parts head None tail regions uris areas texts a b same =
     parts_made (mapping_tree head regions None tail uris) _ _ _ _ _ texts None areas false [] (Some head.key.now) refl refl refl refl refl b refl (rw a refl) refl refl refl
     ∙ with_the_number head areas tail texts None same
@@ -368,11 +349,7 @@ line_text name members = ap (λ t. 123 ∷ t) (member_first name (json.object me
 line_reads : (name : Text) (members : json.Members) (tree : Members) → MembersHaveNumbers members → members_depth members ≤ 4 → of_members members no_members ≡ Some tree
     → read (print (json_tokens (line_json name members))) ≡ Some (object (member name (object tree) no_members))
 unfolding line_json
-line_reads name members tree numbers shallow reads =
-    let j = line_json name members in
-    let same : tokens (print (json_tokens j)) ≡ json_tokens j ++ [] = tokens-print (json_tokens j) (ArePrintable-json_tokens j ((numbers, tt))) ∙ sym (append-nil (json_tokens j)) in
-    ap (λ o. option_and_then of_json (option_and_then (λ p. json.if_last p.0 p.1) o)) (ap (json.value 127) same ∙ value-json_tokens j 127 [] (omega (arith, shallow)))
-    ∙ rw reads refl
+line_reads name members tree numbers shallow reads = read_printed (line_json name members) (numbers, tt) (omega (arith, shallow)) ∙ rw reads refl
 
 line_is : (name line rest : Text) (mapping : Mapping) (t : IsMappingText rest mapping) → line ≡ 123 ∷ (quoted name ++ (58 ∷ (123 ∷ rest))) → IsUtf8 line
     → desk_line line ≡ order_in (object (member name (object t.tree) no_members))

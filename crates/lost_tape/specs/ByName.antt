@@ -19,8 +19,7 @@ or_default kind default member = option_map (λ found. unwrap_or found default) 
 -- what was found are the members of a request
 abbrev pub HoldsRequest : RequestMembers → Members → Type 0
 HoldsRequest found members =
-    IsMember (codes "service") found.service members
-    × IsMember (codes "location") found.location members
+    IsMember (codes "service") found.service members × IsMember (codes "location") found.location members
     × IsMember (codes "validateLocation") found.validate members
     × IsMember (codes "serviceBoundary") found.boundary members
     × IsMember (codes "path") found.path members
@@ -28,9 +27,6 @@ HoldsRequest found members =
 -- what was found are the members of a location
 abbrev pub HoldsLocation : LocationMembers → Members → Type 0
 HoldsLocation found members =
-    IsMember (codes "id") found.id members
-    × IsMember (codes "profile") found.profile members
-    × IsMember (codes "srsName") found.srs_name members
+    IsMember (codes "id") found.id members × IsMember (codes "profile") found.profile members × IsMember (codes "srsName") found.srs_name members
     × IsMember (codes "pos") found.pos members
-    × IsMember (codes "address") found.address members
-    × IsMember (codes "token") found.token members
+    × IsMember (codes "address") found.address members × IsMember (codes "token") found.token members

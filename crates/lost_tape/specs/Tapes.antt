@@ -1,14 +1,12 @@
 -- What the tokens of a line stand for. (Own.)
 use Rattle.std.specs.Prelude.{◌≡◌, ℕ, ◌+◌, ◌-◌, ◌&&◌, nat_le, List, [], ◌∷◌, length, Bool, true, Option, Some, is_some, unwrap_or, option_and_then}
-use Rattle.std.specs.Borrow.{Bor}
 use Rattle.json.specs.Token.{Token}
 use Rattle.json.specs.Json as json
 use Rattle.json.specs.Lex.{tokens}
 use Rattle.json.specs.Find.{BeginsWith, InItems, InMembers}
-use Rattle.serde_json.specs.Data.{Data, null, string, Items, Members, no_members, member}
+use Rattle.serde_json.specs.Data.{Data, null, Items, Members, no_members}
 use Rattle.serde_json.specs.Find.{as_object}
 use Rattle.serde_json.specs.Read.{number_of, of_json, of_items, of_members}
-use Rattle.lost_spec.specs.Text.{Text}
 
 -- the tree of the value that tokens begin with
 unfoldable pub tree_at : List Token → Option Data
@@ -70,11 +68,6 @@ HoldsMembers ts before all = (ms : json.Members) × InMembers ts ms × (of_membe
 -- the tokens begin with members of an object that have trees, to its end
 abbrev pub HasMembers : List Token → Type 0
 HasMembers ts = (before : Members) × (all : Members) × HoldsMembers ts before all
-
--- texts by their names, as members
-abbrev pub text_members : List (Bor Text × Bor Text) → Members
-text_members [] = no_members
-text_members (entry ∷ entries) = member entry.0.now (string entry.1.now) (text_members entries)
 
 -- these are the tokens of a text that is one value
 abbrev pub IsTapeOf : List ℕ → List Token → Type 0

@@ -98,21 +98,25 @@ AreMembersBehind text members rest = text ≡ print_from true (members_tokens me
 abbrev pub AreMembersFirst : Text → json.Members → Text → Type 0
 AreMembersFirst text members rest = text ≡ print_from false (members_tokens members) ++ rest
 
--- the parts of a mapping with these members alone
-abbrev pub compact_parts : Head → List Region → Tail → List Text → Parts
-compact_parts head regions tail uris = record {
+-- the parts of a mapping with this number and these members alone
+abbrev pub parts_numbered : Head → List Region → Tail → List Text → Option Text → Parts
+parts_numbered head regions tail uris number = record {
   source = tail.source.now;
   source_id = tail.source_id.now;
   last_updated = head.last_updated.now;
   expires = head.expires.now;
   service = head.service.now;
   uris = uris;
-  number = option_copied tail.number;
+  number = number;
   regions = regions;
   is_default = false;
   display_names = [];
   key = Some head.key.now;
 }
+
+-- the parts of a mapping with these members alone
+abbrev pub compact_parts : Head → List Region → Tail → List Text → Parts
+compact_parts head regions tail uris = parts_numbered head regions tail uris (option_copied tail.number)
 
 -- the mapping of parts that are not refused
 abbrev pub IsMappingOf : Parts → Mapping → Type 0

@@ -5,7 +5,8 @@ ghost use Rattle.lost_civic.specs.Pairs.{seen_pairs};
 ghost use Rattle.lost_location.specs.Body.{body_of};
 ghost use Rattle.lost_reading.specs.Members.{pairs_of, pairs_in};
 ghost use Rattle.lost_reading.specs.Requests.{address_body};
-ghost use Rattle.lost_tape.specs.Tapes.{data_of, text_members, HoldsMembers};
+ghost use Rattle.lost_writing.specs.Named.{named_members};
+ghost use Rattle.lost_tape.specs.Tapes.{data_of, HoldsMembers};
 
 use crate::part::{add, owned};
 use crate::tree::{Named, Tree};
@@ -42,7 +43,7 @@ pub(crate) fn read_pairs(alloc: Global, tree: &Tree<'_, '_>) -> Option<Vec<(Stri
 /// The texts of an object by their names. If a name comes twice, its last text stays.
 fn by_name<'a>(alloc: Global, members: Named<'_, 'a>) -> Option<BTreeMap<&'a str, &'a str>>
     ensures { (all : SpecMembers) → HoldsMembers members.entry no_members all
-        → IfSome result (λ named. text_members named.entries ≡ all) }
+        → IfSome result (λ named. named_members named.entries ≡ all) }
 {
     let mut members = members;
     let mut named = BTreeMap::new(alloc);
@@ -59,7 +60,7 @@ pub(crate) fn put<'a>(
     name: &'a str,
     text: &'a str,
 ) -> Option<()>
-    ensures { OnSome result (text_members named.new.entries ≡ put name.now (string text.now) (text_members named.old.entries)) }
+    ensures { OnSome result (named_members named.new.entries ≡ put name.now (string text.now) (named_members named.old.entries)) }
 {
     match named.insert(name, text) {
         Ok(_) => Some(()),
@@ -72,7 +73,7 @@ pub(crate) fn copy_pairs(
     alloc: Global,
     named: &BTreeMap<&str, &str>,
 ) -> Option<Vec<(String, String)>>
-    ensures { IfSome result (λ pairs. pairs_of (text_members named.now.entries) ≡ Some (seen_pairs pairs.items)) }
+    ensures { IfSome result (λ pairs. pairs_of (named_members named.now.entries) ≡ Some (seen_pairs pairs.items)) }
 {
     let mut pairs = Vec::new(alloc);
     for (name, text) in named.iter() {

@@ -1,7 +1,7 @@
 //! Regions of a compact line (RFC 5222, section 5.5; own format).
 ghost use Rattle.std.specs.Prelude.{◌++◌, IfSome};
 ghost use Rattle.lost_location.specs.Region.{region_of};
-ghost use Rattle.lost_tape.specs.Tapes.{text_members};
+ghost use Rattle.lost_writing.specs.Named.{named_members};
 ghost use Rattle.lost_tape.specs.Values.{IsPartBefore, AreNamedBefore, before_polygon, region_kind};
 
 use crate::addresses::{copy_pairs, put};
@@ -57,7 +57,7 @@ fn read_front_pattern(alloc: Global, text: &[u8]) -> Option<(Region, &[u8])>
 /// The texts of an object by their names, at least one, by what stands behind its bracket. If a name comes twice, its
 /// last text stays.
 fn read_named(alloc: Global, text: &[u8]) -> Option<(BTreeMap<&str, &str>, &[u8])>
-    ensures { IfSome result (λ found. AreNamedBefore text.now (text_members found.0.entries) found.1.now) }
+    ensures { IfSome result (λ found. AreNamedBefore text.now (named_members found.0.entries) found.1.now) }
 {
     let mut named = BTreeMap::new(alloc);
     let mut rest = text;

@@ -4,7 +4,8 @@ ghost use Rattle.std.specs.List.{join_with_byte};
 ghost use Rattle.std.specs.Result.{result_err};
 ghost use Rattle.std.specs.Str.{IsAscii};
 ghost use Rattle.lost_spec.specs.Text.{lowered};
-ghost use Rattle.lost_spec.specs.Service.{read_service, service_text, is_service, is_at_or_below, split_at_dots};
+ghost use Rattle.lost_spec.specs.Service.{Service, read_service, service_text, is_service, is_at_or_below, split_at_dots};
+ghost use Rattle.lost_urn.specs.Kept.{service_of, IsKept};
 
 use crate::spelling::count_labels;
 use lost_spec::faults::UrnError;
@@ -20,10 +21,6 @@ pub struct ServiceUrn {
 }
 
 impl Model for ServiceUrn {
-    ghost use Rattle.std.specs.Prelude.{string_bytes};
-    ghost use Rattle.lost_spec.specs.Service.{Service};
-    ghost use Rattle.lost_urn.specs.Kept.{service_of, IsKept};
-
     ghost Value = { Service };
 
     ghost view = { λ u. service_of (string_bytes u.text) };

@@ -1,14 +1,10 @@
 //! A reader with a cache of places.
-ghost use Rattle.std.specs.Prelude.{◌≡◌, ◌+◌, ◌≢◌, IsTrue, IsSome, IsNone, IfOk, IfErr, OnOk};
-ghost use Rattle.lost_spec.specs.Book.{is_accepted};
-ghost use Rattle.lost_spec.specs.Laws.{BeginsWith};
-ghost use Rattle.lost_desk.specs.Seen.{seen_book};
-ghost use Rattle.lost_json.specs.Line.{line_reply};
+ghost use Rattle.std.specs.Prelude.{◌≡◌, ◌≢◌, IsSome, IsNone, IfOk, IfErr, OnOk};
 ghost use Rattle.lost_worker.specs.Cached.{IsCapacity};
 
 use crate::faults::CacheError;
 use crate::place_cache::PlaceCache;
-use crate::replier::Replier;
+use crate::replier::{Replied, Replier};
 use lost_desk::Reader;
 use lost_mapping::{Moment, Source};
 use lru::DefaultHasher;
@@ -108,31 +104,6 @@ impl<S: BuildHasher + Drop> CachedReader<S> {
         }
     }
 
-    /// Answers a line as [`Reader::reply_line`] does. If the request is answered at a place, and the place's set is
-    /// kept for the edition that the reader then sees, the index is not asked.
-    ///
-    /// # Errors
-    ///
-    /// If memory is refused or the desk is closed. The reader may then have entered once and seen a longer list.
-    pub fn reply_line(
-        &mut self,
-        alloc: Global,
-        name: &Source,
-        moment: &Moment,
-        line: &[u8],
-    ) -> Result<Vec<u8>, AllocError>
-        ensures reply { IfOk result (λ reply.
-            reply.items ≡ line_reply (seen_book self.new) name.now moment.now line.now) }
-        ensures begins { BeginsWith self.new.seen self.old.seen }
-        ensures entered { OnOk result (self.new.entries ≡ self.old.entries + 1) }
-        ensures entered_list { OnOk result (self.new.seen ≡ self.new.entered) }
-        ensures one_list { OnOk result (IsTrue (is_accepted self.new.limits self.new.seen)) }
-        ensures same { (self.new.opening ≡ self.old.opening) × (self.new.limits ≡ self.old.limits) }
-    {
-        self.reader
-            .reply_line_over(alloc, &mut self.sets, name, moment, line)
-    }
-
     /// How often a set was found, up to the greatest `u64`. No contract says what it counts: a test shows it.
     pub fn hits(&self) -> u64 {
         self.sets.hits
@@ -142,14 +113,15 @@ impl<S: BuildHasher + Drop> CachedReader<S> {
 impl<S: BuildHasher + Drop> Replier for CachedReader<S> {
     ghost reader = { λ c. c };
 
-    fn reply_line(
-        &mut self,
-        alloc: Global,
-        name: &Source,
-        moment: &Moment,
-        line: &[u8],
-    ) -> Result<Vec<u8>, AllocError> {
-        CachedReader::reply_line(self, alloc, name, moment, line)
+    /// Answers a line as [`Reader::reply_line`] does. If the request is answered at a place, and the place's set is
+    /// kept for the edition that the reader then sees, the index is not asked.
+    ///
+    /// # Errors
+    ///
+    /// If memory is refused or the desk is closed. The reader may then have entered once and seen a longer list.
+    fn reply_line(&mut self, alloc: Global, name: &Source, time: &Moment, line: &[u8]) -> Replied {
+        self.reader
+            .reply_line_over(alloc, &mut self.sets, name, time, line)
     }
 }
 

@@ -22,7 +22,7 @@ pub use desk_stream::{serve_desk, serve_desk_with};
 pub use faults::CacheError;
 pub use lost_lines::{Counts, Gate, NoGate, ServeError, Turns, Watched};
 pub use moments::Moments;
-pub use replier::Replier;
+pub use replier::{Replied, Replier};
 pub use streams::serve_lines;
 pub use witness::{DeskWitness, NoWitness};
 pub use worker::worker_loop;

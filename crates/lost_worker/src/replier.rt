@@ -9,6 +9,9 @@ use lost_desk::Reader;
 use lost_mapping::{Moment, Source};
 use std::alloc::{AllocError, Global};
 
+/// The line of a reply, or that memory was refused for it.
+pub type Replied = Result<Vec<u8>, AllocError>;
+
 /// Answers request lines, one after another, from lists of edits that each begin with the one before.
 pub trait Replier {
     /// What contracts see: the reader's value.
@@ -16,15 +19,9 @@ pub trait Replier {
 
     /// Answers a line: reads the request, answers it as the server of this name at an instant from the list that it has
     /// then seen, and writes the reply's line. If memory is refused, it may have entered once and seen a longer list.
-    fn reply_line(
-        &mut self,
-        alloc: Global,
-        name: &Source,
-        moment: &Moment,
-        line: &[u8],
-    ) -> Result<Vec<u8>, AllocError>
+    fn reply_line(&mut self, alloc: Global, name: &Source, time: &Moment, line: &[u8]) -> Replied
         ensures reply { IfOk result (λ reply.
-            reply.items ≡ line_reply (seen_book (reader self.new)) name.now moment.now line.now) }
+            reply.items ≡ line_reply (seen_book (reader self.new)) name.now time.now line.now) }
         ensures begins { BeginsWith (reader self.new).seen (reader self.old).seen }
         ensures entered { OnOk result ((reader self.new).entries ≡ (reader self.old).entries + 1) }
         ensures entered_list { OnOk result ((reader self.new).seen ≡ (reader self.new).entered) }
@@ -36,13 +33,7 @@ pub trait Replier {
 impl Replier for Reader {
     ghost reader = { λ r. r };
 
-    fn reply_line(
-        &mut self,
-        alloc: Global,
-        name: &Source,
-        moment: &Moment,
-        line: &[u8],
-    ) -> Result<Vec<u8>, AllocError> {
-        Reader::reply_line(self, alloc, name, moment, line)
+    fn reply_line(&mut self, alloc: Global, name: &Source, time: &Moment, line: &[u8]) -> Replied {
+        Reader::reply_line(self, alloc, name, time, line)
     }
 }

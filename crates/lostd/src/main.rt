@@ -5,40 +5,23 @@
 mod serving;
 
 use lost_command::{ExitReason, end, obey};
+use lost_server::System;
 use serving::serve_as_ordered;
 use std::env;
-use std::fs::Files;
 use std::io::IsTerminal;
 use std::net::{Net, TcpListener, TcpStream};
 use std::process::ExitCode;
-use std::random::RandomSource;
 use std::rt::Env;
-use std::sync::Wait;
-use std::thread::Threads;
-use std::time::Clock;
 
 fn main(rt: HostRuntime) -> ExitCode {
     end(&rt, run(&rt, rt.stderr().is_terminal()))
 }
 
 /// Reads the command line, and does what it says. `is_terminal` says whether standard error is a terminal.
-fn run<
-    R: Env
-        + Files
-        + Print
-        + Eprint
-        + Input
-        + AllocGlobal
-        + Net<Listener = TcpListener, Stream = TcpStream>
-        + Threads
-        + Wait
-        + Clock
-        + RandomSource
-        + Clone
-        + Send
-        + Sync
-        + 'static,
->(rt: &R, is_terminal: bool) -> Result<(), ExitReason> {
+fn run<R: System + Env + Print + Net<Listener = TcpListener, Stream = TcpStream> + Send + Sync>(
+    rt: &R,
+    is_terminal: bool,
+) -> Result<(), ExitReason> {
     let mut words = Vec::new(rt.alloc());
     for word in env::args(rt).map_err(|error| ExitReason::of_words(&error))? {
         words.push(word).map_err(|_| ExitReason::MEMORY)?;

@@ -5,45 +5,25 @@ ghost use Rattle.lostd.specs.ExitReasons.{serve_reason, map_reason};
 use lost_command::{ExitReason, ServeOrder};
 use lost_server::{
     ClientLimits, ConnectionSettings, Doors, MapFault, Ready, RunFault, ServeError, ServerFault,
-    ServerOrder, run_server,
+    ServerOrder, System, run_server,
 };
-use lost_sockets::{ListenError, Listener};
-use std::fs::Files;
+use lost_sockets::{Addresses, ListenError, Listener};
 use std::io;
 use std::io::ErrorKind;
 use std::net::{Net, TcpListener, TcpStream};
-use std::random::RandomSource;
-use std::sync::Wait;
 use std::sync::atomic::AtomicBool;
-use std::thread::Threads;
-use std::time::{Clock, Duration};
+use std::time::Duration;
 
 /// Runs a server as ordered, reports when it is ready, and prints its counts at the end. `is_terminal` says whether
 /// standard error is a terminal.
 pub(crate) fn serve_as_ordered<
-    R: Print
-        + Eprint
-        + Input
-        + Files
-        + AllocGlobal
-        + Net<Listener = TcpListener, Stream = TcpStream>
-        + Threads
-        + Wait
-        + Clock
-        + RandomSource
-        + Clone
-        + Send
-        + Sync
-        + 'static,
+    R: System + Print + Net<Listener = TcpListener, Stream = TcpStream> + Send + Sync,
 >(rt: &R, order: &ServeOrder<'_>, is_terminal: bool) -> Result<(), ExitReason> {
     let ordered = ServerOrder {
         name: &order.name,
         map: order.map,
         keeps_going: order.keeps_going,
-        queries: order.queries,
-        desk: order.desk,
-        status: order.status,
-        socket_mode: order.socket_mode,
+        addresses: order.addresses,
         workers: order.workers,
         connections: order.connections,
         settings: settings_of(order),
@@ -112,7 +92,7 @@ fn reason_of<R: Eprint>(rt: &R, order: &ServeOrder<'_>, fault: ServerFault) -> E
         ServerFault::Run(fault) => run_reason(fault),
         ServerFault::Ready => ExitReason::Run(ServeError::Write),
         ServerFault::Address(option, error) => {
-            say_of_address(rt, order, option, error);
+            say_of_address(rt, &order.addresses, option, error);
             ExitReason::Address
         }
         ServerFault::Map(fault) => {
@@ -145,11 +125,11 @@ fn map_reason(fault: MapFault) -> ExitReason
 }
 
 /// Reports why an address cannot be listened on.
-fn say_of_address<R: Eprint>(rt: &R, order: &ServeOrder<'_>, option: &str, error: ListenError) {
+fn say_of_address<R: Eprint>(rt: &R, addresses: &Addresses<'_>, option: &str, error: ListenError) {
     let address = match option {
-        "--queries" => order.queries,
-        "--desk" => order.desk.unwrap_or(""),
-        _ => order.status.unwrap_or(""),
+        "--queries" => addresses.queries,
+        "--desk" => addresses.desk.unwrap_or(""),
+        _ => addresses.status.unwrap_or(""),
     };
     // If standard error fails, the exit status still tells.
     let _said = eprintln!(rt; "lostd: {option} '{address}' {}", error.text());

@@ -11,79 +11,68 @@ const KEYS: [&str; 5] = ["A-1", "A-2", "A-3", "B-1", "D-1"];
 /// The latitude and the longitude of the point of the questions, in 1e-7 degrees.
 const MIDDLE: i64 = 5_000_000;
 
+/// A book that is asked, at a moment.
+#[derive(Drop)]
+struct Asked<'a, H: Holdings> {
+    alloc: Global,
+    holdings: &'a H,
+    moment: Moment,
+}
+
 /// The count of edits and of mappings, the positions for the keys, and whether the service is implemented; then the
 /// positions of the mappings that hold the point, that hold it and have the service, of the service's defaults and of
 /// all its mappings; last, the services below `sos`.
 pub(crate) fn answers<H: Holdings>(alloc: Global, holdings: &H) -> Result<String, AllocError> {
-    let moment = moment(alloc, "2026-01-01T00:00:00Z")?;
+    let asked = Asked {
+        alloc,
+        holdings,
+        moment: moment(alloc, "2026-01-01T00:00:00Z")?,
+    };
     let mut text = format!(in alloc; "edition {}, held {}", holdings.edition(), holdings.len())?;
-    add_keys(alloc, &mut text, holdings, &moment)?;
-    let service = service(alloc, "urn:service:sos.police")?;
-    add_positions(alloc, &mut text, holdings, &moment, &service)?;
-    add_below(alloc, &mut text, holdings, &moment)?;
+    asked.add_keys(&mut text)?;
+    asked.add_positions(&mut text, &service(alloc, "urn:service:sos.police")?)?;
+    asked.add_below(&mut text, &service(alloc, "urn:service:sos")?)?;
     Ok(text)
 }
 
-/// Adds the positions for the keys.
-fn add_keys<H: Holdings>(
-    alloc: Global,
-    text: &mut String,
-    holdings: &H,
-    moment: &Moment,
-) -> Result<(), AllocError> {
-    text.push_str(", keys")?;
-    for key in KEYS {
-        match holdings.by_key(moment, key) {
-            Some(position) => text.push_str(format!(in alloc; " {position}")?.as_str())?,
-            None => text.push_str(" -")?,
+impl<H: Holdings> Asked<'_, H> {
+    /// Adds the positions for the keys.
+    fn add_keys(&self, text: &mut String) -> Result<(), AllocError> {
+        text.push_str(", keys")?;
+        for key in KEYS {
+            match self.holdings.by_key(&self.moment, key) {
+                Some(position) => text.push_str(format!(in self.alloc; " {position}")?.as_str())?,
+                None => text.push_str(" -")?,
+            }
         }
+        Ok(())
     }
-    Ok(())
-}
 
-/// Adds whether a service is implemented, and the positions for the point and for the service.
-fn add_positions<H: Holdings>(
-    alloc: Global,
-    text: &mut String,
-    holdings: &H,
-    moment: &Moment,
-    service: &ServiceUrn,
-) -> Result<(), AllocError> {
-    text.push_str(if holdings.implemented(moment, service) {
-        ", implemented"
-    } else {
-        ", not implemented"
-    })?;
-    let place = place(MIDDLE)?;
-    list(alloc, text, "holding", &holdings.holding(moment, &place)?)?;
-    list(alloc, text, "at", &holdings.at(moment, &place, service)?)?;
-    list(
-        alloc,
-        text,
-        "defaults",
-        &holdings.defaults(moment, service)?,
-    )?;
-    list(
-        alloc,
-        text,
-        "of service",
-        &holdings.of_service(moment, service)?,
-    )
-}
-
-/// Adds the services below `sos`.
-fn add_below<H: Holdings>(
-    alloc: Global,
-    text: &mut String,
-    holdings: &H,
-    moment: &Moment,
-) -> Result<(), AllocError> {
-    text.push_str(", below")?;
-    let above = service(alloc, "urn:service:sos")?;
-    for found in &holdings.services_below(moment, Some(&above))? {
-        text.push_str(format!(in alloc; " {}", found.text())?.as_str())?;
+    /// Adds whether a service is implemented, and the positions for the point and for the service.
+    fn add_positions(&self, text: &mut String, service: &ServiceUrn) -> Result<(), AllocError> {
+        let (alloc, holdings, moment) = (self.alloc, self.holdings, &self.moment);
+        text.push_str(if holdings.implemented(moment, service) {
+            ", implemented"
+        } else {
+            ", not implemented"
+        })?;
+        let place = place(MIDDLE)?;
+        list(alloc, text, "holding", &holdings.holding(moment, &place)?)?;
+        list(alloc, text, "at", &holdings.at(moment, &place, service)?)?;
+        let defaults = holdings.defaults(moment, service)?;
+        list(alloc, text, "defaults", &defaults)?;
+        let all = holdings.of_service(moment, service)?;
+        list(alloc, text, "of service", &all)
     }
-    Ok(())
+
+    /// Adds the services below one.
+    fn add_below(&self, text: &mut String, above: &ServiceUrn) -> Result<(), AllocError> {
+        text.push_str(", below")?;
+        for found in &self.holdings.services_below(&self.moment, Some(above))? {
+            text.push_str(format!(in self.alloc; " {}", found.text())?.as_str())?;
+        }
+        Ok(())
+    }
 }
 
 /// The moment of a stamp.

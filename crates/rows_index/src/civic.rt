@@ -13,7 +13,7 @@ use crate::reading::{address, pattern, required};
 use lost_civic::Element;
 use lost_civicdex::{Civic, HashedKey, References};
 use lost_profile::Profile;
-use std::alloc::Global;
+use std::alloc::{AllocError, Global};
 use std::io;
 
 /// Prints each question of standard input with its answer.
@@ -32,33 +32,21 @@ pub(crate) fn print_answers<R: Input + Print + AllocGlobal>(rt: &R) -> io::Resul
 fn answer(alloc: Global, line: &str) -> Option<String> {
     let (question, rest) = line.split_once(' ')?;
     match question {
-        "cover" => {
-            let region = pattern(alloc, rest)?;
-            written(alloc, Civic::cover(alloc, &region).ok()?.as_slice(), rest)
-        }
-        "probes" => {
-            let location = address(alloc, rest)?;
-            written(
-                alloc,
-                Civic::probes(alloc, &location).ok()?.as_slice(),
-                rest,
-            )
-        }
+        "cover" => written(alloc, Civic::cover(alloc, &pattern(alloc, rest)?), rest),
+        "probes" => written(alloc, Civic::probes(alloc, &address(alloc, rest)?), rest),
         "contains" | "near" => with_address(alloc, question, rest),
         "reference-cover" => {
-            let region = pattern(alloc, rest)?;
             written(
                 alloc,
-                References::cover(alloc, &region).ok()?.as_slice(),
+                References::cover(alloc, &pattern(alloc, rest)?),
                 rest,
             )
         }
         "reference-probes" => {
             let (pairs, _) = rest.split_once(" / ")?;
-            let location = required(alloc, rest)?;
             written(
                 alloc,
-                References::probes(alloc, &location).ok()?.as_slice(),
+                References::probes(alloc, &required(alloc, rest)?),
                 pairs,
             )
         }
@@ -95,10 +83,10 @@ fn said(alloc: Global, holds: bool) -> Option<String> {
 }
 
 /// Keys such as `A1=nj;A3=leonia`. A key is hashed, so its text is that of the one of these pairs with this hash.
-fn written(alloc: Global, keys: &[HashedKey], pairs: &str) -> Option<String> {
+fn written(alloc: Global, keys: Result<Vec<HashedKey>, AllocError>, pairs: &str) -> Option<String> {
     let own = address(alloc, pairs)?;
     let mut text = String::new(alloc);
-    for key in keys {
+    for key in &keys.ok()? {
         for element in Element::ALL {
             match own.text(element) {
                 Some(value) if HashedKey::new(element, value) == *key => {

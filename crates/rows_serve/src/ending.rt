@@ -1,17 +1,13 @@
 //! A server that is told to end, as the program's never is.
 use lost_mapping::Source;
 use lost_server::{
-    ClientLimits, ConnectionSettings, Counts, Doors, Ready, ServerFault, ServerOrder, run_server,
+    ClientLimits, ConnectionSettings, Counts, Doors, Ready, ServerFault, ServerOrder, System,
+    run_server,
 };
-use lost_sockets::Listener;
-use std::fs::Files;
+use lost_sockets::{Addresses, Listener};
 use std::io;
 use std::net::{Net, TcpListener, TcpStream};
-use std::random::RandomSource;
-use std::sync::Wait;
 use std::sync::atomic::{AtomicBool, Ordering};
-use std::thread::Threads;
-use std::time::Clock;
 
 /// Any free port of this machine.
 const ANY_PORT: &str = "127.0.0.1:0";
@@ -36,30 +32,22 @@ impl<R: Net<Listener = TcpListener, Stream = TcpStream>> Ready for Ending<'_, R>
 }
 
 /// The counts of a server without a map that is told to end.
-pub(crate) fn ended<
-    R: Net<Listener = TcpListener, Stream = TcpStream>
-        + Threads
-        + Wait
-        + Clock
-        + Eprint
-        + Input
-        + Files
-        + RandomSource
-        + Clone
-        + Send
-        + Sync
-        + AllocGlobal
-        + 'static,
->(rt: &R, name: &Source) -> Result<Counts, ServerFault> {
+pub(crate) fn ended<R: System + Net<Listener = TcpListener, Stream = TcpStream> + Send + Sync>(
+    rt: &R,
+    name: &Source,
+) -> Result<Counts, ServerFault> {
     let is_over = AtomicBool::new(false);
     let order = ServerOrder {
         name,
+        addresses: Addresses {
+            queries: ANY_PORT,
+            desk: Some(ANY_PORT),
+            status: None,
+            socket_mode: 0o600,
+        },
         map: None,
         keeps_going: false,
-        queries: ANY_PORT,
-        desk: Some(ANY_PORT),
-        status: None,
-        socket_mode: 0o600,
+        shows_progress: false,
         workers: 2,
         connections: None,
         settings: ConnectionSettings {
@@ -73,7 +61,6 @@ pub(crate) fn ended<
             most_connections: 1_000,
             per_address: None,
         },
-        shows_progress: false,
     };
     let ending = Ending {
         rt,

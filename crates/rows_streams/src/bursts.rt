@@ -13,6 +13,14 @@ const CHUNK: usize = 1_024;
 /// The most bursts of a connection.
 const MOST_BURSTS: u64 = 10_000_000;
 
+/// A stream, and the text that is written when it is served as a whole.
+#[derive(Drop)]
+struct Served<'a> {
+    setting: &'a Setting,
+    bytes: &'a [u8],
+    whole: Vec<u8>,
+}
+
 /// Serves a stream by a replier as a whole, and then in bursts, once for each place where it can be cut in two, by an
 /// output that takes so many bytes at a time. Prints the replies, at how many places it was cut, and at how many of
 /// these the replies differed.
@@ -23,19 +31,10 @@ pub(crate) fn cut_everywhere<R: Print + AllocGlobal, P: Replier>(
     bytes: &[u8],
     most: usize,
 ) -> io::Result<()> {
-    let whole = whole_text(rt.alloc(), replier, setting, bytes)?;
-    write_text(rt, whole.as_slice())?;
+    let served = serve_whole(rt, replier, setting, bytes)?;
     let mut others = 0u64;
     for place in 0..=bytes.len() {
-        if !is_same(
-            rt.alloc(),
-            replier,
-            setting,
-            bytes,
-            place,
-            most,
-            whole.as_slice(),
-        )? {
+        if !served.is_same(rt.alloc(), replier, place, most)? {
             others = others.saturating_add(1);
         }
     }
@@ -53,18 +52,25 @@ pub(crate) fn cut_once<R: Print + AllocGlobal, P: Replier>(
     bytes: &[u8],
     place: usize,
 ) -> io::Result<()> {
+    let served = serve_whole(rt, replier, setting, bytes)?;
+    let same = served.is_same(rt.alloc(), replier, place, CHUNK)?;
+    println!(rt; "cut at {place}, the same replies {same}")
+}
+
+/// Serves a stream as a whole, and prints the replies.
+fn serve_whole<'a, R: Print + AllocGlobal, P: Replier>(
+    rt: &R,
+    replier: &mut P,
+    setting: &'a Setting,
+    bytes: &'a [u8],
+) -> io::Result<Served<'a>> {
     let whole = whole_text(rt.alloc(), replier, setting, bytes)?;
     write_text(rt, whole.as_slice())?;
-    let same = is_same(
-        rt.alloc(),
-        replier,
+    Ok(Served {
         setting,
         bytes,
-        place,
-        CHUNK,
-        whole.as_slice(),
-    )?;
-    println!(rt; "cut at {place}, the same replies {same}")
+        whole,
+    })
 }
 
 /// Prints a text.
@@ -100,29 +106,31 @@ fn whole_text<P: Replier>(
     }
 }
 
-/// Whether the same text is written when the stream comes in two pieces.
-fn is_same<P: Replier>(
-    alloc: Global,
-    replier: &mut P,
-    setting: &Setting,
-    bytes: &[u8],
-    place: usize,
-    most: usize,
-    whole: &[u8],
-) -> io::Result<bool> {
-    let input = Piecewise::of(bytes, place);
-    let mut client = Client::new(alloc, input, Sipping::new(alloc, most));
-    let mut chunk = [0u8; CHUNK];
-    for _ in 0..MOST_BURSTS {
-        let name = &setting.name;
-        let burst = client.serve_burst(alloc, &mut chunk, replier, name, &mut moments_of(setting));
-        match burst {
-            Ok(Progress::Over) => return Ok(client.output().text.as_slice() == whole),
-            Ok(_) => {}
-            Err(fault) => return Err(fault_error(fault)),
+impl Served<'_> {
+    /// Whether the same text is written when the stream comes in two pieces.
+    fn is_same<P: Replier>(
+        &self,
+        alloc: Global,
+        replier: &mut P,
+        place: usize,
+        most: usize,
+    ) -> io::Result<bool> {
+        let input = Piecewise::of(self.bytes, place);
+        let mut client = Client::new(alloc, input, Sipping::new(alloc, most));
+        let mut chunk = [0u8; CHUNK];
+        let name = &self.setting.name;
+        for _ in 0..MOST_BURSTS {
+            let mut moments = moments_of(self.setting);
+            match client.serve_burst(alloc, &mut chunk, replier, name, &mut moments) {
+                Ok(Progress::Over) => {
+                    return Ok(client.output().text.as_slice() == self.whole.as_slice());
+                }
+                Ok(_) => {}
+                Err(fault) => return Err(fault_error(fault)),
+            }
         }
+        Ok(false)
     }
-    Ok(false)
 }
 
 /// An error that says how a connection ended.

@@ -55,10 +55,10 @@ fn print_order<R: Print>(rt: &R, order: &ServeOrder<'_>) -> io::Result<()> {
         order.name.text(),
         order.map.unwrap_or("-"),
         order.keeps_going,
-        order.queries,
-        order.desk.unwrap_or("-"),
-        order.status.unwrap_or("-"),
-        order.socket_mode,
+        order.addresses.queries,
+        order.addresses.desk.unwrap_or("-"),
+        order.addresses.status.unwrap_or("-"),
+        order.addresses.socket_mode,
         order.workers
     )?;
     match order.connections {

@@ -35,24 +35,24 @@ impl Book {
 impl Register for Book {
     ghost book = { λ b. b };
 
+    fn limits(&self) -> Limits {
+        self.limits
+    }
+
     fn edits(&self) -> u64 {
-        Book::edition(self)
+        self.edits
     }
 
     fn count(&self) -> usize {
-        Book::len(self)
-    }
-
-    fn limits(&self) -> Limits {
-        Book::limits(self)
+        self.mappings.len()
     }
 
     fn trace_count(&self) -> usize {
-        self.traces().len()
+        self.traces.len()
     }
 
     fn withdrawn(&self, identity: &Identity) -> Option<&Stamp> {
-        self.traces().stamp(identity)
+        self.traces.stamp(identity)
     }
 
     fn is_held(&self, identity: &Identity) -> bool {

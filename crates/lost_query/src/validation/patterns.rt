@@ -47,7 +47,7 @@ fn is_reference(pattern: &CivicPattern, address: &CivicAddress, valid: &[Element
 }
 
 /// Whether some pattern of a mapping names each of these elements with the address's comparison text (own policy).
-pub fn refers(mapping: &Mapping, address: &CivicAddress, elements: &[Element]) -> bool
+pub(crate) fn refers(mapping: &Mapping, address: &CivicAddress, elements: &[Element]) -> bool
     ensures { result ≡ list_any (is_reference elements.now address.now) mapping.now.regions.patterns }
 {
     mapping
@@ -58,7 +58,7 @@ pub fn refers(mapping: &Mapping, address: &CivicAddress, elements: &[Element]) -
 
 /// Whether some pattern of a mapping names each of these elements with the address's comparison text, and another element
 /// with any text (own policy).
-pub fn refers_naming(
+pub(crate) fn refers_naming(
     mapping: &Mapping,
     address: &CivicAddress,
     elements: &[Element],

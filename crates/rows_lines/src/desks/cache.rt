@@ -3,15 +3,15 @@
 //! last the counts. If memory is refused for a desk, a cache or a question, it is asked for again.
 
 use crate::desks::counting::Counting;
-use crate::desks::orders::{QUESTION, is_ordered, print_reply, say_memory};
-use lost_desk::{Desk, Reader, Readers, open_desk};
+use crate::desks::orders::{QUESTION, is_ordered, opened, print_reply, say_memory};
+use lost_desk::{Desk, Reader, Readers};
 use lost_spec::Coded;
-use lost_worker::{CacheRefusal, CachedReader};
+use lost_worker::{CacheRefusal, CachedReader, Replier};
 use std::alloc::AllocError;
 use std::rt::Files;
 use std::sync::Wait;
 use std::{fs, io};
-use test_parts::{Setting, limits};
+use test_parts::Setting;
 
 /// The line between two sessions of the file.
 const NEXT: &str = "next\n";
@@ -29,18 +29,13 @@ pub(crate) fn run<R: Files + Wait + Print + AllocGlobal>(rt: &R) -> io::Result<(
 
 /// Runs the lines of a session. If its desk is refused, prints that and gives false.
 fn is_run<R: Wait + Print + AllocGlobal>(rt: &R, text: &str) -> io::Result<bool> {
-    match open_desk(rt, rt.alloc(), limits(), 2) {
-        Ok((mut desk, mut readers)) => {
-            let result = take_and_answer(rt, &mut desk, &mut readers, text);
-            desk.close(rt);
-            result?;
-            Ok(true)
-        }
-        Err(error) => {
-            println!(rt; "open: {}", error.code())?;
-            Ok(false)
-        }
-    }
+    let Some((mut desk, mut readers)) = opened(rt, 2)? else {
+        return Ok(false);
+    };
+    let result = take_and_answer(rt, &mut desk, &mut readers, text);
+    desk.close(rt);
+    result?;
+    Ok(true)
 }
 
 /// Takes both readers, prints which capacities are refused, and answers lines.

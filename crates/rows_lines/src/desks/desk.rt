@@ -2,7 +2,7 @@
 //! memory is refused for the desk, it is opened again.
 ghost use Rattle.std.specs.Prelude.{◌≡◌};
 
-use crate::desks::orders::{is_ordered, print_reply};
+use crate::desks::orders::{is_ordered, opened, print_reply};
 use lost_desk::{Desk, Reader, Readers, open_desk};
 use lost_spec::Coded;
 use std::rt::Files;
@@ -24,18 +24,13 @@ pub(crate) fn run<R: Files + Wait + Print + AllocGlobal>(rt: &R) -> io::Result<(
 
 /// Runs lines by a desk of their own. If it is refused, prints that and gives false.
 fn is_run<R: Wait + Print + AllocGlobal>(rt: &R, text: &str) -> io::Result<bool> {
-    match open_desk(rt, rt.alloc(), limits(), 1) {
-        Ok((mut desk, mut readers)) => {
-            let result = take_and_answer(rt, &mut desk, &mut readers, text);
-            desk.close(rt);
-            result?;
-            Ok(true)
-        }
-        Err(error) => {
-            println!(rt; "open: {}", error.code())?;
-            Ok(false)
-        }
-    }
+    let Some((mut desk, mut readers)) = opened(rt, 1)? else {
+        return Ok(false);
+    };
+    let result = take_and_answer(rt, &mut desk, &mut readers, text);
+    desk.close(rt);
+    result?;
+    Ok(true)
 }
 
 /// Prints how a desk with so many workers is refused.

@@ -1,18 +1,35 @@
 //! The answers of a desk to its lines, as they are printed. If memory is refused for a line, the answer says so.
-ghost use Rattle.std.specs.Prelude.{◌≡◌};
+ghost use Rattle.std.specs.Prelude.{◌≡◌, IfOk, IfSome};
 
 use lost_book::EditError;
-use lost_desk::{CommitError, Desk};
+use lost_desk::{CommitError, Desk, Readers, open_desk};
 use lost_json::{DeskFault, DeskLine, read_desk};
 use lost_mapping::MappingError;
 use lost_spec::Coded;
 use std::alloc::AllocError;
 use std::io;
 use std::sync::Wait;
+use test_parts::limits;
 
 /// The line that is asked: a point in the ring of the mapping `A`.
 pub(crate) const QUESTION: &[u8] =
     br#"{"findService":{"location":[{"id":"p","pos":[5000000,5000000],"profile":"geodetic-2d"}],"service":"urn:service:sos.police"}}"#;
+
+/// A desk with so many readers. If it is refused, prints that.
+pub(crate) fn opened<R: Wait + Print + AllocGlobal>(
+    rt: &R,
+    readers: u32,
+) -> io::Result<Option<(Desk, Readers)>>
+    ensures { IfOk result (λ found. IfSome found (λ parts. parts.1.each.opening ≡ parts.0.opening)) }
+{
+    match open_desk(rt, rt.alloc(), limits(), readers) {
+        Ok(parts) => Ok(Some(parts)),
+        Err(error) => {
+            println!(rt; "open: {}", error.code())?;
+            Ok(None)
+        }
+    }
+}
 
 /// Has the desk do what a line orders, and prints the answer; false where the line is a question.
 pub(crate) fn is_ordered<R: Wait + Print + AllocGlobal>(

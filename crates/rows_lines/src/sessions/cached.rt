@@ -7,7 +7,7 @@ use lost_json::{
 use lost_lines::{Answer, Answerer, NoGate, Text, Turns, Watched, run_lines};
 use lost_mapping::MappingError;
 use lost_spec::Coded;
-use lost_worker::CachedReader;
+use lost_worker::{CachedReader, Replier};
 use std::alloc::Global;
 use std::sync::Wait;
 use test_parts::Setting;

@@ -9,17 +9,13 @@ pub returns-then-is_empty-clause-answers : goal.returns-then-is_empty-clause-ans
 returns-then-is_empty-clause-answers g c piece begun =
     let seen : c.args.begun.now.items ≡ c.as_slice.result.now = search rules in
     let none : c.args.begun.now.items ≡ [] = seen ∙ nil_from_length c.as_slice.result.now (eqb-true _ 0 (sym c.is_empty.ensures ∙ c.if-is_empty.true)) in
-    on_ok_weaker c.answer_text.result
-    (answers_whole _ _ _ [] piece c.args.lines.now _ _ (subst (λ (l : List ℕ). IsBegun l piece) none begun))
-    c.answer_text.ensures.answers
+    on_ok_weaker c.answer_text.result (answers_whole _ _ _ [] piece c.args.lines.now _ _ (subst (λ (l : List ℕ). IsBegun l piece) none begun)) c.answer_text.ensures.answers
 
 pub returns-then-is_empty-clause-front : goal.returns-then-is_empty-clause-front
 returns-then-is_empty-clause-front g c piece begun =
     let seen : c.args.begun.now.items ≡ c.as_slice.result.now = search rules in
     let none : c.args.begun.now.items ≡ [] = seen ∙ nil_from_length c.as_slice.result.now (eqb-true _ 0 (sym c.is_empty.ensures ∙ c.if-is_empty.true)) in
-    on_err_weaker c.answer_text.result
-    (front_whole _ _ _ [] piece c.args.lines.now _ _ (subst (λ (l : List ℕ). IsBegun l piece) none begun))
-    c.answer_text.ensures.front
+    on_err_weaker c.answer_text.result (front_whole _ _ _ [] piece c.args.lines.now _ _ (subst (λ (l : List ℕ). IsBegun l piece) none begun)) c.answer_text.ensures.front
 
 pub returns-then-is_err-clause-front : goal.returns-then-is_err-clause-front
 returns-then-is_err-clause-front g c piece begun = front_none _ _ _ _
@@ -27,13 +23,11 @@ returns-then-is_err-clause-front g c piece begun = front_none _ _ _ _
 pub returns-clause-answers : goal.returns-clause-answers
 returns-clause-answers g c piece begun =
     let grown : c.as_slice-2.result.now ≡ c.args.begun.now.items ++ c.args.lines.now = search rules in
-    on_ok_weaker c.answer_text-answered.result
-    (λ answers. answers_whole _ _ _ c.args.begun.now.items piece c.args.lines.now _ _ begun (rw grown at answers))
+    on_ok_weaker c.answer_text-answered.result (λ answers. answers_whole _ _ _ c.args.begun.now.items piece c.args.lines.now _ _ begun (rw grown at answers))
     c.answer_text-answered.ensures.answers
 
 pub returns-clause-front : goal.returns-clause-front
 returns-clause-front g c piece begun =
     let grown : c.as_slice-2.result.now ≡ c.args.begun.now.items ++ c.args.lines.now = search rules in
-    on_err_weaker c.answer_text-answered.result
-    (λ answers. front_whole _ _ _ c.args.begun.now.items piece c.args.lines.now _ _ begun (rw grown at answers))
+    on_err_weaker c.answer_text-answered.result (λ answers. front_whole _ _ _ c.args.begun.now.items piece c.args.lines.now _ _ begun (rw grown at answers))
     c.answer_text-answered.ensures.front

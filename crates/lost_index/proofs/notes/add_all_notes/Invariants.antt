@@ -7,5 +7,5 @@ invariant-loop-one g l = record {
   noted : HaveNotes g.P.Key.PartialEq.eq g.P.Outline.PartialEq.eq g.P.Profile.cover_of g.P.Profile.outline_of l.number (take l.one-index l.new) l.cells;
   keeps : KeepsNotes g.P.Key.PartialEq.eq g.P.Outline.PartialEq.eq l.initial.cells l.cells;
   only : AddsAtMost g.P.Key.PartialEq.eq g.P.Outline.PartialEq.eq l.number
-      (covers_with g.P.Key.PartialEq.eq g.P.Outline.PartialEq.eq g.P.Profile.cover_of g.P.Profile.outline_of (take l.one-index l.new)) l.initial.cells l.cells;
+      (covers_with g.P.Key.PartialEq.eq g.P.Outline.PartialEq.eq g.P.Profile.cover_of g.P.Profile.outline_of l.new) l.initial.cells l.cells;
 }

@@ -15,8 +15,8 @@ returns-clause-gone g c =
     let kept = c.args.kept.now in
     let long = length-drop c.args.to kept in
     only-rest g.P.Key.PartialEq.eq g.P.Outline.PartialEq.eq g.P.Profile.cover_of g.P.Profile.outline_of c.args.cells.now c.remove_notes.new.cells c.remove_notes-2.new.cells
-    c.args.number kept c.args.from c.args.to c.requires.in_order c.remove_notes.ensures.gone c.remove_notes.ensures.fewer
+    c.args.number kept c.args.from c.args.to c.requires.in_order c.remove_notes.ensures.taken.gone c.remove_notes.ensures.fewer
     (subst (λ regions. IsNotedOnlyFor g.P.Key.PartialEq.eq g.P.Outline.PartialEq.eq g.P.Profile.cover_of g.P.Profile.outline_of c.args.number (slice_range kept c.args.from c.args.to)
     (covers g.P.Key.PartialEq.eq g.P.Profile.cover_of regions) c.remove_notes-2.new.cells)
-    (take_all (length kept - c.args.to) (drop c.args.to kept) (omega arith)) c.remove_notes-2.ensures.gone)
+    (take_all (length kept - c.args.to) (drop c.args.to kept) (omega arith)) c.remove_notes-2.ensures.taken.gone)
     c.remove_notes-2.ensures.fewer

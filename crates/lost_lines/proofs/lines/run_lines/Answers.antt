@@ -52,8 +52,7 @@ loop-turn-preserved g c =
 pub returns-in_default-clause-outcome : goal.returns-in_default-clause-outcome
 returns-in_default-clause-outcome g c =
     let now = c.loop-turn.invariant in
-    let says = g.G.Gate.says c.args.gate.now in
-    let step = g.A.Answerer.step in
+    let says = g.G.Gate.says c.args.gate.now in let step = g.A.Answerer.step in
     IsOutcome-at_read says step _ _ _ _
     (IsCutOff-from_reads says step _ _ _ _ now.start now.reads)
     (IsWholeSoFar-from_reads says step _ _ _ _ _ now.start (Reads-kept (Through says step) _ _ _ _ _ now.reads c.in_default.ensures.bytes) (omega (arith, c.loop-turn.server.tally.within, now.most)))
@@ -61,8 +60,7 @@ returns-in_default-clause-outcome g c =
 pub returns-then-not-may_finish-clause-outcome : goal.returns-then-not-may_finish-clause-outcome
 returns-then-not-may_finish-clause-outcome g c =
     let now = c.loop-turn.invariant in
-    let says = g.G.Gate.says c.args.gate.now in
-    let step = g.A.Answerer.step in
+    let says = g.G.Gate.says c.args.gate.now in let step = g.A.Answerer.step in
     let some : 0 < length c.read.new.buf = omega (arith, c.read.auto.buf, now.chunk) in
     let r = (Reads-end (Through says step) _ _ _ _ _ now.reads (rw c.if-count-eq0.true at c.in-Ok.ensures.bytes.0) (c.in-Ok.ensures.bytes.1 c.if-count-eq0.true some)).reads in
     let begun = c.may_finish.ensures.begun c.if-not-may_finish.true in
@@ -74,8 +72,7 @@ pub returns-in_err-finish-clause-outcome : goal.returns-in_err-finish-clause-out
 returns-in_err-finish-clause-outcome g c =
     let p = err_from_is_err_and c.from_residual.result c.from_residual.ensures.1 in
     let now = c.loop-turn.invariant in
-    let says = g.G.Gate.says c.args.gate.now in
-    let step = g.A.Answerer.step in
+    let says = g.G.Gate.says c.args.gate.now in let step = g.A.Answerer.step in
     let some : 0 < length c.read.new.buf = omega (arith, c.read.auto.buf, now.chunk) in
     let r = Reads-end (Through says step) _ _ _ _ _ now.reads (rw c.if-count-eq0.true at c.in-Ok.ensures.bytes.0) (c.in-Ok.ensures.bytes.1 c.if-count-eq0.true some) in
     let at_write : p.0 ≡ Write = (cc (p.2, c.in_err-finish.ensures.flag.only)) in
@@ -84,8 +81,7 @@ returns-in_err-finish-clause-outcome g c =
 pub returns-then-count-eq0-clause-outcome : goal.returns-then-count-eq0-clause-outcome
 returns-then-count-eq0-clause-outcome g c =
     let now = c.loop-turn.invariant in
-    let says = g.G.Gate.says c.args.gate.now in
-    let step = g.A.Answerer.step in
+    let says = g.G.Gate.says c.args.gate.now in let step = g.A.Answerer.step in
     let some : 0 < length c.read.new.buf = omega (arith, c.read.auto.buf, now.chunk) in
     let r = Reads-end (Through says step) _ _ _ _ _ now.reads (rw c.if-count-eq0.true at c.in-Ok.ensures.bytes.0) (c.in-Ok.ensures.bytes.1 c.if-count-eq0.true some) in
     IsOutcome-at_end says step _ _ _ _ _
@@ -96,16 +92,14 @@ pub returns-in_err-rest-clause-outcome : goal.returns-in_err-rest-clause-outcome
 returns-in_err-rest-clause-outcome g c =
     let p = err_from_is_err_and c.from_residual-in_err-rest.result c.from_residual-in_err-rest.ensures.1 in
     let now = c.loop-turn.invariant in
-    let says = g.G.Gate.says c.args.gate.now in
-    let step = g.A.Answerer.step in
+    let says = g.G.Gate.says c.args.gate.now in let step = g.A.Answerer.step in
     let at_write : p.0 ≡ Write = (cc (p.2, c.in_err-rest.ensures.flag.only)) in
     rw p.1 (IsOutcome-at_write says step _ _ _ _ p.0 at_write (IsCutOff-from_stops says step _ _ _ _ _ _ _ now.start now.reads c.in-Ok.ensures.bytes.0 c.in_err-rest.ensures.err))
 
 pub returns-then-not-is_empty-clause-outcome : goal.returns-then-not-is_empty-clause-outcome
 returns-then-not-is_empty-clause-outcome g c =
     let now = c.loop-turn.invariant in
-    let says = g.G.Gate.says c.args.gate.now in
-    let step = g.A.Answerer.step in
+    let says = g.G.Gate.says c.args.gate.now in let step = g.A.Answerer.step in
     let some : 0 < length c.in_ok-rest.rest.now = search rules in
     IsOutcome-at_turns says step _ _ _ _
     (IsCutOff-from_rest says step _ _ _ _ _ _ _ _ now.start now.reads c.in-Ok.ensures.bytes.0 c.in_ok-rest.ensures.ok)
@@ -114,8 +108,7 @@ returns-then-not-is_empty-clause-outcome g c =
 pub returns-clause-outcome : goal.returns-clause-outcome
 returns-clause-outcome g c =
     let now = c.loop-turn.invariant in
-    let says = g.G.Gate.says c.args.gate.now in
-    let step = g.A.Answerer.step in
+    let says = g.G.Gate.says c.args.gate.now in let step = g.A.Answerer.step in
     IsOutcome-at_turns says step _ _ _ _
     (IsCutOff-from_reads says step _ _ _ _ now.start now.reads)
     (inl (IsSpent-from_reads says step _ _ _ _ _ _ _ now.start now.reads (omega (arith, c.loop-turn.server.tally.within, now.most)) (omega (arith, now.made)) now.not_ended))

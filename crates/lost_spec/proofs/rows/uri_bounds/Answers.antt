@@ -4,4 +4,4 @@ use Rattle.lost_spec.proofs.rows.uri_bounds.Goals as goal
 
 pub returns : goal.returns
 unfolding all_words
-returns c = (refl, refl, refl, refl, refl, refl, refl, refl, refl, refl, refl, refl, refl)
+returns c = (refl, refl, refl, refl)

@@ -1,7 +1,8 @@
 use Rattle.std.proofs.Common.{◌≡◌, [], ◌∷◌, ◌++◌, Some, String, Global, sym, ap, ◌∙◌, append_assoc, append-nil}
 use Rattle.std.proofs.lemmas.List.{map-append}
 use Rattle.lost_civic.specs.Pairs.{seen_pair}
-use Rattle.lost_tape.proofs.MemberLemmas.{Entry, seen_entry, seen_entries, pairs_of-text_members}
+use Rattle.lost_writing.proofs.NamedLemmas.{Entry}
+use Rattle.lost_tape.proofs.MemberLemmas.{seen_entry, seen_entries, pairs_of-named_members}
 use Rattle.lost_tape.proofs.addresses.copy_pairs.Goals as goal
 
 pub loop-name-preserved : goal.loop-name-preserved
@@ -21,6 +22,6 @@ loop-name-preserved c =
 pub returns : goal.returns
 returns c =
     let done = c.loop-name.invariant.0 in
-    pairs_of-text_members c.args.named.now.entries
+    pairs_of-named_members c.args.named.now.entries
     ∙ ap (λ es. Some (seen_entries es)) (c.loop-name.invariant.1 ∙ ap (λ es. done ++ es) c.in-None.ensures.steps.0 ∙ append-nil done)
     ∙ ap Some c.loop-name.invariant.2

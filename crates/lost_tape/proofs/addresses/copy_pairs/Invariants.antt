@@ -1,6 +1,7 @@
 use Rattle.std.proofs.Common.{◌≡◌, List, ◌++◌}
 use Rattle.lost_civic.specs.Pairs.{seen_pairs}
-use Rattle.lost_tape.proofs.MemberLemmas.{Entry, seen_entries}
+use Rattle.lost_writing.proofs.NamedLemmas.{Entry}
+use Rattle.lost_tape.proofs.MemberLemmas.{seen_entries}
 use Rattle.lost_tape.proofs.addresses.copy_pairs.Given as goal
 
 abbrev pub invariant-loop-name : goal.invariant-loop-name

@@ -1,7 +1,7 @@
 use Rattle.std.proofs.Common.{refl, sym, ◌∙◌}
 use Rattle.lost_civic.specs.Element.{element_name}
 use Rattle.lost_civic.specs.contracts.elements.ElementPartialEq.TheImpl.{eq-value}
-use Rattle.lost_civicdex.specs.NamedLaws.{is_some-text}
+use Rattle.lost_civic.proofs.Present.{is_some-text}
 use Rattle.lost_civicdex.proofs.HasLemmas.{named-has}
 use Rattle.lost_civicdex.proofs.named.NamedProfile.has_key.Goals as goal
 

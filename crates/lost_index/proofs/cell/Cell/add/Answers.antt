@@ -27,8 +27,8 @@ invariant_of-self-2 g c =
     let none : has_note same note.number note.outline notes ≡ false = sym c.has.ensures ∙ c.if-has.false in
     rw (c.in_ok-insert_note.ensures.items, c.self.view_is) (record {
       rising = IsNonDecreasingBy-insert number_of notes place.result note cell.rising place.ensures.within
-          (λ k d front. place.ensures.up_to k d (omega arith) front)
-          (λ k d behind within. omega (arith, place.ensures.above k d behind within));
+          (λ k d front. place.ensures.point.0 k d (omega arith) front)
+          (λ k d behind within. omega (arith, place.ensures.point.1 k d behind within));
       distinct = all_pairs_insert (λ one later. is_note same one.number one.outline later ≡ false) notes place.result note place.ensures.within cell.distinct
           (λ k d front. alike_either_way same g.met.P.Outline.Eq.laws.symm (get_or notes k d) note
           ∙ none_passes (is_note same note.number note.outline) notes none k d (omega (arith, front, place.ensures.within)))

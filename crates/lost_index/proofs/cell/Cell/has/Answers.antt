@@ -23,4 +23,4 @@ returns-then-has_at g c =
 pub returns : goal.returns
 returns g c =
     sym (none_between g.P.Outline.PartialEq.eq c.args.note.now.number c.args.note.now.outline c.args.self.now c.start_of-start.result c.end_of-end.result c.loop-position.position
-    c.start_of-start.ensures.below c.loop-position.invariant c.loop-position-test.false c.end_of-end.ensures.above)
+    c.start_of-start.ensures.0 c.loop-position.invariant c.loop-position-test.false c.end_of-end.ensures.point.1)

@@ -9,7 +9,7 @@ loop-position-init g c =
     filtered_from_end (stays g.P.Key.PartialEq.eq g.P.Outline.PartialEq.eq g.P.Profile.cover_of g.P.Profile.outline_of c.args.number c.args.remaining.now c.args.key.now)
     c.end_of-end.result c.args.self.now
     (back_stays g.P.Key.PartialEq.eq g.P.Outline.PartialEq.eq g.P.Profile.cover_of g.P.Profile.outline_of c.args.number c.args.remaining.now c.args.key.now
-    c.end_of-end.result c.args.self.now c.end_of-end.ensures.above)
+    c.end_of-end.result c.args.self.now c.end_of-end.ensures.point.1)
 
 pub loop-position-preserved : goal.loop-position-preserved
 loop-position-preserved g c =
@@ -26,4 +26,4 @@ returns g c =
     ∙ filtered_from_start (stays g.P.Key.PartialEq.eq g.P.Outline.PartialEq.eq g.P.Profile.cover_of g.P.Profile.outline_of c.args.number c.args.remaining.now c.args.key.now)
     c.loop-position.position c.args.self.now
     (front_stays g.P.Key.PartialEq.eq g.P.Outline.PartialEq.eq g.P.Profile.cover_of g.P.Profile.outline_of c.args.number c.args.remaining.now c.args.key.now
-    c.start_of-start.result c.loop-position.position c.args.self.now c.start_of-start.ensures.below c.loop-position-test.false)
+    c.start_of-start.result c.loop-position.position c.args.self.now c.start_of-start.ensures.0 c.loop-position-test.false)

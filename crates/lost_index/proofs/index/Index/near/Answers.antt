@@ -13,15 +13,11 @@ returns-clause-holders g c = λ number stands.
     let location = c.args.location.now in
     let is_location = c.in_ok-near.ensures.is_location in
     near_has (IsMarked g.P.Profile.is_region g.P.Profile.cover_of g.P.Profile.kind_of c.self.inside.kinds) g.P.Profile.cover_of g.P.Profile.outline_of g.P.Key.PartialEq.eq g.P.Outline.PartialEq.eq
-    (λ outline. g.P.Profile.may_hold outline location) (g.P.Profile.probes_of location)
-    c.self.inside.held c.self.inside.cells c.self.invariant
+    (λ outline. g.P.Profile.may_hold outline location) (g.P.Profile.probes_of location) c.self.inside.held c.self.inside.cells c.self.invariant
     c.in_ok-near.near.items c.sort_unstable.new.self.items c.dedup.new.self.items
-    (c.in_ok-near.ensures.found
-    ∙ found_all g.P.Profile.is_region g.P.Profile.cover_of g.P.Profile.outline_of g.P.Key.PartialEq.eq g.P.Outline.PartialEq.eq g.P.Profile.kind_of c.self.inside.kinds
-    c.self.inside.held c.self.inside.cells c.self.invariant g.met.P.Profile.equal_keys_are_of_one_kind g.met.P.Outline.Eq.laws.refl
-    (λ outline. g.P.Profile.may_hold outline location) (g.P.Profile.probes_of location))
-    c.sort_unstable.ensures.permutation
-    (dedup_is nat_eq c.sort_unstable.new.self.items c.dedup.new.self.items c.dedup.ensures.filtered)
+    (c.in_ok-near.ensures.found ∙ found_all g.P.Profile.is_region g.P.Profile.cover_of g.P.Profile.outline_of g.P.Key.PartialEq.eq g.P.Outline.PartialEq.eq g.P.Profile.kind_of
+    c.self.inside.kinds c.self.inside.held c.self.inside.cells c.self.invariant g.met.P.Profile.equal_keys_are_of_one_kind g.met.P.Outline.Eq.laws.refl _ _)
+    c.sort_unstable.ensures.permutation (dedup_is nat_eq c.sort_unstable.new.self.items c.dedup.new.self.items c.dedup.ensures.filtered)
     g.P.Profile.holds location c.numbers_rise.ensures
     (λ region is_region holds. g.met.P.Profile.cover_meets_probes region location is_region.lawful is_location holds)
     (λ region is_region holds. g.met.P.Profile.holder_is_near region location is_region.lawful is_location holds)
@@ -33,15 +29,11 @@ returns-clause-held g c =
     let location = c.args.location.now in
     subst (λ l. All (λ number. IsHeld number l) c.dedup.new.self.items) c.self.view_is
     (near_held (IsMarked g.P.Profile.is_region g.P.Profile.cover_of g.P.Profile.kind_of c.self.inside.kinds) g.P.Profile.cover_of g.P.Profile.outline_of g.P.Key.PartialEq.eq g.P.Outline.PartialEq.eq
-    (λ outline. g.P.Profile.may_hold outline location) (g.P.Profile.probes_of location)
-    c.self.inside.held c.self.inside.cells c.self.invariant
+    (λ outline. g.P.Profile.may_hold outline location) (g.P.Profile.probes_of location) c.self.inside.held c.self.inside.cells c.self.invariant
     c.in_ok-near.near.items c.sort_unstable.new.self.items c.dedup.new.self.items
-    (c.in_ok-near.ensures.found
-    ∙ found_all g.P.Profile.is_region g.P.Profile.cover_of g.P.Profile.outline_of g.P.Key.PartialEq.eq g.P.Outline.PartialEq.eq g.P.Profile.kind_of c.self.inside.kinds
-    c.self.inside.held c.self.inside.cells c.self.invariant g.met.P.Profile.equal_keys_are_of_one_kind g.met.P.Outline.Eq.laws.refl
-    (λ outline. g.P.Profile.may_hold outline location) (g.P.Profile.probes_of location))
-    c.sort_unstable.ensures.permutation
-    (dedup_is nat_eq c.sort_unstable.new.self.items c.dedup.new.self.items c.dedup.ensures.filtered)
+    (c.in_ok-near.ensures.found ∙ found_all g.P.Profile.is_region g.P.Profile.cover_of g.P.Profile.outline_of g.P.Key.PartialEq.eq g.P.Outline.PartialEq.eq g.P.Profile.kind_of
+    c.self.inside.kinds c.self.inside.held c.self.inside.cells c.self.invariant g.met.P.Profile.equal_keys_are_of_one_kind g.met.P.Outline.Eq.laws.refl _ _)
+    c.sort_unstable.ensures.permutation (dedup_is nat_eq c.sort_unstable.new.self.items c.dedup.new.self.items c.dedup.ensures.filtered)
     g.met.P.Outline.Eq.laws.refl)
 
 pub returns-clause-rising : goal.returns-clause-rising

@@ -13,8 +13,8 @@ invariant_of-self g c =
     c.self.inside.cells c.remove_notes.new.cells c.args.number c.remove-entry.result c.self.invariant
     c.remove-entry.ensures.entry
     (λ k. ap (λ held. regions_of held k) c.remove-entry.ensures.rest ∙ lookup_without c.args.number k c.self.inside.held c.remove-entry.ensures.rising)
-    c.remove_notes.ensures.others c.remove_notes.ensures.fewer
+    c.remove_notes.ensures.taken.others c.remove_notes.ensures.fewer
     (subst (λ remaining. IsNotedOnlyFor g.P.Key.PartialEq.eq g.P.Outline.PartialEq.eq g.P.Profile.cover_of g.P.Profile.outline_of c.args.number remaining
     (covers g.P.Key.PartialEq.eq g.P.Profile.cover_of c.remove-entry.result) c.remove_notes.new.cells) c.none.ensures
     (subst (λ regions. IsNotedOnlyFor g.P.Key.PartialEq.eq g.P.Outline.PartialEq.eq g.P.Profile.cover_of g.P.Profile.outline_of c.args.number c.none.result.now
-    (covers g.P.Key.PartialEq.eq g.P.Profile.cover_of regions) c.remove_notes.new.cells) c.kept.ensures c.remove_notes.ensures.gone))
+    (covers g.P.Key.PartialEq.eq g.P.Profile.cover_of regions) c.remove_notes.new.cells) c.kept.ensures c.remove_notes.ensures.taken.gone))

@@ -1,16 +1,17 @@
 -- Each mapping that passes is among the candidates.
-use Rattle.std.proofs.Common.{◌≡◌, rules, ap, sym, subst}
-use Rattle.std.specs.List.{list_any}
-use Rattle.lost_query.specs.Judged.{is_naming}
+use Rattle.std.proofs.Common.{rules, sym, subst}
+use Rattle.lost_query.specs.Reference.{is_naming_by}
+use Rattle.lost_tables.specs.Picks.{Covers}
 use Rattle.lost_routing.specs.Naming.{AreAmong}
 use Rattle.lost_routing.proofs.NamedLemmas.{covers_either}
 use Rattle.lost_routing.proofs.store.Store.is_named_near.Goals as goal
 
 pub returns : goal.returns
 returns c =
-    subst (λ l. c.any-found.result ≡ list_any (is_naming c.args.moment.now c.args.service.now c.args.address.now c.args.elements.now c.args.named) l) (ap (λ k. k.mappings) c.self.view_is)
-    (c.any-found.ensures (is_naming c.args.moment.now c.args.service.now c.args.address.now c.args.elements.now c.args.named) (λ m r says. search rules)
-    (covers_either c.args.address.now c.args.moment.now c.args.service.now c.args.elements.now
+    let r = c.args.reference.now in
+    c.has_any-found.ensures (is_naming_by r c.args.named) (λ m b says. search rules)
+    (subst (λ k. Covers (is_naming_by r c.args.named) k.numbers k.mappings c.as_slice.result.now) c.self.view_is
+    (covers_either r.address.now r.moment.now r.service.now r.elements.now
     c.self.inside.numbers c.self.inside.mappings c.self.inside.tables c.self.inside.regions c.self.invariant.store
     c.args.required.now c.args.named c.as_slice.result.now c.requires
     (subst (λ l. AreAmong c.args.required.now c.args.named c.self.inside.regions l) (sym c.as_slice.ensures.value) c.in_ok-candidates.ensures)))

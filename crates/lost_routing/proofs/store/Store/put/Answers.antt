@@ -1,12 +1,12 @@
 -- The notes of the others stay, and the new mapping is noted and in the indexes; where memory is short it is taken away again.
 use Rattle.std.proofs.Common.{◌≡◌, [], ◌∷◌, ◌++◌, slice_index_or, rules, sym, ap, subst, ◌∙◌}
-use Rattle.std.specs.List.{remove, zip}
+use Rattle.std.specs.List.{zip}
 use Rattle.lost_regions.specs.Regions.{with_mapping}
 use Rattle.lost_tables.specs.Lookup.{IsFullyListed}
 use Rattle.lost_routing.specs.Classes.{AreTold}
 use Rattle.lost_routing.specs.Invariants.{IsStore, IsNew}
 use Rattle.lost_routing.proofs.ClassLemmas.{told_put}
-use Rattle.lost_routing.proofs.StoreLemmas.{put_above, put_kept, put_refused, last_there, last_gone}
+use Rattle.lost_routing.proofs.StoreLemmas.{put_above, put_kept, put_refused, last_there, taken_back}
 use Rattle.lost_routing.proofs.store.Store.put.Goals as goal
 
 pub enter-requires : goal.enter-requires
@@ -19,12 +19,8 @@ pub invariant_of-self-then-is_err-2 : goal.invariant_of-self-then-is_err-2
 invariant_of-self-then-is_err-2 c =
     let pushed : c.push-2.new.self ≡ c.self.inside.mappings ++ c.args.mapping ∷ [] = search rules in
     let same : c.enter.new.regions ≡ c.self.inside.regions = search rules in
-    let numbers : c.remove-then-is_err-2.new.self ≡ c.self.inside.numbers =
-    c.remove-then-is_err-2.ensures.rest ∙ ap (λ l. remove l c.len-position.result) c.in_ok-push.ensures.pushed
-    ∙ ap (remove (c.self.inside.numbers ++ c.args.number ∷ [])) c.len-position.ensures ∙ last_gone c.self.inside.numbers c.args.number in
-    let mappings : c.remove-then-is_err-2-2.new.self ≡ c.self.inside.mappings =
-    c.remove-then-is_err-2-2.ensures.rest ∙ ap (λ l. remove l c.len-position.result) pushed
-    ∙ ap (remove (c.self.inside.mappings ++ c.args.mapping ∷ [])) (c.len-position.ensures ∙ c.self.invariant.store.paired) ∙ last_gone c.self.inside.mappings c.args.mapping in
+    let numbers = taken_back c.self.inside.numbers _ _ c.args.number c.len-position.result c.in_ok-push.ensures.pushed c.remove-then-is_err-2.ensures.rest c.len-position.ensures in
+    let mappings = taken_back c.self.inside.mappings _ _ c.args.mapping c.len-position.result pushed c.remove-then-is_err-2-2.ensures.rest (c.len-position.ensures ∙ c.self.invariant.store.paired) in
     record {
       store =
           subst (λ l. IsStore l c.remove-then-is_err-2-2.new.self c.enter.new.tables c.enter.new.regions) (sym numbers)
@@ -40,12 +36,8 @@ invariant_of-self-then-is_err-2 c =
 pub returns-then-is_err-2-clause-refused : goal.returns-then-is_err-2-clause-refused
 returns-then-is_err-2-clause-refused c =
     let pushed : c.push-2.new.self ≡ c.self.inside.mappings ++ c.args.mapping ∷ [] = search rules in
-    let numbers : c.remove-then-is_err-2.new.self ≡ c.self.inside.numbers =
-    c.remove-then-is_err-2.ensures.rest ∙ ap (λ l. remove l c.len-position.result) c.in_ok-push.ensures.pushed
-    ∙ ap (remove (c.self.inside.numbers ++ c.args.number ∷ [])) c.len-position.ensures ∙ last_gone c.self.inside.numbers c.args.number in
-    let mappings : c.remove-then-is_err-2-2.new.self ≡ c.self.inside.mappings =
-    c.remove-then-is_err-2-2.ensures.rest ∙ ap (λ l. remove l c.len-position.result) pushed
-    ∙ ap (remove (c.self.inside.mappings ++ c.args.mapping ∷ [])) (c.len-position.ensures ∙ c.self.invariant.store.paired) ∙ last_gone c.self.inside.mappings c.args.mapping in
+    let numbers = taken_back c.self.inside.numbers _ _ c.args.number c.len-position.result c.in_ok-push.ensures.pushed c.remove-then-is_err-2.ensures.rest c.len-position.ensures in
+    let mappings = taken_back c.self.inside.mappings _ _ c.args.mapping c.len-position.result pushed c.remove-then-is_err-2-2.ensures.rest (c.len-position.ensures ∙ c.self.invariant.store.paired) in
     rw (numbers, mappings) c.self.view_is
 
 pub invariant_of-self-2 : goal.invariant_of-self-2

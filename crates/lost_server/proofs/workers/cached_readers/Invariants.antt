@@ -1,5 +1,5 @@
 use Rattle.std.specs.Prelude.{◌≡◌}
-use Rattle.lost_server.proofs.standing.standing_workers.Given as goal
+use Rattle.lost_server.proofs.workers.cached_readers.Given as goal
 
 -- the readers stay of one kind, and the desk stays
 abbrev pub invariant-loop-number : goal.invariant-loop-number

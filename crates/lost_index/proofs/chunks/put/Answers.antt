@@ -2,7 +2,7 @@
 use Rattle.std.proofs.Common.{◌++◌, ◌∷◌, [], ◌+◌, ap, sym, subst, ◌∙◌}
 use Rattle.lost_index.specs.Chunks.{AreChunks}
 use Rattle.lost_index.proofs.ChunkLemmas.{chunks_put_behind}
-use Rattle.lost_index.proofs.chunks.put_behind.Goals as goal
+use Rattle.lost_index.proofs.chunks.put.Goals as goal
 
 pub returns-in-Ok-clause-chunks : goal.returns-in-Ok-clause-chunks
 returns-in-Ok-clause-chunks g c =
