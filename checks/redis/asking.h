@@ -26,8 +26,10 @@ static struct side requests, replies;
 static size_t questions;
 static uint16_t port;
 
+// Ends the program, with one line: where two threads fail, the second one waits here for the end.
 static void fail(const char *what, const char *why)
 {
+    flockfile(stderr);
     fprintf(stderr, "%s: %s\n", what, why);
     exit(1);
 }
