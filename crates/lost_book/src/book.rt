@@ -14,12 +14,22 @@ mod scans;
 
 /// The mappings held, in order, with the limits, the stamps of withdrawn identities, and the number of accepted edits.
 /// Contracts see it as the record `Book`.
-#[derive(Drop)]
 pub struct Book {
     limits: Limits,
     mappings: Vec<Mapping>,
     traces: Traces,
     edits: u64,
+}
+
+impl Drop for Book {
+    fn drop(self) {
+        let Book {
+            limits: _,
+            mappings: _,
+            traces: _,
+            edits: _,
+        } = self;
+    }
 }
 
 impl Model for Book {

@@ -22,11 +22,20 @@ use std::marker::Model;
 /// A civic address (RFC 5222, section 12.3; RFC 4119, section 2.2.1): pairs of a name and a value, in the order in
 /// which they were given. Contracts see an address as its pairs. At least one name is an element's; others may be
 /// unknown.
-#[derive(Drop)]
 pub struct CivicAddress {
     pairs: Vec<(String, String)>,
     texts: Vec<Option<String>>,
     signature: Signature,
+}
+
+impl Drop for CivicAddress {
+    fn drop(self) {
+        let CivicAddress {
+            pairs: _,
+            texts: _,
+            signature: _,
+        } = self;
+    }
 }
 
 impl Model for CivicAddress {

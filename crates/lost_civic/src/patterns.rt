@@ -21,9 +21,14 @@ use std::sync::Arc;
 /// A civic pattern, which stands for the addresses that it matches (RFC 5222, section 12.3; patterns are an own
 /// form of a civic boundary): pairs of an element's name and a value, in the order in which they were given.
 /// It never changes and is shared, so a copy costs a pointer. Contracts see a pattern as its pairs.
-#[derive(Drop)]
 pub struct CivicPattern {
     inner: Arc<Fields>,
+}
+
+impl Drop for CivicPattern {
+    fn drop(self) {
+        let CivicPattern { inner: _ } = self;
+    }
 }
 
 #[derive(Drop)]

@@ -24,12 +24,21 @@ pub(crate) type Seat = left_right::reader::Reader<Version, View, OneList>;
 
 /// A reader. Contracts see its opening and limits, the list of edits that it has seen or was told, the list of the copy
 /// that it entered last, and how often it entered.
-#[derive(Drop)]
 pub struct Reader {
     pub(crate) seat: Option<Seat>,
     pub(crate) latest: Front,
     /// Working memory of the request parser. It holds nothing of the lines.
     pub(crate) scratch: Box<Scratch>,
+}
+
+impl Drop for Reader {
+    fn drop(self) {
+        let Reader {
+            seat: _,
+            latest: _,
+            scratch: _,
+        } = self;
+    }
 }
 
 impl Model for Reader {

@@ -7,10 +7,15 @@ use lost_routing::Routing;
 use std::alloc::AllocError;
 
 /// One of the two copies: the book that readers ask, and the list of edits whose book it is.
-#[derive(Drop)]
 pub struct Version {
     pub(crate) book: Routing,
     pub(crate) front: Front,
+}
+
+impl Drop for Version {
+    fn drop(self) {
+        let Version { book: _, front: _ } = self;
+    }
 }
 
 /// An operation, which both copies take in, in turn.

@@ -21,10 +21,16 @@ pub const MAX_POSITIONS: usize = 4096;
 
 /// The area that one exterior ring bounds (RFC 5222, section 12.2). The plane is flat, and inside is by the even-odd
 /// rule; orientation and self-crossing are not examined (own rules). Contracts see it as the list of its positions.
-#[derive(Debug, Drop)]
+#[derive(Debug)]
 pub struct Polygon {
     ring: Ring,
     bounds: Bounds,
+}
+
+impl Drop for Polygon {
+    fn drop(self) {
+        let Polygon { ring: _, bounds: _ } = self;
+    }
 }
 
 impl Model for Polygon {
@@ -87,9 +93,10 @@ impl Polygon {
     pub fn share(self, alloc: Global) -> Result<Polygon, AllocError>
         ensures { IfOk result (λ polygon. polygon ≡ self) }
     {
+        let Polygon { ring, bounds } = self;
         Ok(Polygon {
-            ring: self.ring.share(alloc)?,
-            bounds: self.bounds,
+            ring: ring.share(alloc)?,
+            bounds,
         })
     }
 

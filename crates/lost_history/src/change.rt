@@ -3,9 +3,14 @@ use lost_book::Edit;
 use std::marker::Model;
 
 /// An entry of the history: an edit, seen as the definition's. No such value is made.
-#[derive(Drop)]
 pub struct Change {
     edit: Edit,
+}
+
+impl Drop for Change {
+    fn drop(self) {
+        let Change { edit: _ } = self;
+    }
 }
 
 impl Model for Change {

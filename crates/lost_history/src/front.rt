@@ -10,10 +10,15 @@ use logbook::{Offer, Seen};
 use std::marker::Model;
 
 /// A beginning of a history. Contracts see its opening and its list of edits. At run time it is the list's length.
-#[derive(Drop)]
 pub struct Front {
     count: u64,
     seen: Seen<Change, u64, Rises>,
+}
+
+impl Drop for Front {
+    fn drop(self) {
+        let Front { count: _, seen: _ } = self;
+    }
 }
 
 impl Model for Front {

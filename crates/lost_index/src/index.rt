@@ -18,12 +18,22 @@ use std::marker::Model;
 /// Numbers with their regions, to find the numbers of a location. Contracts see it as the list of (number, regions), in
 /// rising order of the numbers. Invariant: each region is noted in the cells of its cover's keys, and nothing else is;
 /// the kinds of these keys are marked.
-#[derive(Drop)]
 pub struct Index<P: Profile> {
     alloc: Global,
     held: Held<P>,
     cells: HashMap<P::Key, Cell<P>>,
     kinds: Kinds,
+}
+
+impl<P: Profile> Drop for Index<P> {
+    fn drop(self) {
+        let Index {
+            alloc: _,
+            held: _,
+            cells: _,
+            kinds: _,
+        } = self;
+    }
 }
 
 impl<P: Profile> Model for Index<P> {

@@ -16,7 +16,6 @@ use std::alloc::{AllocError, Global};
 use std::borrow::CowStr;
 
 /// What a location holds (RFC 5222, section 12).
-#[derive(Drop)]
 pub enum Body<'a> {
     /// A latitude and a longitude, in whole 1e-7 degrees, in range or not.
     Point(i64, i64),
@@ -26,6 +25,17 @@ pub enum Body<'a> {
     Token(CowStr<'a>),
     /// Content of another shape.
     Unreadable,
+}
+
+impl<'a> Drop for Body<'a> {
+    fn drop(self) {
+        match self {
+            Body::Point(_, _) => {}
+            Body::Address(_) => {}
+            Body::Token(_) => {}
+            Body::Unreadable => {}
+        }
+    }
 }
 
 /// The place of a body, if its kind is known, it is of that kind, and it is not refused (RFC 5222, section 12).

@@ -23,11 +23,20 @@ use std::marker::Model;
 
 /// Where a mapping holds: its polygons, its patterns and its token sets, each kind in the order in which it was given.
 /// Contracts see the record of the three lists.
-#[derive(Drop)]
 pub struct Regions {
     token_sets: Vec<TokenSet>,
     patterns: Vec<CivicPattern>,
     polygons: Polygons,
+}
+
+impl Drop for Regions {
+    fn drop(self) {
+        let Regions {
+            token_sets: _,
+            patterns: _,
+            polygons: _,
+        } = self;
+    }
 }
 
 impl Model for Regions {

@@ -8,7 +8,7 @@ use lost_spec::faults::{MappingError, StampError};
 use std::alloc::{AllocError, Global};
 
 /// When a mapping expires (RFC 5222, section 5.2).
-#[derive(Drop, Debug)]
+#[derive(Debug)]
 pub enum Expires {
     /// Never, and an answer with the mapping is not to be cached.
     NoCache,
@@ -16,6 +16,16 @@ pub enum Expires {
     NoExpiration,
     /// At the instant of a stamp.
     At(Stamp),
+}
+
+impl Drop for Expires {
+    fn drop(self) {
+        match self {
+            Expires::NoCache => {}
+            Expires::NoExpiration => {}
+            Expires::At(_) => {}
+        }
+    }
 }
 
 impl Expires {

@@ -21,9 +21,15 @@ use std::sync::Arc;
 /// The source and the sourceId of a mapping, which name it over the whole server (RFC 5222, section 5.1; own scope).
 /// A sourceId is 1 to 128 bytes without bytes below 32 and without byte 127, and is compared byte for byte. It never
 /// changes and is shared, so a copy costs a pointer.
-#[derive(Drop, Debug)]
+#[derive(Debug)]
 pub struct Identity {
     inner: Arc<Fields>,
+}
+
+impl Drop for Identity {
+    fn drop(self) {
+        let Identity { inner: _ } = self;
+    }
 }
 
 #[derive(Drop, Debug)]

@@ -31,9 +31,14 @@ use std::sync::Arc;
 
 /// A mapping (RFC 5222, section 5). It never changes and is shared, so a copy costs a pointer. Contracts see it as
 /// the record `Mapping`.
-#[derive(Drop)]
 pub struct Mapping {
     inner: Arc<Fields>,
+}
+
+impl Drop for Mapping {
+    fn drop(self) {
+        let Mapping { inner: _ } = self;
+    }
 }
 
 #[derive(Drop)]

@@ -83,10 +83,16 @@ pub struct BorrowedParts<'a, U, R, N> {
 }
 
 /// A name to show for the service (RFC 5222, section 5.3).
-#[derive(Debug, Drop)]
+#[derive(Debug)]
 pub struct DisplayName {
     /// The language of the text.
     pub lang: String,
     /// The name itself.
     pub text: String,
+}
+
+impl Drop for DisplayName {
+    fn drop(self) {
+        let DisplayName { lang: _, text: _ } = self;
+    }
 }

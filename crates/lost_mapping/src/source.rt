@@ -18,9 +18,15 @@ use std::marker::Model;
 /// The source of a mapping, or the name of a server (RFC 5222, section 5.1): 1 to 253 bytes, labels of 1 to 63 ASCII
 /// letters, digits and hyphens with no hyphen at either end, joined by single dots (own spelling). It is kept in
 /// lower case, and sources are compared by that text.
-#[derive(Drop, Debug)]
+#[derive(Debug)]
 pub struct Source {
     text: String,
+}
+
+impl Drop for Source {
+    fn drop(self) {
+        let Source { text: _ } = self;
+    }
 }
 
 impl Model for Source {

@@ -12,10 +12,16 @@ use std::marker::Model;
 /// When a mapping was last updated, or expires (RFC 5222, sections 5.1 and 5.2): `YYYY-MM-DDThh:mm:ss`, perhaps a dot
 /// and one to nine digits, then `Z`, of a day of the years 1 to 9999 and a second that exist (own spelling). The text
 /// is kept as given, beside the instant that it names.
-#[derive(Drop, Debug)]
+#[derive(Debug)]
 pub struct Stamp {
     text: String,
     moment: Moment,
+}
+
+impl Drop for Stamp {
+    fn drop(self) {
+        let Stamp { text: _, moment: _ } = self;
+    }
 }
 
 impl Model for Stamp {

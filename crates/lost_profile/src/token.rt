@@ -23,9 +23,15 @@ pub const MAX_ID_BYTES: usize = 128;
 /// A token: a place by a name that those who make the map and those who ask agree on. It has 1 to 128 bytes of UTF-8, none
 /// below 32 and none 127, as a sourceId has (own rule). Its text lies in the value, so a token takes no memory. Tokens are
 /// compared, ordered and hashed by their bytes. Contracts see a token as its text.
-#[derive(Drop, Debug)]
+#[derive(Debug)]
 pub struct Token {
     text: ArrayString<MAX_ID_BYTES>,
+}
+
+impl Drop for Token {
+    fn drop(self) {
+        let Token { text: _ } = self;
+    }
 }
 
 impl Model for Token {

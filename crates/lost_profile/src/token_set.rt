@@ -14,9 +14,14 @@ use std::sync::Arc;
 
 /// The tokens that a mapping serves: 1 to 64 of them, none twice, in the order in which they were given (own rule). It
 /// never changes and is shared, so a copy costs a pointer. Contracts see a set as the list of its tokens' texts.
-#[derive(Drop)]
 pub struct TokenSet {
     tokens: Arc<Vec<Token>>,
+}
+
+impl Drop for TokenSet {
+    fn drop(self) {
+        let TokenSet { tokens: _ } = self;
+    }
 }
 
 impl Model for TokenSet {

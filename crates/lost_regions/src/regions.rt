@@ -22,13 +22,24 @@ use std::alloc::{AllocError, Global};
 use std::marker::Model;
 
 /// The regions of mappings under their numbers, which rise. Contracts see four lists of (number, regions).
-#[derive(Drop)]
 pub struct Regions {
     alloc: Global,
     points: Index<Geodetic2d>,
     addresses: Index<Civic>,
     references: NamedPatterns,
     tokens: Index<Tokens>,
+}
+
+impl Drop for Regions {
+    fn drop(self) {
+        let Regions {
+            alloc: _,
+            points: _,
+            addresses: _,
+            references: _,
+            tokens: _,
+        } = self;
+    }
 }
 
 impl Model for Regions {

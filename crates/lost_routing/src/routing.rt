@@ -14,12 +14,22 @@ use std::marker::Model;
 /// A book with tables and indexes to find the mappings that a question is about, and the withdrawal of an identity.
 /// Contracts see it as the record `Book`. A mapping's number is 64 times the edition before its publish, and the
 /// class of its service; a replacement keeps it.
-#[derive(Drop)]
 pub struct Routing {
     pub(crate) limits: Limits,
     pub(crate) edits: u64,
     pub(crate) store: Store,
     pub(crate) traces: Traces,
+}
+
+impl Drop for Routing {
+    fn drop(self) {
+        let Routing {
+            limits: _,
+            edits: _,
+            store: _,
+            traces: _,
+        } = self;
+    }
 }
 
 impl Model for Routing {

@@ -9,13 +9,24 @@ use std::alloc::{AllocError, Global};
 
 /// Lists of the numbers of mappings by identity, key, service and default. Contracts see them by `numbers_of`. A list
 /// may contain numbers whose mappings no longer belong there: a reader tests what it finds.
-#[derive(Drop)]
 pub struct Tables {
     alloc: Global,
     identities: IndexMap<Identity, Cell>,
     keys: IndexMap<String, Cell>,
     services: IndexMap<String, Cell>,
     defaults: IndexMap<String, Cell>,
+}
+
+impl Drop for Tables {
+    fn drop(self) {
+        let Tables {
+            alloc: _,
+            identities: _,
+            keys: _,
+            services: _,
+            defaults: _,
+        } = self;
+    }
 }
 
 impl Tables {

@@ -14,10 +14,16 @@ use std::marker::Model;
 
 /// A service URN (RFC 5031), as the list of its labels, the topmost first. There are 1 to 8 labels, each of 1 to
 /// 63 lower-case letters, digits and hyphens, with no hyphen at either end (the bounds are an own rule).
-#[derive(Drop, Debug)]
+#[derive(Debug)]
 pub struct ServiceUrn {
     text: String,
     depth: usize,
+}
+
+impl Drop for ServiceUrn {
+    fn drop(self) {
+        let ServiceUrn { text: _, depth: _ } = self;
+    }
 }
 
 impl Model for ServiceUrn {

@@ -19,10 +19,15 @@ const MOST_PLACES: u32 = 65_536;
 /// A reader with a cache of places' sets, each with its edition. Every place is kept while there is room; after that
 /// only a place that comes again is kept, in the room of the least recently used one. Contracts see the reader alone:
 /// the cache never changes a reply. A set of another edition is not used.
-#[derive(Drop)]
 pub struct CachedReader<S: BuildHasher = DefaultHasher> {
     reader: Reader,
     sets: PlaceCache<S>,
+}
+
+impl<S: BuildHasher + Drop> Drop for CachedReader<S> {
+    fn drop(self) {
+        let CachedReader { reader: _, sets: _ } = self;
+    }
 }
 
 impl<S: BuildHasher> Model for CachedReader<S> {
