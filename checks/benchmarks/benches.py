@@ -8,11 +8,10 @@ from typing import Callable, Dict, List, NamedTuple, Tuple
 from figures import Unexpected, count, megabytes, micro, milli, rows, seconds, table
 
 FIND = "`findService` at a point, over 60,000 boundaries"
-VALIDATE = "Validation of an address, over 60,000 mappings"
 LOAD = "Loading 60,000 boundaries of 20 to 400 positions"
 REPLIES = "Replies over TCP, one worker, 64 connections"
 COMMIT = "A commit over TCP at 60,000 mappings, 99 of 100 within"
-README_ROWS = [FIND, VALIDATE, LOAD, REPLIES, COMMIT]
+PLAIN = "Answers at points, beside a plain Rust server"
 
 Read = Tuple[str, Dict[str, str]]
 
@@ -59,7 +58,6 @@ def read_lines(text: str) -> Read:
     edits = table(["Microseconds an edit and its commit", *heads, *more], grown({name: name for name in EDITS}, spent, counted, sizes))
     shown = {
         FIND: f"{micro(spent[sizes[1], 'findService, found'])} µs",
-        VALIDATE: f"{micro(spent[sizes[1], 'validation of an address'])} µs",
         LOAD: f"{seconds(int(many) // 1_000)} s",
     }
     return f"`replay`, boundaries of 20 to 400 positions, by processor time.\n\n{lines}\n\n{edits}\n\n{said}", shown
@@ -147,33 +145,58 @@ def read_redis(text: str) -> Read:
 
 
 PLAIN_ROW = r" *([\d,]+)  (\S.*\S) {2,}(\S+) +(\S+) +(\d+\.\d\d)"
+PLAIN_HEADS = ["Through replay", "Over TCP", "Instructions"]
+HOT = "one hot point"
+POINTS = ["points all over the map", "points around a city", HOT]
+
+
+def plain_rows(text: str) -> List[List[Tuple[str, ...]]]:
+    """The rows of the comparison's tables, in the order of their heads."""
+    head, *parts = re.split(f"^({'|'.join(PLAIN_HEADS)})", text, flags=re.MULTILINE)
+    found = [re.findall(f"^{PLAIN_ROW}$", part, re.MULTILINE) for part in parts[1::2]]
+    if head.strip() or parts[::2] != PLAIN_HEADS or not all(found):
+        raise Unexpected(f"{len(found)} tables, or an empty one")
+    return found
+
+
+def plain_name(name: str) -> str:
+    """How the page calls what a row of the first two tables measures; empty where it leaves the row out."""
+    depth = re.fullmatch(r"depth (\d+), by (.+)", name)
+    if depth:
+        return f"over TCP, {depth[1]} at a time" if depth[2] == "processor time" else ""
+    return name.partition(",")[0] if name.startswith(("loading", "most")) else name
 
 
 def read_plain(text: str) -> Read:
     """How lostd compares with a plain Rust server that reads the same lines and is not proved."""
-    heads = [line for line in text.splitlines() if line.startswith("Through replay")]
-    found = re.findall(f"^{PLAIN_ROW}$", text, re.MULTILINE)
-    sizes = list(dict.fromkeys(size for size, *_ in found))
-    names = list(dict.fromkeys(what for _, what, *_ in found))
-    ratios = {(size, what): ratio for size, what, _, _, ratio in found}
-    if len(heads) != 1 or not found or len(ratios) != len(found) or len(found) != len(sizes) * len(names):
-        raise Unexpected(f"{len(found)} rows of {len(sizes)} sizes")
-    lines = [[what.partition(",")[0] if what.startswith(("loading", "most")) else what, *(ratios[size, what] for size in sizes)] for what in names]
+    replays, served, counted = plain_rows(text)
+    sizes = list(dict.fromkeys(size for size, *_ in replays))
+    named = [(size, plain_name(name), ratio) for size, name, *_, ratio in replays + served]
+    named += [(size, f"instructions, {name}", ratio) for size, name, *_, ratio in counted]
+    ratios = {(size, name): ratio for size, name, ratio in named if name}
+    names = list(dict.fromkeys(name for _, name in ratios))
+    if any((size, name) not in ratios for name in names for size in sizes if not name.startswith("instructions")):
+        raise Unexpected(f"{len(ratios)} ratios of {len(names)} kinds at {len(sizes)} sizes")
+    hot = [float(mine.replace(",", "")) for _, name, mine, *_ in replays if name == HOT]
+    flat = f"\n\nOf {HOT}, lostd answers {hot[-1] / hot[1]:.2f} times as many at {sizes[-1]} mappings as at {sizes[1]}." if len(hot) > 2 else ""
+    lines = [[name, *(ratios.get((size, name), "–") for size in sizes)] for name in names]
     said = "A share of what a server of the same lines in plain Rust has, by processor time: questions a second, the time of loading, the bytes of memory."
-    return f"{said}\n\n{table(['Mappings', *sizes], lines)}", {}
+    points = sorted(float(ratio) for (_, name), ratio in ratios.items() if name in POINTS)
+    return f"{said}\n\n{table(['Mappings', *sizes], lines)}{flat}", {PLAIN: f"{points[0]:.1f} to {points[-1]:.1f} times as many"} if points else {}
 
 
 class Section(NamedTuple):
-    """A section of the page: its title, the check that is run with words, and what reads its output."""
+    """A section of the page: its title, the check that is run with words, what reads its output, and other words it runs with."""
 
     title: str
     program: str
     words: List[str]
     read: Callable[[str], Read]
+    more: List[List[str]] = []
 
     @property
     def command(self) -> str:
-        """The command as the page shows it."""
+        """The first command, as the page shows it."""
         return " ".join([self.program, *self.words])
 
 
@@ -183,7 +206,7 @@ SECTIONS = [
     Section("Cache", "checks/speed/run", ["--only", "cache"], read_cache),
     Section("Connections", "checks/speed/run", ["--only", "connections"], read_connections),
     Section("Beside redis", "checks/redis/run", [], read_redis),
-    Section("Beside a plain server", "checks/plain-server/run", [], read_plain),
+    Section("Beside a plain server", "checks/plain-server/run", [], read_plain, [["--serve"], ["--instructions", "--kinds", "anywhere"]]),
     Section("Memory", "checks/resident-memory/run", [], read_memory),
     Section("A large map", "checks/benchmarks/loaded-server", [], read_loaded),
     Section("Gateway", "checks/gateway/run", ["--speed"], read_gateway),

@@ -9,7 +9,7 @@ This page is for whoever plans a server. `checks/benchmarks/run` writes it from 
 
 {run}
 
-"Instructions" compares the work: it is how many times as many the larger map takes, by valgrind.
+"Instructions" is how many times as many the larger map takes, by valgrind.
 """
 RUN = re.compile(r"^Measured on (\S+) at commit (.+?), on (.+)\.$", re.MULTILINE)
 SECTION = "\n## "

@@ -67,15 +67,21 @@ PRINTED: Dict[str, Dict[str, List[str]]] = {
         ],
     },
     "plain-server": {
-        "": [
-            "Through replay, by processor time; the middle of 5 rounds in turn. Questions: how many a second.",
-            "mappings  what                           lostd       plain   lostd / plain",
-            *[
-                f"{size:>8}  {what:<24}{mine:>12}{its:>12}{ratio:>16}" for size, ratio in (("30", "0.61"), ("60,000", "1.52")) for what, mine, its in (
-                    ("loading, seconds", "0.120", "0.080"), ("most memory, megabytes", "1,204", "998"), ("points all over the map", "412,001", "398,123"),
-                )
-            ],
-        ],
+        words: [head, "mappings  what                           lostd       plain   lostd / plain", *[
+            f"{size:>8}  {what:<24}{mine:>12}{its:>12}{ratio:>16}" for size, ratio in zip(sizes, ("0.61", "1.48", "1.52")) for what, mine, its in of
+        ]]
+        for words, head, sizes, of in (
+            ("", "Through replay, by processor time; the middle of 5 rounds in turn. Questions: how many a second.", ("30", "1,000", "60,000"), (
+                ("loading, seconds", "0.120", "0.080"), ("most memory, megabytes", "1,204", "998"), ("points all over the map", "412,001", "398,123"),
+                ("one hot point", "412,001", "398,123"),
+            )),
+            ("--serve", "Over TCP, points all over the map, one connection: replies a second, the middle of 5 rounds in turn.", ("30", "1,000", "60,000"), (
+                ("depth 1, by the clock", "41,001", "39,123"), ("depth 1, by processor time", "41,001", "39,123"),
+            )),
+            ("--instructions --kinds anywhere", "Instructions, by valgrind: of each desk line of the map, and of each of 2,000 questions of a kind.", ("30", "1,000"), (
+                ("a desk line", "41,001", "39,123"), ("points all over the map", "5,123", "10,123"),
+            )),
+        )
     },
     "resident-memory": {"": ["60000 boundaries: 260000000 bytes of desk lines, at most 442000000 bytes resident; 1.70 times"]},
     "loaded-server": {
@@ -92,7 +98,7 @@ PRINTED: Dict[str, Dict[str, List[str]]] = {
         ],
     },
 }
-README = ["findService` at a point", "Validation", "Loading", "Replies", "A commit"]
+README = ["findService` at a point", "Loading", "Replies", "A commit", "Answers at points"]
 
 
 def with_programs(folder: str, printed: Dict[str, Dict[str, List[str]]]) -> None:
@@ -142,12 +148,14 @@ class Benchmarks(unittest.TestCase):
             "Loading 1,024 boundaries takes 0.06 s, and 60,025 3.4 s, at 76 MB a second.",
             "Beside 100 commits a second, four workers give 64 connections 0.91 times (1 at a time) and 0.97 times (7 at a time) the replies.",
             "| 10 boundaries of 400 positions | 1.7 | 12 |", "| 1 boundary of 200 positions | 1.3 | 2.4 |", "| 60,025 | 17, 21 | 18, 27 | 90, 290 |",
-            "| Mappings | 30 | 60,000 |", "| loading | 0.61 | 1.52 |", "| most memory | 0.61 | 1.52 |", "| points all over the map | 0.61 | 1.52 |",
+            "| Mappings | 30 | 1,000 | 60,000 |", "| loading | 0.61 | 1.48 | 1.52 |", "| most memory | 0.61 | 1.48 | 1.52 |", "| points all over the map | 0.61 | 1.48 | 1.52 |",
+            "| over TCP, 1 at a time | 0.61 | 1.48 | 1.52 |", "| instructions, a desk line | 0.61 | 1.48 | – |",
+            "Of one hot point, lostd answers 1.00 times as many at 60,000 mappings as at 1,000.",
             "| one | 3,360 | 0.55 | 15.0 |", "| 1 | 16 | 45,700 | 54,300 | 0.84 | 0.81 |", "| 64 | 1 | 45,700 | 54,300 | 0.84 | 0.81 |",
             f"10,000 idle connections beside 64 leave 0.98 of the replies. Four workers, {CORES}, answer 64 connections 3.01 times (1 at a time) and 3.16 times (16 at a time) as fast as one.",
         ):
             self.assertIn(f"\n{row}\n", page)
-        self.assertEqual([row.rsplit("|", 2)[1].strip() for row in self.rows()], ["12 µs", "12 µs", "3.4 s", "45,700 a second", "0.29 ms"])
+        self.assertEqual([row.rsplit("|", 2)[1].strip() for row in self.rows()], ["12 µs", "3.4 s", "45,700 a second", "0.29 ms", "0.6 to 1.5 times as many"])
 
     def test_a_section_that_fails_stays_as_it_was(self) -> None:
         self.assertEqual(self.run_check(), (0, ""))
@@ -166,6 +174,13 @@ class Benchmarks(unittest.TestCase):
         page = self.read("docs/BENCHMARKS.md")
         self.assertNotIn("of a 286", page)
         self.assertEqual(re.findall("^## (.*)$", page, re.M), ["Cache"])
+
+    def test_tables_beside_a_plain_server(self) -> None:
+        whole = PRINTED["plain-server"]
+        for words, kept in (("", [whole[""][0]]), ("", whole[""][:-1]), ("--serve", whole["--serve"][:2]), ("--serve", whole["--serve"][:-1]), ("--serve", whole[""])):
+            with_programs(self.folder, {"plain-server": {**whole, words: kept}})
+            status, said = self.run_check("--only", "plain server")
+            self.assertEqual((status, len(said.splitlines())), (1, 1), said)
 
     def test_lines_without_instructions(self) -> None:
         plain = ["instructions: not counted: valgrind is missing", *[line.partition(" nanoseconds")[0] + " nanoseconds" + (
