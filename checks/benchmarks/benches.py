@@ -163,7 +163,7 @@ def plain_name(name: str) -> str:
     """How the page calls what a row of the first two tables measures; empty where it leaves the row out."""
     depth = re.fullmatch(r"depth (\d+), by (.+)", name)
     if depth:
-        return f"over TCP, {depth[1]} at a time" if depth[2] == "processor time" else ""
+        return f"TCP, {depth[1]} at a time" if depth[2] == "processor time" else ""
     return name.partition(",")[0] if name.startswith(("loading", "most")) else name
 
 
@@ -172,7 +172,7 @@ def read_plain(text: str) -> Read:
     replays, served, counted = plain_rows(text)
     sizes = list(dict.fromkeys(size for size, *_ in replays))
     named = [(size, plain_name(name), ratio) for size, name, *_, ratio in replays + served]
-    named += [(size, f"instructions, {name}", ratio) for size, name, *_, ratio in counted]
+    named += [(size, "instructions of a point", ratio) for size, name, *_, ratio in counted if name == POINTS[0]]
     ratios = {(size, name): ratio for size, name, ratio in named if name}
     names = list(dict.fromkeys(name for _, name in ratios))
     if any((size, name) not in ratios for name in names for size in sizes if not name.startswith("instructions")):

@@ -149,7 +149,7 @@ class Benchmarks(unittest.TestCase):
             "Beside 100 commits a second, four workers give 64 connections 0.91 times (1 at a time) and 0.97 times (7 at a time) the replies.",
             "| 10 boundaries of 400 positions | 1.7 | 12 |", "| 1 boundary of 200 positions | 1.3 | 2.4 |", "| 60,025 | 17, 21 | 18, 27 | 90, 290 |",
             "| Mappings | 30 | 1,000 | 60,000 |", "| loading | 0.61 | 1.48 | 1.52 |", "| most memory | 0.61 | 1.48 | 1.52 |", "| points all over the map | 0.61 | 1.48 | 1.52 |",
-            "| over TCP, 1 at a time | 0.61 | 1.48 | 1.52 |", "| instructions, a desk line | 0.61 | 1.48 | – |",
+            "| TCP, 1 at a time | 0.61 | 1.48 | 1.52 |", "| instructions of a point | 0.61 | 1.48 | – |",
             "Of one hot point, lostd answers 1.00 times as many at 60,000 mappings as at 1,000.",
             "| one | 3,360 | 0.55 | 15.0 |", "| 1 | 16 | 45,700 | 54,300 | 0.84 | 0.81 |", "| 64 | 1 | 45,700 | 54,300 | 0.84 | 0.81 |",
             f"10,000 idle connections beside 64 leave 0.98 of the replies. Four workers, {CORES}, answer 64 connections 3.01 times (1 at a time) and 3.16 times (16 at a time) as fast as one.",
