@@ -3,6 +3,7 @@
 Each reader gives the section's Markdown, and the figures in it that README shows too, by the words of their rows there.
 """
 import re
+import statistics
 from typing import Callable, Dict, List, NamedTuple, Tuple
 
 from figures import Unexpected, count, megabytes, micro, milli, rows, seconds, table
@@ -181,8 +182,8 @@ def read_plain(text: str) -> Read:
     flat = f"\n\nOf {HOT}, lostd answers {hot[-1] / hot[1]:.2f} times as many at {sizes[-1]} mappings as at {sizes[1]}." if len(hot) > 2 else ""
     lines = [[name, *(ratios.get((size, name), "–") for size in sizes)] for name in names]
     said = "A share of what a server of the same lines in plain Rust has, by processor time: questions a second, the time of loading, the bytes of memory."
-    points = sorted(float(ratio) for (_, name), ratio in ratios.items() if name in POINTS)
-    return f"{said}\n\n{table(['Mappings', *sizes], lines)}{flat}", {PLAIN: f"{points[0]:.1f} to {points[-1]:.1f} times as many"} if points else {}
+    points = [float(ratio) for (_, name), ratio in ratios.items() if name in POINTS]
+    return f"{said}\n\n{table(['Mappings', *sizes], lines)}{flat}", {PLAIN: f"{statistics.median(points):.1f} times as many"} if points else {}
 
 
 class Section(NamedTuple):
