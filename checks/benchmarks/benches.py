@@ -181,7 +181,7 @@ def read_plain(text: str) -> Read:
     hot = [float(mine.replace(",", "")) for _, name, mine, *_ in replays if name == HOT]
     flat = f"\n\nOf {HOT}, lostd answers {hot[-1] / hot[1]:.2f} times as many at {sizes[-1]} mappings as at {sizes[1]}." if len(hot) > 2 else ""
     lines = [[name, *(ratios.get((size, name), "–") for size in sizes)] for name in names]
-    said = "A share of what a server of the same lines in plain Rust has, by processor time: questions a second, the time of loading, the bytes of memory."
+    said = "A share of what a server of the same lines in plain Rust has, by processor time: questions a second, loading time, memory. TCP is `--serve`, instructions `--instructions`."
     points = [float(ratio) for (_, name), ratio in ratios.items() if name in POINTS]
     return f"{said}\n\n{table(['Mappings', *sizes], lines)}{flat}", {PLAIN: f"{statistics.median(points):.1f} times as many"} if points else {}
 
