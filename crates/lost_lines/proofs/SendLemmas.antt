@@ -60,3 +60,16 @@ Sends-settled a b c gathered left last text first second none = record {
 pub AppendsFront-settled : (a b c : Option Text) (gathered left text : Text) → Sends a gathered b left text → AppendsFront b c left → AppendsFront a c (gathered ++ text)
 AppendsFront-settled a b c gathered left text first w =
     (first.sent ++ w.0, w.1, first.whole ∙ ap (λ l. first.sent ++ l) w.2 ∙ sym (append_assoc first.sent w.0 w.1), Appends-trans a b c first.sent w.0 first.appended w.3)
+
+-- all that was gathered was written, and then the text is added to nothing, or written too
+pub Sends-again : (a b c : Option Text) (gathered empty left text : Text) → Appends a b gathered → empty ≡ [] → Sends b empty c left text → Sends a gathered c left text
+Sends-again a b c gathered empty left text first none second = record {
+  sent = gathered ++ second.sent;
+  appended = Appends-trans a b c gathered second.sent first second.appended;
+  whole = ap (λ l. gathered ++ (l ++ text)) (sym none) ∙ ap (λ l. gathered ++ l) second.whole ∙ sym (append_assoc gathered second.sent left);
+}
+
+-- or a front of it
+pub AppendsFront-again : (a b c : Option Text) (gathered empty text : Text) → Appends a b gathered → empty ≡ [] → AppendsFront b c (empty ++ text) → AppendsFront a c (gathered ++ text)
+AppendsFront-again a b c gathered empty text first none w =
+    (gathered ++ w.0, w.1, ap (λ l. gathered ++ (l ++ text)) (sym none) ∙ ap (λ l. gathered ++ l) w.2 ∙ sym (append_assoc gathered w.0 w.1), Appends-trans a b c gathered w.0 first w.3)

@@ -33,8 +33,27 @@ pub(crate) fn pass_on<W: Write>(
     settle(gathered, output)
 }
 
-/// Gathers a text; where there is no room, sends the gathered bytes and then the text.
+/// Gathers a text; where there is no room, sends the gathered bytes first.
 fn gather<W: Write>(
+    gathered: &mut Vec<u8>,
+    output: &mut Watched<W>,
+    text: &[u8],
+) -> Result<(), ServeError>
+    ensures ok { OnOk result (Sends (W.contents (inner_of output.old)) gathered.old.items
+        (W.contents (inner_of output.new)) gathered.new.items text.now) }
+    ensures err { OnErr result (AppendsFront (W.contents (inner_of output.old)) (W.contents (inner_of output.new))
+        (gathered.old.items ++ text.now)) }
+    ensures flag { SetsFlag output.old output.new result }
+{
+    if add(gathered, text) {
+        return Ok(());
+    }
+    release(gathered, output)?;
+    gather_or_send(gathered, output, text)
+}
+
+/// Gathers a text; where there is no room, sends the gathered bytes and then the text.
+fn gather_or_send<W: Write>(
     gathered: &mut Vec<u8>,
     output: &mut Watched<W>,
     text: &[u8],
