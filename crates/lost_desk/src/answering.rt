@@ -32,8 +32,8 @@ pub(crate) fn reply_over<H: Holdings>(
 ) -> Result<Vec<u8>, AllocError>
     ensures { IfOk result (λ reply. reply.items ≡ line_reply (H.book holdings.now) name.now moment.now line.now) }
 {
-    match read_request(alloc, line, scratch) {
-        Ok(request) => reply_request(alloc, holdings, name, moment, &request),
+    match &read_request(alloc, line, scratch) {
+        Ok(request) => reply_request(alloc, holdings, name, moment, request),
         Err(ReadError::BadRequest) => write_reply(alloc, &Reply::BadRequest),
         Err(ReadError::Memory) => Err(AllocError),
     }
@@ -55,8 +55,8 @@ pub(crate) fn reply_over_sets<S: PlaceSets>(
     ensures reply { IfOk result (λ reply. reply.items ≡ line_reply book.now name.now moment.now line.now) }
     ensures kept { KeepsOnly (S.keeps sets.old) book.now (S.keeps sets.new) }
 {
-    match read_request(alloc, line, scratch) {
-        Ok(request) => answer_request(alloc, sets, book, name, moment, &request),
+    match &read_request(alloc, line, scratch) {
+        Ok(request) => answer_request(alloc, sets, book, name, moment, request),
         Err(ReadError::BadRequest) => write_reply(alloc, &Reply::BadRequest),
         Err(_) => Err(AllocError),
     }

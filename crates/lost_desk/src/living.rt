@@ -9,7 +9,7 @@ use lost_routing::Routing;
 use std::alloc::{AllocError, Global};
 
 /// The positions whose mappings are live and no defaults, in their order. The positions are below the book's `len`; up
-/// to eight of them take no memory.
+/// to two of them take no memory.
 pub(crate) fn living_among(
     alloc: Global,
     book: &Routing,

@@ -47,8 +47,10 @@ pub fn reply_request<H: Holdings>(
     ensures { IfOk result (λ reply. (line : Text) → line_request line ≡ Some (request_of request.now)
         → reply.items ≡ line_reply (H.book holdings.now) name.now moment.now line) }
 {
-    let reply = answer(alloc, holdings, name, moment, request)?;
-    write_reply(alloc, &reply)
+    match &answer(alloc, holdings, name, moment, request) {
+        Ok(reply) => write_reply(alloc, reply),
+        Err(error) => Err(*error),
+    }
 }
 
 /// Answers what was asked over these holdings at an instant, and writes the reply's line.
@@ -60,6 +62,8 @@ pub fn reply_asked<H: Holdings>(
 ) -> Result<Vec<u8>, AllocError>
     ensures { IfOk result (λ reply. reply.items ≡ reply_text (reply_asked (H.book holdings.now) moment.now asked.now)) }
 {
-    let reply = answer_asked(alloc, holdings, moment, asked)?;
-    write_reply(alloc, &reply)
+    match &answer_asked(alloc, holdings, moment, asked) {
+        Ok(reply) => write_reply(alloc, reply),
+        Err(error) => Err(*error),
+    }
 }

@@ -7,8 +7,8 @@ use Rattle.lost_location.specs.declared.place.Place.TheVariants.{Point as KeptPo
 -- where a request asks (RFC 5222, section 12; tokens own)
 abbrev pub place_of : Kept → Place
 place_of (KeptPoint point) = AtPoint point
-place_of (KeptAddress address) = AtAddress address
-place_of (KeptToken token) = AtToken token
+place_of (KeptAddress address) = AtAddress address.value
+place_of (KeptToken token) = AtToken token.value
 
 -- places that this equality takes for equal are seen as one place (own)
 abbrev pub EqualPlacesAreOne : (Kept → Kept → Bool) → Type 0

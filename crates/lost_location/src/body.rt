@@ -1,8 +1,8 @@
 //! What a location of a request holds, and the place that it is.
-ghost use Rattle.std.specs.Prelude.{◌≡◌, None, Ok, IfOk, IfSome, option_map};
+ghost use Rattle.std.specs.Prelude.{◌≡◌, None, Some, Ok, IfOk, IfSome, option_map};
 ghost use Rattle.std.specs.Cow.{cow_str_bytes};
 ghost use Rattle.lost_spec.specs.Civic.{address_fault};
-ghost use Rattle.lost_spec.specs.Place.{point_place, address_place, token_place, place_of, place_in};
+ghost use Rattle.lost_spec.specs.Place.{AtAddress, point_place, address_place, token_place, place_of, place_in};
 ghost use Rattle.lost_civic.specs.Pairs.{seen_pairs};
 ghost use Rattle.lost_location.specs.Body.{body_of};
 ghost use Rattle.lost_location.specs.Place.{place_of as seen_place};
@@ -16,6 +16,7 @@ use std::alloc::{AllocError, Global};
 use std::borrow::CowStr;
 
 /// What a location holds (RFC 5222, section 12).
+#[derive(Drop)]
 pub enum Body<'a> {
     /// A latitude and a longitude, in whole 1e-7 degrees, in range or not.
     Point(i64, i64),
@@ -25,17 +26,6 @@ pub enum Body<'a> {
     Token(CowStr<'a>),
     /// Content of another shape.
     Unreadable,
-}
-
-impl<'a> Drop for Body<'a> {
-    fn drop(self) {
-        match self {
-            Body::Point(_, _) => {}
-            Body::Address(_) => {}
-            Body::Token(_) => {}
-            Body::Unreadable => {}
-        }
-    }
 }
 
 /// The place of a body, if its kind is known, it is of that kind, and it is not refused (RFC 5222, section 12).
@@ -59,7 +49,7 @@ fn place_of(alloc: Global, kind: PlaceKind, body: &Body<'_>) -> Result<Option<Pl
     match (kind, body) {
         (PlaceKind::Geodetic2d, Body::Point(lat, lon)) => Ok(point_place(*lat, *lon)),
         (PlaceKind::Civic, Body::Address(pairs)) => address_place(alloc, pairs),
-        (PlaceKind::XToken, Body::Token(token)) => Ok(token_place(token.as_str())),
+        (PlaceKind::XToken, Body::Token(token)) => token_place(alloc, token.as_str()),
         _ => Ok(None),
     }
 }
@@ -84,7 +74,7 @@ fn address_place(alloc: Global, pairs: &Vec<(String, String)>) -> Result<Option<
         return Ok(None);
     }
     match CivicAddress::from_pairs(alloc, copied_pairs(pairs)?) {
-        Ok(address) => Ok(Some(Place::Address(address))),
+        Ok(address) => boxed_address(alloc, address),
         Err(fault) => {
             if fault == CivicError::Memory {
                 Err(AllocError)
@@ -95,6 +85,13 @@ fn address_place(alloc: Global, pairs: &Vec<(String, String)>) -> Result<Option<
     }
 }
 
+/// The place of an address.
+fn boxed_address(alloc: Global, address: CivicAddress) -> Result<Option<Place>, AllocError>
+    ensures { IfOk result (λ place. option_map seen_place place ≡ Some (AtAddress address)) }
+{
+    Ok(Some(Place::Address(Box::new(alloc, address)?)))
+}
+
 /// A copy of names and values.
 fn copied_pairs(pairs: &Vec<(String, String)>) -> Result<Vec<(String, String)>, AllocError>
     ensures { IfOk result (λ copy. seen_pairs copy.items ≡ seen_pairs pairs.now.items) }
@@ -103,11 +100,11 @@ fn copied_pairs(pairs: &Vec<(String, String)>) -> Result<Vec<(String, String)>, 
 }
 
 /// The place of a token's text, or none if it is no token.
-fn token_place(text: &str) -> Option<Place>
-    ensures { option_map seen_place result ≡ token_place text.now }
+fn token_place(alloc: Global, text: &str) -> Result<Option<Place>, AllocError>
+    ensures { IfOk result (λ place. option_map seen_place place ≡ token_place text.now) }
 {
     match Token::parse(text.as_bytes()) {
-        Ok(token) => Some(Place::Token(token)),
-        Err(_) => None,
+        Ok(token) => Ok(Some(Place::Token(Box::new(alloc, token)?))),
+        Err(_) => Ok(None),
     }
 }

@@ -11,25 +11,15 @@ use lost_spec::places::PlaceKind;
 
 /// A point, a civic address (RFC 5222, section 12), or a token. Two places are equal if they are points of one latitude
 /// and one longitude, addresses with the same pairs in the same order, names and values byte for byte, or tokens with the
-/// same bytes.
-#[derive(PartialEq, Eq, Hash)]
+/// same bytes. An address and a token lie in a box, so that a place at a point is small.
+#[derive(PartialEq, Eq, Hash, Drop)]
 pub enum Place {
     /// A point of the profile `geodetic-2d`.
     Point(GeoPoint),
     /// An address of the profile `civic`.
-    Address(CivicAddress),
+    Address(Box<CivicAddress>),
     /// A token of the profile `x-token`.
-    Token(Token),
-}
-
-impl Drop for Place {
-    fn drop(self) {
-        match self {
-            Place::Point(_) => {}
-            Place::Address(_) => {}
-            Place::Token(_) => {}
-        }
-    }
+    Token(Box<Token>),
 }
 
 impl Place {

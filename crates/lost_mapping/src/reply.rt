@@ -7,6 +7,7 @@ use lost_urn::ServiceUrn;
 
 /// A reply (RFC 5222, sections 8.4, 9 to 11 and 13.1). `edition` is the number of edits of the book that it answers
 /// from, `path` the request's with the server's name after it.
+#[derive(Drop)]
 pub enum Reply<'a> {
     /// The mappings found (RFC 5222, section 8.4).
     FindServiceResponse {
@@ -45,43 +46,6 @@ pub enum Reply<'a> {
     BadRequest,
     /// Memory ran out (RFC 5222, section 13.1).
     InternalError,
-}
-
-impl<'a> Drop for Reply<'a> {
-    fn drop(self) {
-        match self {
-            Reply::FindServiceResponse {
-                edition: _,
-                location_used: _,
-                validation: _,
-                mappings: _,
-                path: _,
-                warnings: _,
-            } => {}
-            Reply::ListServicesByLocationResponse {
-                edition: _,
-                location_used: _,
-                path: _,
-                services: _,
-            } => {}
-            Reply::ListServicesResponse {
-                edition: _,
-                path: _,
-                services: _,
-            } => {}
-            Reply::GetServiceBoundaryResponse {
-                edition: _,
-                path: _,
-                mapping: _,
-            } => {}
-            Reply::Errors {
-                edition: _,
-                error: _,
-            } => {}
-            Reply::BadRequest => {}
-            Reply::InternalError => {}
-        }
-    }
 }
 
 /// The mappings found, at least one, in their order, and how the boundary of each is shown (RFC 5222, section 8.4.1):

@@ -5,6 +5,7 @@ use std::borrow::CowStr;
 
 /// A request (RFC 5222, sections 8 to 11). Its texts are borrowed from the line, or owned. `path` has the names of the
 /// servers that it came by, in order (RFC 5222, section 6).
+#[derive(Drop)]
 pub enum Request<'a> {
     /// The mappings for a service at a location (RFC 5222, section 8). `validate` asks for validation of a civic
     /// address, and `by_value` for boundaries in place of references.
@@ -31,30 +32,6 @@ pub enum Request<'a> {
         key: CowStr<'a>,
         path: Vec<CowStr<'a>>,
     },
-}
-
-impl<'a> Drop for Request<'a> {
-    fn drop(self) {
-        match self {
-            Request::FindService {
-                service: _,
-                locations: _,
-                validate: _,
-                by_value: _,
-                path: _,
-            } => {}
-            Request::ListServicesByLocation {
-                service: _,
-                locations: _,
-                path: _,
-            } => {}
-            Request::ListServices {
-                service: _,
-                path: _,
-            } => {}
-            Request::GetServiceBoundary { key: _, path: _ } => {}
-        }
-    }
 }
 
 /// The locations of a request, at least one (RFC 5222, section 8.3.1): a request with one takes no memory for a list.

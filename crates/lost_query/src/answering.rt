@@ -29,8 +29,10 @@ pub fn answer<'a, H: Holdings>(
     ensures { IfOk result (λ reply.
         reply_of reply ≡ answer (H.book holdings.now) name.now moment.now (request_of request.now)) }
 {
-    let asked = Asked::of_request(alloc, name, request)?;
-    answer_asked(alloc, holdings, moment, &asked)
+    match &Asked::of_request(alloc, name, request) {
+        Ok(asked) => answer_asked(alloc, holdings, moment, asked),
+        Err(error) => Err(*error),
+    }
 }
 
 /// The answer to what was asked at an instant, over these holdings: [`answer`] is this one after

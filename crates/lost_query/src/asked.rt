@@ -21,18 +21,10 @@ use std::alloc::{AllocError, Global};
 
 /// What a request asks of a server, whatever mappings are held: a question, with the place of the location used if it is
 /// asked at one, or the error that answers it (RFC 5222, sections 8 to 13). The place was found once.
+#[derive(Drop)]
 pub struct Asked<'a> {
     pub(crate) path: Path<'a>,
     pub(crate) question: Question<'a>,
-}
-
-impl<'a> Drop for Asked<'a> {
-    fn drop(self) {
-        let Asked {
-            path: _,
-            question: _,
-        } = self;
-    }
 }
 
 /// The four questions, or the error that answers the request.

@@ -18,8 +18,8 @@ use lost_urn::ServiceUrn;
 use smallvec::SmallVec;
 use std::alloc::AllocError;
 
-/// Positions of mappings in a book's list, rising. Up to eight take no memory (own rule).
-pub type Positions = SmallVec<usize, 8>;
+/// Positions of mappings in a book's list, rising. Up to two take no memory (own rule).
+pub type Positions = SmallVec<usize, 2>;
 
 /// The positions that a question picks, unless memory is refused.
 pub type Picked = Result<Positions, AllocError>;

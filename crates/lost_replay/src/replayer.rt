@@ -24,7 +24,7 @@ pub struct Replayer<'a> {
     name: &'a Source,
     moment: Moment,
     books: Books,
-    scratch: Scratch,
+    scratch: Box<Scratch>,
     /// The outcome of the last line.
     outcome: Outcome,
     /// The number of refused lines. It stays at its greatest value.
@@ -40,7 +40,7 @@ impl<'a> Replayer<'a> {
             name,
             moment: *moment,
             books: Books::new(alloc)?,
-            scratch: Scratch::new(alloc),
+            scratch: Box::new(alloc, Scratch::new(alloc))?,
             outcome: Outcome::Unjudged,
             refused: 0,
         })

@@ -81,14 +81,14 @@ fn halved(numbers: &TieredVec<u64>, number: u64, start: usize, end: usize) -> us
 }
 
 /// The positions, rising, of the things that pass a test. The numbers of the things rise. The candidates contain the
-/// number of each thing that passes, in any order, and may contain others. Up to eight positions take no memory.
+/// number of each thing that passes, in any order, and may contain others. Up to two positions take no memory.
 pub fn select<F: Fn(&Mapping) -> bool>(
     alloc: Global,
     numbers: &TieredVec<u64>,
     things: &TieredVec<Mapping>,
     candidates: &[u64],
     passes: F,
-) -> Result<SmallVec<usize, 8>, AllocError>
+) -> Result<SmallVec<usize, 2>, AllocError>
     requires callable { F.IsAlwaysCallable passes }
     requires rising { IsStrictlySortedBy nat_cmp numbers.now }
     requires paired { length numbers.now ≡ length things.now }

@@ -33,6 +33,8 @@ pub(crate) struct PlaceLine<'a> {
 
 /// Reads a compact line of a `findService` at one place: the members of each object in the order of their names,
 /// no space and no escape (RFC 5222, section 8; own format). `None` says nothing of the line.
+// Inlined, it makes the request where the caller wants it: one is large to move.
+#[inline(always)]
 pub(crate) fn read_compact<'a>(alloc: Global, line: &'a [u8]) -> Option<Request<'a>>
     ensures request { IfSome result (λ request. line_request line.now ≡ Some (request_of request)) }
     ensures no_desk_line { OnSome result (desk_line line.now ≡ None) }

@@ -31,24 +31,25 @@ pub fn read_common<'a>(
     ensures request { IfSome result (λ request. line_request line.now ≡ Some (request_of request)) }
     ensures no_desk_line { OnSome result (desk_line line.now ≡ None) }
 {
-    match read_common_line(alloc, line, scratch) {
+    if let Some(request) = read_compact(alloc, line) {
+        return Some(request);
+    }
+    match read_less_compact(alloc, line, scratch) {
         Some(Line::Request(request)) => Some(request),
         _ => None,
     }
 }
 
 /// Reads a line of a common shape by its tokens: a request, or a desk line that publishes or replaces a mapping and is
-/// not refused (own format). `None` says nothing of the line, as in [`read_common`].
-pub(crate) fn read_common_line<'a>(
+/// not refused (own format). `None` says nothing of the line, as in [`read_common`]. Those that [`read_compact`] reads are
+/// read sooner there.
+pub(crate) fn read_less_compact<'a>(
     alloc: Global,
     line: &'a [u8],
     scratch: &'a mut Scratch,
 ) -> Option<Line<'a>>
     ensures { IfSome result (λ found. GivesWhole (Ok found) (desk_line line.now) (line_request line.now)) }
 {
-    if let Some(request) = read_compact(alloc, line) {
-        return Some(Line::Request(request));
-    }
     match read_compact_desk(alloc, line) {
         Some(order) => Some(Line::Desk(order)),
         None => read_by_tokens(alloc, line, scratch),

@@ -45,9 +45,9 @@ pub(crate) fn said(alloc: Global, call: &str, fields: &Fields) -> Result<String,
 /// The place of a text: a token behind its word, an address where there is a `=`, or else a point.
 pub(crate) fn place(alloc: Global, text: &str) -> Result<Place, Trouble> {
     if let Some(text) = text.strip_prefix(TOKEN) {
-        Ok(Place::Token(token(alloc, text.as_bytes())?))
+        Ok(Place::Token(Box::new(alloc, token(alloc, text.as_bytes())?)?))
     } else if text.contains('=') {
-        Ok(Place::Address(address(alloc, text)?))
+        Ok(Place::Address(Box::new(alloc, address(alloc, text)?)?))
     } else {
         Ok(Place::Point(point(text)?))
     }
