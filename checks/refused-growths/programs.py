@@ -27,7 +27,7 @@ FURTHER = [
 ]
 # What serve_desk answers to a line whose growth is refused.
 NO_MEMORY = b'{"refused":{"code":20,"name":"Memory"}}'
-# What rows_index says of a refused call, with the answer of the index after it, and of the same call again.
+# What the command index of rows_books says of a refused call, with the answer of the index after it, and of the same call again.
 REFUSED = {
     b"first put refused:": [b"first put again: 1"],
     b"second put refused: 1": [b"second put again: 1 2"],
@@ -350,12 +350,12 @@ def desk_streams(library):
 
 
 class Index(Program):
-    """The rows of an index of the program rows_index, which tells of a refused call and makes it again."""
+    """The covers and the row of an index of the program rows_books, which tells of a refused call and makes it again."""
 
     must_end = tuple(line.split(b":")[0].decode() for line in REFUSED)
 
     def __init__(self, library):
-        super().__init__("rows_index", library, "covers", "index")
+        super().__init__("rows_books", library, "covers", "index")
         self.answers = lines_of(self.wanted)
 
     def judge(self, refused):

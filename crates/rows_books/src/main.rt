@@ -1,12 +1,18 @@
-//! Cases of public calls, and rows of edits over the plain book and the indexed one. Each word of the command line is a
-//! command. The commands run in turn, and each prints below its word. The exit status is 1 where a case gives something
-//! else than it should, and 2 where there is no word, or an unknown one.
+//! Cases of public calls, rows of edits over the plain book and the indexed one, and rows of the index and of the crates
+//! below it. Each word of the command line is a command. The commands run in turn, and each prints below its word. The
+//! exit status is 1 where a case gives something else than it should or a list in chunks differs from a plain one, and 2
+//! where there is no word, or an unknown one.
 //!
 //! - `NAME.cases`: the cases of this table ([`cases`] says how it is written).
 //! - `edits`: applies the edits of standard input, which are desk lines, to both books. Prints the answers of each,
 //!   with the identities whose publish it refuses as withdrawn. A line `limits` begins both anew with these limits. If
 //!   memory is refused for an edit, prints what the book then answers, and applies the edit again; if for a question,
 //!   asks it again.
+//! - `covers`: the cells of rings, and those under which a point is looked up.
+//! - `index`: a row of edits of the map's index. A step to which memory is refused is made again.
+//! - `keys`: the questions of the table `keys.rows` on civic keys.
+//! - `chunks`: a list in chunks, edited beside a plain list.
+//! - `sets`: the same row as `index` over token sets, and which numbers hold each of some tokens.
 //! - `calls`: the calls that take no memory, on values made before. The books are those of the table `calls.rows`.
 //!   `prepared` makes the values alone.
 //!
@@ -17,10 +23,14 @@ mod asking;
 mod calls;
 mod cases;
 mod edits;
+mod index;
 mod kinds;
 mod traces;
 
+use index::{chunks, covers, keys, row, sets};
 use lost_book::Book;
+use lost_grid::Geodetic2d;
+use lost_profile::Tokens;
 use lost_routing::Routing;
 use std::io;
 use std::process::ExitCode;
@@ -28,7 +38,7 @@ use std::rt::Files;
 use test_parts::given;
 
 /// The commands.
-const WORDS: [&str; 15] = [
+const WORDS: [&str; 20] = [
     "book.cases",
     "civic.cases",
     "geo.cases",
@@ -42,6 +52,11 @@ const WORDS: [&str; 15] = [
     "tokens.cases",
     "urn.cases",
     "edits",
+    "covers",
+    "index",
+    "keys",
+    "chunks",
+    "sets",
     "calls",
     "prepared",
 ];
@@ -59,9 +74,26 @@ fn run<R: Files + Input + Print + AllocGlobal>(rt: &R, command: &str) -> io::Res
     println!(rt; "== {command}")?;
     match command {
         "edits" => edits::edit_books::<R, Book, Routing>(rt)?,
-        "calls" => calls::print_calls::<R, Book, Routing>(rt, true)?,
-        "prepared" => calls::print_calls::<R, Book, Routing>(rt, false)?,
+        "covers" => covers::print_all(rt)?,
+        "index" => row::print_all::<R, Geodetic2d>(rt)?,
+        "keys" => keys::print_answers(rt)?,
+        "chunks" => return chunks::print_edits(rt),
+        "sets" => print_sets(rt)?,
+        "calls" => print_calls(rt, true)?,
+        "prepared" => print_calls(rt, false)?,
         table => return cases::print_table(rt, table),
     }
     Ok(true)
+}
+
+/// The row of an index over token sets, and which numbers hold each of some tokens.
+fn print_sets<R: Print + AllocGlobal>(rt: &R) -> io::Result<()> {
+    row::print_all::<R, Tokens>(rt)?;
+    sets::print_all(rt)
+}
+
+/// Makes the values of both kinds of calls. If `are_made`, makes the calls too and prints their answers.
+fn print_calls<R: Files + Print + AllocGlobal>(rt: &R, are_made: bool) -> io::Result<()> {
+    calls::print_calls::<R, Book, Routing>(rt, are_made)?;
+    index::calls::print_all(rt, are_made)
 }

@@ -1,6 +1,6 @@
 //! Covers and probes.
 
-use crate::rings::{Corners, EARTH, FAR, NEAR, TWO, UNDER_TWO, point, square};
+use super::rings::{Corners, EARTH, FAR, NEAR, TWO, UNDER_TWO, point, square};
 use lost_grid::{Cell, Geodetic2d};
 use lost_profile::Profile;
 use std::io;

@@ -9,18 +9,27 @@
 //! - `near PATTERN / ADDRESS` and `reference-near PATTERN / ADDRESS / ELEMENTS`: whether the pattern's outline says that
 //!   it may. It must where the pattern contains the address, and it refuses most others.
 
-use crate::reading::{address, pattern, required};
+use super::reading::{address, pattern, required};
 use lost_civic::Element;
 use lost_civicdex::{Civic, HashedKey, References};
 use lost_profile::Profile;
 use std::alloc::{AllocError, Global};
-use std::io;
+use std::rt::Files;
+use std::{fs, io};
 
-/// Prints each question of standard input with its answer.
-pub(crate) fn print_answers<R: Input + Print + AllocGlobal>(rt: &R) -> io::Result<()> {
-    for line in rt.lines(rt.alloc()) {
-        let line = line?;
-        match answer(rt.alloc(), line.as_str()) {
+/// The table of the questions.
+const TABLE: &str = "keys.rows";
+
+/// Prints each question of the table with its answer.
+pub(crate) fn print_answers<R: Files + Print + AllocGlobal>(rt: &R) -> io::Result<()> {
+    let table = fs::read_to_string(rt, TABLE)?;
+    print_lines(rt, table.as_str())
+}
+
+/// Prints each question of a table with its answer.
+fn print_lines<R: Print + AllocGlobal>(rt: &R, table: &str) -> io::Result<()> {
+    for line in table.lines() {
+        match answer(rt.alloc(), line) {
             Some(answer) => println!(rt; "{line}: {answer}")?,
             None => println!(rt; "{line}: unreadable")?,
         }

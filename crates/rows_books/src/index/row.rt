@@ -1,8 +1,8 @@
 //! A row of edits of an index, over any kind of location.
 ghost use Rattle.std.specs.Prelude.{◌≡◌, [], IfOk, length};
 
-use crate::rings::{FAR, NEAR, point, square};
-use crate::tokens::{set, token};
+use super::rings::{FAR, NEAR, point, square};
+use super::sets::{set, token};
 use lost_geo::Polygon;
 use lost_grid::Geodetic2d;
 use lost_index::Index;

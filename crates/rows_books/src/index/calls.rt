@@ -2,9 +2,9 @@
 //! index. Their values are made first.
 ghost use Rattle.std.specs.Prelude.{◌≡◌, IfOk, length};
 
-use crate::reading::{address, pattern, required};
-use crate::rings::{FAR, NEAR, point, square};
-use crate::tokens::{token, two};
+use super::reading::{address, pattern, required};
+use super::rings::{FAR, NEAR, point, square};
+use super::sets::{token, two};
 use lost_civic::CivicPattern;
 use lost_civicdex::{Civic, References};
 use lost_geo::Polygon;
