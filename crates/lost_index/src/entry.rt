@@ -68,7 +68,6 @@ impl<P: Profile> Entry<P> {
 
     /// Whether some region contains the location.
     pub(crate) fn contains(&self, location: &P::Location) -> bool
-        requires { P.is_location location.now }
         ensures { result ≡ list_any (λ region. P.holds region location.now) self.now }
     {
         for one in &self.kept {

@@ -61,7 +61,6 @@ impl<P: Profile> Held<P> {
 
     /// Whether the number is held, with a region that contains the location.
     pub(crate) fn contains(&self, number: u64, location: &P::Location) -> bool
-        requires { P.is_location location.now }
         ensures { result ≡ is_holder P.holds location.now self.now number }
     {
         match chunks::get(&self.chunks, number) {

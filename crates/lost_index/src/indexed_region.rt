@@ -5,10 +5,9 @@ ghost use Rattle.std.specs.List.{list_any};
 use lost_profile::Profile;
 use std::marker::Model;
 
-/// A region with its outline. The keys of its cover are made anew where they are needed. Contracts see it as the region.
+/// A region. Its outline and the keys of its cover are made anew where they are needed. Contracts see it as the region.
 #[derive(Drop)]
 pub(crate) struct IndexedRegion<P: Profile> {
-    outline: P::Outline,
     region: P::Region,
 }
 
@@ -19,17 +18,18 @@ impl<P: Profile> Model for IndexedRegion<P> {
 
     ghost view = { λ a. a.region };
 
-    ghost invariant = { λ a. (a.outline ≡ P.outline_of a.region) × P.is_region a.region };
+    ghost invariant = { λ a. P.is_region a.region };
 }
 
 impl<P: Profile> IndexedRegion<P> {
-    /// The region with its outline.
+    /// The region, to be kept.
     pub(crate) fn new(region: P::Region) -> IndexedRegion<P>
         ensures region { result ≡ region }
         ensures is_region { P.is_region result }
     {
-        let outline = P::outline(&region);
-        IndexedRegion { outline, region }
+        // Shows to the proof that it is a region.
+        let _outline = P::outline(&region);
+        IndexedRegion { region }
     }
 
     /// The number of positions at which the keys of its cover stand, or a few more.
@@ -37,7 +37,7 @@ impl<P: Profile> IndexedRegion<P> {
         ensures { length (P.cover_of self.now) ≤ result }
     {
         // Shows to the proof that it is a region.
-        let _outline = &self.outline;
+        let _region = &self.region;
         P::COVER_MAX
     }
 
@@ -52,21 +52,20 @@ impl<P: Profile> IndexedRegion<P> {
     pub(crate) fn outline(&self) -> P::Outline
         ensures { result ≡ P.outline_of self.now }
     {
-        self.outline
+        P::outline(&self.region)
     }
 
     /// Whether its outline is equal to this one, and the key is one of its cover.
     pub(crate) fn covers_with(&self, key: &P::Key, outline: &P::Outline) -> bool
         ensures { result ≡ (P.Outline.eq outline.now (P.outline_of self.now) && list_any (P.Key.eq key.now) (P.cover_of self.now)) }
     {
-        *outline == self.outline && P::has_key(&self.region, key)
+        *outline == P::outline(&self.region) && P::has_key(&self.region, key)
     }
 
-    /// Whether the region contains the location. The outline rules out most regions that do not.
+    /// Whether the region contains the location.
     pub(crate) fn contains(&self, location: &P::Location) -> bool
-        requires { P.is_location location.now }
         ensures { result ≡ P.holds self.now location.now }
     {
-        P::is_near(&self.outline, location) && P::contains(&self.region, location)
+        P::contains(&self.region, location)
     }
 }

@@ -4,5 +4,5 @@ use Rattle.lost_index.proofs.indexed_region.IndexedRegion.key_room.Goals as goal
 
 pub returns : goal.returns
 returns g c =
-    let bound = g.met.P.Profile.cover_is_bounded c.args.self.now (subst g.P.Profile.is_region c.self.view_is c.self.invariant.1) in
+    let bound = g.met.P.Profile.cover_is_bounded c.args.self.now (subst g.P.Profile.is_region c.self.view_is c.self.invariant) in
     omega (arith, bound, c.COVER_MAX.ensures)
