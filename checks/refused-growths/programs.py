@@ -261,7 +261,7 @@ class Cache(Lines):
 
 
 class Streams(Program):
-    """The command lines of the program rows_streams, over a stream of two lines, which marks the line of a refused growth."""
+    """The command lines of the program rows_lines, over a stream of two lines, which marks the line of a refused growth."""
 
     LINES = rb"text aaaaaaaaaaaa\nb\n" + b"\nserve pieces=1\n"
     must_end = ("a line answered refused",)
@@ -269,7 +269,7 @@ class Streams(Program):
     ANSWERS = (([b"12", b"1"], 0, 5), ([b"refused", b"1"], 1, 10), ([b"12", b"refused"], 1, 11))
 
     def __init__(self, library):
-        super().__init__("rows_streams", library, "lines")
+        super().__init__("rows_lines", library, "lines")
         usual, *self.marked = map(self.output, self.ANSWERS)
         self.wanted = b"".join(line + b"\n" for line in usual)
 
@@ -295,10 +295,10 @@ class Streams(Program):
 
 
 class DeskStream(Program):
-    """The command hostile of the program rows_streams, over the desk lines of some input: serve_desk marks the line of a refused growth."""
+    """The command hostile of the program rows_lines, over the desk lines of some input: serve_desk marks the line of a refused growth."""
 
     def __init__(self, library, name, lines, replies):
-        super().__init__("rows_streams", library, "hostile")
+        super().__init__("rows_lines", library, "hostile")
         self.name, self.lines, self.replies = name, lines, replies
         staged = (number for number, reply in enumerate(replies, 1) if reply.startswith(b'{"staged"'))
         self.must_end = tuple(f"line {number} answered code 20" for number in staged)
