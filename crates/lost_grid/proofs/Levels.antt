@@ -25,22 +25,22 @@ find-none test low (suc n) fails =
     ap (λ (b : Bool). cond b (Some low) (find test (range_with_len (low + 1) n))) (fails low (omega arith) (omega arith))
     ∙ find-none test (low + 1) n (λ k from below. fails k (omega arith) (omega arith))
 
--- ---- the levels from 0 to 12
+-- ---- the levels from 0 to 6
 
-pub least_passes : (test : ℕ → Bool) (i : ℕ) → i < 12 → ((k : ℕ) → k < i → test k ≡ false) → test i ≡ true →
-    i ≡ unwrap_or (find test (range_with_len 0 13)) 12
+pub least_passes : (test : ℕ → Bool) (i : ℕ) → i < 6 → ((k : ℕ) → k < i → test k ≡ false) → test i ≡ true →
+    i ≡ unwrap_or (find test (range_with_len 0 7)) 6
 least_passes test i below fails passes =
-    ap (λ (found : Option ℕ). unwrap_or found 12) (sym (find-first test 0 13 i (omega arith) (omega arith) (λ k _ before. fails k before) passes))
+    ap (λ (found : Option ℕ). unwrap_or found 6) (sym (find-first test 0 7 i (omega arith) (omega arith) (λ k _ before. fails k before) passes))
 
-last_by : (test : ℕ → Bool) (last : Bool) → test 12 ≡ last → ((k : ℕ) → k < 12 → test k ≡ false) → 12 ≡ unwrap_or (find test (range_with_len 0 13)) 12
+last_by : (test : ℕ → Bool) (last : Bool) → test 6 ≡ last → ((k : ℕ) → k < 6 → test k ≡ false) → 6 ≡ unwrap_or (find test (range_with_len 0 7)) 6
 last_by test true is fails =
-    ap (λ (found : Option ℕ). unwrap_or found 12) (sym (find-first test 0 13 12 (omega arith) (omega arith) (λ k _ before. fails k before) is))
+    ap (λ (found : Option ℕ). unwrap_or found 6) (sym (find-first test 0 7 6 (omega arith) (omega arith) (λ k _ before. fails k before) is))
 last_by test false is fails =
-    ap (λ (found : Option ℕ). unwrap_or found 12)
-    (sym (find-none test 0 13 (λ k _ before. elim (cases_lt k 12) [
+    ap (λ (found : Option ℕ). unwrap_or found 6)
+    (sym (find-none test 0 7 (λ k _ before. elim (cases_lt k 6) [
       | inl lower ↦ fails k lower
-      | inr reached ↦ let last : k ≡ 12 = omega arith in ap test last ∙ is
+      | inr reached ↦ let last : k ≡ 6 = omega arith in ap test last ∙ is
     ])))
 
-pub last_left : (test : ℕ → Bool) (n : ℕ) → 12 ≤ n → ((k : ℕ) → k < n → test k ≡ false) → 12 ≡ unwrap_or (find test (range_with_len 0 13)) 12
-last_left test n reached fails = last_by test (test 12) refl (λ k before. fails k (omega arith))
+pub last_left : (test : ℕ → Bool) (n : ℕ) → 6 ≤ n → ((k : ℕ) → k < n → test k ≡ false) → 6 ≡ unwrap_or (find test (range_with_len 0 7)) 6
+last_left test n reached fails = last_by test (test 6) refl (λ k before. fails k (omega arith))

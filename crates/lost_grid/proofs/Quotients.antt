@@ -15,8 +15,8 @@ shr_z-side level (negsuc a) = refl
 div-side_below : (a level : ℕ) → a ≤ 1_800_000_000 → a / side level ≤ 6866
 div-side_below a level below =
     let smallest : a / 2 ^ 18 ≤ 6866 = omega arith in
-    let larger : a / 2 ^ 18 / 2 ^ level ≤ a / 2 ^ 18 = shr_le (a / 2 ^ 18) level in
-    omega (arith, shr-shr a 18 level)
+    let larger : a / 2 ^ 18 / 2 ^ (2 * level) ≤ a / 2 ^ 18 = shr_le (a / 2 ^ 18) (2 * level) in
+    omega (arith, shr-shr a 18 (2 * level))
 
 pub IsLine-line_of : (level : ℕ) (z : ℤ) → IsOnEarth z → IsLine (line_of level z)
 IsLine-line_of level (pos a) on_earth =

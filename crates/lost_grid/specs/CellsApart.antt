@@ -37,7 +37,7 @@ same_cell_tells a b apart =
 -- equal cells are of one kind
 pub equal_cells_are_of_one_kind : (a b : Cell) → same_cell a b ≡ true → kind_of a ≡ kind_of b
 equal_cells_are_of_one_kind a b same =
-    ap (λ level. level % 16) ((Decides-eqb a.level b.level).0 (and_parts (eqb a.level b.level) (int_eq a.row b.row && int_eq a.column b.column) same).0)
+    ap (λ level. level % 8) ((Decides-eqb a.level b.level).0 (and_parts (eqb a.level b.level) (int_eq a.row b.row && int_eq a.column b.column) same).0)
 
 -- ---- lists of whole numbers that rise
 

@@ -59,11 +59,11 @@ cell_stands level bounds place within =
     (stands_in_map (λ (c : ℤ). record { level = level; row = line_of level place.lat; column = c }) (columns level bounds) (line_of level place.lon) column)
 
 -- the probes have its cell at each level
-probe_stands : (level : ℕ) (point : Point) → level < 13 → Contains (probes_of point) (cell_of level (normal point))
+probe_stands : (level : ℕ) (point : Point) → level < 7 → Contains (probes_of point) (cell_of level (normal point))
 probe_stands level point below = (
   level,
-  omega (arith, length-map-range_with_len (λ k. cell_of k (normal point)) 0 13),
-  get_or-map-range_with_len (λ k. cell_of k (normal point)) 0 13 level level (cell_of level (normal point)) below (omega arith),
+  omega (arith, length-map-range_with_len (λ k. cell_of k (normal point)) 0 7),
+  get_or-map-range_with_len (λ k. cell_of k (normal point)) 0 7 level level (cell_of level (normal point)) below (omega arith),
 )
 
 -- ---- the laws

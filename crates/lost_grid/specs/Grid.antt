@@ -1,4 +1,4 @@
--- Cells of thirteen sizes over the plane of latitudes and longitudes: which cells a ring and a point are noted under (own).
+-- Cells of seven sizes over the plane of latitudes and longitudes: which cells a ring and a point are noted under (own).
 use Rattle.std.specs.Prelude.{ℕ, ◌*◌, ◌%◌, Bool, List, map, length, ℤ, nat_le}
 use Rattle.std.specs.List.{find, flat_map, range_with_len}
 use Rattle.std.specs.Option.{unwrap_or}
@@ -10,7 +10,7 @@ use Rattle.lost_grid.specs.Lines.{line_of, rows, columns}
 
 -- the levels, from that of the smallest cells to that of the largest
 abbrev pub levels : List ℕ
-levels = range_with_len 0 13
+levels = range_with_len 0 7
 
 -- the cell of a level that a position is in
 abbrev pub cell_of : ℕ → Point → Cell
@@ -24,7 +24,7 @@ are_few bounds level = nat_le (length (rows level bounds) * length (columns leve
 
 -- the least level at which the bounds meet at most eight cells
 abbrev pub level_of : Bounds → ℕ
-level_of bounds = unwrap_or (find (are_few bounds) levels) 12
+level_of bounds = unwrap_or (find (are_few bounds) levels) 6
 
 -- the cells of a row in some columns, and those of a level that the bounds meet: by row, and then by column
 abbrev pub cells_in_row : ℕ → ℤ → List ℤ → List Cell
@@ -44,6 +44,6 @@ probes_of point = map (λ level. cell_of level (normal point)) levels
 
 -- ---- the kind of a cell
 
--- its level, since levels are below 16
+-- its level, since levels are below 8
 abbrev pub kind_of : Cell → ℕ
-kind_of cell = cell.level % 16
+kind_of cell = cell.level % 8

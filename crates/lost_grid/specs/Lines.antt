@@ -7,7 +7,7 @@ use Rattle.lost_geo.specs.declared.bounds.Bounds.{Bounds}
 
 -- the side of a square cell of a level, in whole 1e-7 degrees
 abbrev pub side : ℕ → ℕ
-side level = 2 ^ (18 + level)
+side level = 2 ^ (18 + 2 * level)
 
 -- the row of a latitude, or the column of a longitude: the quotient by the side, rounded down
 abbrev pub line_of : ℕ → ℤ → ℤ

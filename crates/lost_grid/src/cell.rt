@@ -9,11 +9,11 @@ use crate::lines::line_of;
 use lost_geo::GeoPoint;
 use std::hash::{Hash, Hasher};
 
-/// A square cell: its level from 0 to 12, and its row and column at that level. At level k the side is `2^(18+k)` units
+/// A square cell: its level from 0 to 6, and its row and column at that level. At level k the side is `2^(18+2k)` units
 /// of 1e-7 degrees. Cells are ordered by level, then by row, then by column.
 #[derive(Clone, Copy, PartialEq, Eq, PartialOrd, Ord, Debug)]
 pub struct Cell {
-    /// The level, from 0 to 12.
+    /// The level, from 0 to 6.
     pub level: u8,
     /// The row: the latitude divided by the side, rounded down.
     pub row: i16,
@@ -26,7 +26,7 @@ impl Cell {
 
     /// The cell of a level that a position is in.
     pub(crate) fn of(level: u8, place: &GeoPoint) -> Cell
-        requires { level ≤ 12 }
+        requires { level ≤ 6 }
         ensures { result ≡ cell_of level place.now }
     {
         Cell {

@@ -54,7 +54,7 @@ pub(crate) fn has_cell(bounds: &Bounds, cell: Cell) -> bool
 fn level_of(bounds: &Bounds) -> u8
     requires { AreInRange bounds.now }
     ensures level { result ≡ level_of bounds.now }
-    ensures in_range { result ≤ 12 }
+    ensures in_range { result ≤ 6 }
 {
     for level in 0..MAX_LEVEL {
         if are_few(bounds, level) {
@@ -67,7 +67,7 @@ fn level_of(bounds: &Bounds) -> u8
 /// Whether bounds meet at most [`MAX_CELLS`] cells of a level.
 fn are_few(bounds: &Bounds, level: u8) -> bool
     requires bounds { AreInRange bounds.now }
-    requires level { level ≤ 12 }
+    requires level { level ≤ 6 }
     ensures { result ≡ are_few bounds.now level }
 {
     Lines::rows(level, bounds).count() * Lines::columns(level, bounds).count() <= MAX_CELLS

@@ -70,7 +70,7 @@ impl Profile for Geodetic2d {
         has_cell(&region.bounds(), *key)
     }
 
-    /// The cells of the point's normal form at the levels from 0 to 12. It takes no memory.
+    /// The cells of the point's normal form at the levels from 0 to 6. It takes no memory.
     fn probes(_alloc: Global, location: &GeoPoint) -> Result<[Cell; LEVELS], AllocError> {
         Ok(cells_at(&location.normal()))
     }

@@ -1,4 +1,4 @@
-//! Cells of thirteen sizes over the plane of latitudes and longitudes. A ring is kept under the cells that its bounds
+//! Cells of seven sizes over the plane of latitudes and longitudes. A ring is kept under the cells that its bounds
 //! meet, at the least level at which they are at most eight. A point is looked up in its one cell of each level.
 #![tactic(auto)]
 

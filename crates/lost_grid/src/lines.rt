@@ -9,19 +9,19 @@ ghost use Rattle.lost_grid.specs.Lines.{line_of, IsOnEarth, IsLine, rows, column
 use lost_geo::Bounds;
 
 /// The level of the largest cells.
-pub(crate) const MAX_LEVEL: u8 = 12;
+pub(crate) const MAX_LEVEL: u8 = 6;
 
 /// The number of levels.
-pub(crate) const LEVELS: usize = 13;
+pub(crate) const LEVELS: usize = 7;
 
 /// The row of a latitude, or the column of a longitude, at a level: divided by the side of its cells, rounded down.
 pub(crate) fn line_of(level: u8, degrees: i64) -> i16
-    requires level { level ≤ 12 }
+    requires level { level ≤ 6 }
     requires on_earth { IsOnEarth degrees }
     ensures line { result ≡ line_of level degrees }
     ensures in_range { IsLine result }
 {
-    (degrees >> (18 + level)) as i16
+    (degrees >> (18 + 2 * level)) as i16
 }
 
 /// Consecutive rows or columns.
@@ -38,7 +38,7 @@ impl Lines {
 
     /// The rows of a level that bounds meet.
     pub(crate) fn rows(level: u8, bounds: &Bounds) -> Lines
-        requires level { level ≤ 12 }
+        requires level { level ≤ 6 }
         requires bounds { AreInRange bounds.now }
         ensures rows { numbers result ≡ rows level bounds.now }
         ensures in_range { IsStretch result }
@@ -48,7 +48,7 @@ impl Lines {
 
     /// The columns of a level that bounds meet.
     pub(crate) fn columns(level: u8, bounds: &Bounds) -> Lines
-        requires level { level ≤ 12 }
+        requires level { level ≤ 6 }
         requires bounds { AreInRange bounds.now }
         ensures columns { numbers result ≡ columns level bounds.now }
         ensures in_range { IsStretch result }
@@ -58,7 +58,7 @@ impl Lines {
 
     /// The rows or columns of a level, from the one of `low` to the one of `high`.
     fn between(level: u8, low: i64, high: i64) -> Lines
-        requires level { level ≤ 12 }
+        requires level { level ≤ 6 }
         requires low { IsOnEarth low }
         requires high { IsOnEarth high }
         requires order { low ≤ℤ high }

@@ -7,7 +7,7 @@ use crate::cell::Cell;
 use crate::lines::LEVELS;
 use lost_geo::GeoPoint;
 
-/// The cells that a position is in, at the levels from 0 to 12.
+/// The cells that a position is in, at the levels from 0 to 6.
 pub(crate) fn cells_at(place: &GeoPoint) -> [Cell; LEVELS]
     ensures { result ≡ map (λ level. cell_of level place.now) levels }
 {
@@ -19,11 +19,5 @@ pub(crate) fn cells_at(place: &GeoPoint) -> [Cell; LEVELS]
         Cell::of(4, place),
         Cell::of(5, place),
         Cell::of(6, place),
-        Cell::of(7, place),
-        Cell::of(8, place),
-        Cell::of(9, place),
-        Cell::of(10, place),
-        Cell::of(11, place),
-        Cell::of(12, place),
     ]
 }

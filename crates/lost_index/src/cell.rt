@@ -154,7 +154,7 @@ fn is_kept<P: Profile>(
     number != note.number || entry::covers_with(remaining, key, &note.outline)
 }
 
-/// Inserts a note at a position. A full list grows by an eighth, since most cells get few notes. If memory is refused,
+/// Inserts a note at a position. A full list grows by a quarter, since most cells get few notes. If memory is refused,
 /// nothing changes.
 fn insert_note<O: Copy>(
     notes: &mut Vec<Note<O>>,
@@ -166,7 +166,7 @@ fn insert_note<O: Copy>(
     ensures refused { OnErr result (notes.new.items ≡ notes.old.items) }
 {
     if notes.len() == notes.capacity() {
-        notes.reserve_exact(notes.len() / 8 + 1)?;
+        notes.reserve_exact(notes.len() / 4 + 2)?;
     }
     notes.insert(position, note)?;
     Ok(())

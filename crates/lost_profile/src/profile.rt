@@ -8,7 +8,7 @@ use std::convert::AsSlice;
 use std::hash::Hash;
 
 /// The greatest number of kinds of keys of a profile.
-pub const KINDS: usize = 16;
+pub const KINDS: usize = 8;
 
 /// A kind of location, and of the regions that contain such locations (RFC 5222, section 12). A region is kept under
 /// the keys of its cover, and a location is looked up under its probes. An outline rules out regions cheaply.

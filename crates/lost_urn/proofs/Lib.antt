@@ -10,3 +10,4 @@ pub mod KeptLemmas
 pub mod BelowLemmas
 pub mod CutLemmas
 pub mod OrderLemmas
+pub mod LowerLemmas

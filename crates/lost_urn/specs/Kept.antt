@@ -1,8 +1,15 @@
 -- How a service is kept: as its text, with the number of its labels beside it.
-use Rattle.std.specs.Prelude.{ℕ, ◌≡◌, [], IsTrue, length}
+use Rattle.std.specs.Prelude.{ℕ, ◌≡◌, [], IsTrue, length, string_bytes}
 use Rattle.std.specs.Result.{result_unwrap_or}
 use Rattle.lost_spec.specs.Text.{Text}
 use Rattle.lost_spec.specs.Service.{Service, read_service, is_service, service_text}
+use Rattle.lost_urn.specs.declared.service_text.ServiceText.{ServiceText}
+use Rattle.lost_urn.specs.declared.service_text.ServiceText.TheVariants.{Short, Long}
+
+-- the bytes of a text, which lies in the value or apart from it
+abbrev pub bytes_of : ServiceText → Text
+bytes_of (Short text) = text.bytes
+bytes_of (Long text) = string_bytes text
 
 -- the service that a text spells, and no label where it spells none
 unfoldable pub service_of : Text → Service

@@ -3,6 +3,7 @@
 
 mod label;
 pub mod laws;
+mod service_text;
 mod spelling;
 mod traits;
 mod urn;

@@ -1,12 +1,11 @@
 //! A service, kept as its text.
-ghost use Rattle.std.specs.Prelude.{◌≡◌, ◌≢◌, ◌≤◌, IfOk, IfErr, IsErr, IsTrue, length, take, string_bytes};
+ghost use Rattle.std.specs.Prelude.{◌≡◌, ◌≢◌, ◌≤◌, IfOk, IfErr, IsErr, IsTrue, length, take};
 ghost use Rattle.std.specs.List.{join_with_byte};
 ghost use Rattle.std.specs.Result.{result_err};
-ghost use Rattle.std.specs.Str.{IsAscii};
-ghost use Rattle.lost_spec.specs.Text.{lowered};
 ghost use Rattle.lost_spec.specs.Service.{Service, read_service, service_text, is_service, is_at_or_below, split_at_dots};
-ghost use Rattle.lost_urn.specs.Kept.{service_of, IsKept};
+ghost use Rattle.lost_urn.specs.Kept.{service_of, bytes_of, IsKept};
 
+use crate::service_text::ServiceText;
 use crate::spelling::count_labels;
 use lost_spec::faults::UrnError;
 use std::alloc::{AllocError, Global};
@@ -16,22 +15,27 @@ use std::marker::Model;
 /// 63 lower-case letters, digits and hyphens, with no hyphen at either end (the bounds are an own rule).
 #[derive(Debug)]
 pub struct ServiceUrn {
-    text: String,
+    alloc: Global,
+    text: ServiceText,
     depth: usize,
 }
 
 impl Drop for ServiceUrn {
     fn drop(self) {
-        let ServiceUrn { text: _, depth: _ } = self;
+        let ServiceUrn {
+            alloc: _,
+            text: _,
+            depth: _,
+        } = self;
     }
 }
 
 impl Model for ServiceUrn {
     ghost Value = { Service };
 
-    ghost view = { λ u. service_of (string_bytes u.text) };
+    ghost view = { λ u. service_of (bytes_of u.text) };
 
-    ghost invariant = { λ u. IsKept (string_bytes u.text) u.depth };
+    ghost invariant = { λ u. IsKept (bytes_of u.text) u.depth };
 }
 
 impl ServiceUrn {
@@ -47,8 +51,8 @@ impl ServiceUrn {
         ensures refused { IsErr (read_service text.now) → result ≡ read_service text.now }
     {
         let depth = count_labels(text)?;
-        let text = to_lowercase(alloc, text).map_err(|_| UrnError::Memory)?;
-        Ok(ServiceUrn { text, depth })
+        let text = ServiceText::lowercase(alloc, text).map_err(|_| UrnError::Memory)?;
+        Ok(ServiceUrn { alloc, text, depth })
     }
 
     /// Ok where `parse` reads this text, and else its refusal. It takes no memory.
@@ -106,16 +110,21 @@ impl ServiceUrn {
         requires within { n ≤ length self.now }
         ensures { IfOk result (λ s. s ≡ take n self.now) }
     {
-        let text = String::from_str(*self.text.allocator(), self.front(n))?;
-        Ok(ServiceUrn { text, depth: n })
+        let text = ServiceText::of(self.alloc, self.front(n))?;
+        Ok(ServiceUrn {
+            alloc: self.alloc,
+            text,
+            depth: n,
+        })
     }
 
     /// A copy.
     pub fn clone(&self) -> Result<ServiceUrn, AllocError>
         ensures { IfOk result (λ s. s ≡ self.now) }
     {
-        let text = self.text.clone()?;
+        let text = ServiceText::of(self.alloc, self.text.as_str())?;
         Ok(ServiceUrn {
+            alloc: self.alloc,
             text,
             depth: self.depth,
         })
@@ -138,14 +147,4 @@ fn end_of_labels(text: &[u8], n: usize) -> usize
         }
     }
     text.len()
-}
-
-/// An ASCII text in lower case.
-fn to_lowercase(alloc: Global, text: &[u8]) -> Result<String, AllocError>
-    requires { IsAscii text.now }
-    ensures { IfOk result (λ s. string_bytes s ≡ lowered text.now) }
-{
-    let mut lower = String::from_str(alloc, str::from_utf8(text).unwrap())?;
-    lower.make_ascii_lowercase();
-    Ok(lower)
 }

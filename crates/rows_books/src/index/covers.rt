@@ -9,8 +9,8 @@ use std::io;
 pub(crate) fn print_all<R: Print + AllocGlobal>(rt: &R) -> io::Result<()> {
     print_cover(rt, "a square of a degree", NEAR)?;
     print_cover(rt, "one far from it", FAR)?;
-    print_cover(rt, "a little under two cells of level 4 high", UNDER_TWO)?;
-    print_cover(rt, "two cells of level 4 high", TWO)?;
+    print_cover(rt, "a little under two cells of level 2 high", UNDER_TWO)?;
+    print_cover(rt, "two cells of level 2 high", TWO)?;
     print_cover(rt, "the earth", EARTH)?;
     print_probes(rt)
 }

@@ -13,7 +13,7 @@ pub(crate) const NEAR: Corners = (0, 0, 10_000_000, 10_000_000);
 /// One far from it.
 pub(crate) const FAR: Corners = (50_000_000, 50_000_000, 60_000_000, 60_000_000);
 
-/// A little under two cells of level 4 high, and two of them high; both are a little under four of them wide.
+/// A little under two cells of level 2 high, and two of them high; both are a little under four of them wide.
 pub(crate) const UNDER_TWO: Corners = (0, 0, 8_388_607, 16_777_215);
 
 pub(crate) const TWO: Corners = (0, 0, 8_388_608, 16_777_215);
