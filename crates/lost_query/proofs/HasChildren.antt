@@ -1,5 +1,5 @@
 -- How far the search for the children of a service has come: the last mappings of a list are done.
-use Rattle.std.proofs.Common.{◌≡◌, ℕ, zero, suc, ◌-◌, ◌<◌, ◌≤◌, Bool, true, false, cond, List, [], ◌∷◌, ◌++◌, length, drop, filter, filter_map, Option, Some, None, unwrap_or, refl, sym, ap, subst, ◌∙◌, arith}
+use Rattle.std.proofs.Common.{◌≡◌, ℕ, zero, suc, ◌-◌, ◌<◌, ◌≤◌, Bool, true, false, cond, List, [], ◌∷◌, ◌++◌, length, drop, filter, filter_map, Option, Some, None, unwrap_or, refl, sym, ap, subst, ◌∙◌, append_assoc, arith}
 use Rattle.std.specs.List.{cons_option, slice_get}
 use Rattle.lost_spec.specs.Place.{Place}
 use Rattle.lost_spec.specs.Text.{ascending_by}
@@ -32,6 +32,16 @@ HasChildren-more q m ms s old new before is added = record {
       ap (λ (c : Children). c.found) added ∙ ap (λ u. with_some (child old.above u) old.found) is ∙ ap (λ p. with_some (child p m.service) old.found) before.above
       ∙ ap (with_some (child q m.service)) before.found ∙ with_some-ascending_by (child q m.service) (filter_map (λ (n : Mapping). child q n.service) ms);
 }
+
+-- the mapping at one position more
+pub HasChildren-at : (q : Option Service) (ms : List Mapping) (done : List ℕ) (i : ℕ) (m : Mapping) → slice_get ms i ≡ Some m → (s : Service) (old new : Children) → HasChildren q (at_positions ms done) old → s ≡ m.service → new ≡ with_child_to s old → HasChildren q (at_positions ms (i ∷ done)) new
+HasChildren-at q ms done i m is s old new before own added =
+    let more : m ∷ at_positions ms done ≡ at_positions ms (i ∷ done) = ap (λ o. cons_option o (at_positions ms done)) (sym is) in
+    subst (λ ns. HasChildren q ns new) more (HasChildren-more q m (at_positions ms done) s old new before own added)
+
+-- the next position stands before those that are done
+pub next_done : (rest front done all : List ℕ) (i : ℕ) → rest ++ done ≡ all → rest ≡ front ++ i ∷ [] → front ++ (i ∷ done) ≡ all
+next_done rest front done all i is next = sym (append_assoc front (i ∷ []) done) ∙ ap (λ xs. xs ++ done) (sym next) ∙ is
 
 -- what stands at a place comes before what follows it
 drop-slice_get : {Thing : Type 0} (xs : List Thing) (i : ℕ) (x : Thing) → slice_get xs i ≡ Some x → drop i xs ≡ x ∷ drop (suc i) xs
