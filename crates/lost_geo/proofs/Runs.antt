@@ -2,14 +2,14 @@
 use Rattle.std.proofs.Common.{◌≡◌, refl, sym, ◌∙◌, ap, ℕ, zero, suc, ◌+◌, ◌<◌, ◌≤◌, Bool, true, false, not, ◌&&◌, subst, List, [], ◌∷◌, length, take, drop, get_or, ℤ, ◌≤ℤ◌, ◌<ℤ◌, int_le, int_lt, arith}
 use Rattle.std.proofs.Math.Bool.{beq}
 use Rattle.std.proofs.Math.Numerals.{add-one}
-use Rattle.std.proofs.Math.Seq.{drop-cons, drop-nil}
+use Rattle.std.proofs.Math.Seq.{drop-nil}
 use Rattle.std.proofs.lemmas.Int.{ints}
-use Rattle.std.proofs.lemmas.List.{drop_all, drop-drop, length-drop}
+use Rattle.std.proofs.lemmas.List.{drop-drop, length-drop}
 use Rattle.lost_spec.specs.Ring.{Point, edges, spans, crosses}
 use Rattle.lost_geo.specs.declared.bounds.Bounds.{Bounds}
 use Rattle.lost_geo.specs.Bounds.{bounds_of}
 use Rattle.lost_geo.specs.Laws.{is_just_one}
-use Rattle.lost_geo.specs.Runs.{is_spanned, AreRunsOf}
+use Rattle.lost_geo.specs.Runs.{is_spanned, between, AreCornersOf}
 use Rattle.lost_geo.proofs.Cuts.{odd_along}
 use Rattle.lost_geo.proofs.Exact.{AreExact-bounds_of}
 use Rattle.lost_geo.proofs.Parity.{odd_count, odd_count-cons, just_one_assoc, just_one_of_false, just_one_with_false}
@@ -88,24 +88,25 @@ spanned_where_right run (a ∷ rest) p is beside =
 
 -- ---- a walk over the runs
 
--- the runs from one on: edges are left, and behind it the runs to come are those of the positions behind
-pub record IsAtRun (size : ℕ) (runs : List Bounds) (i : ℕ) (ring : List Point) (begin : ℕ) : Type 0 where
+-- the corners from some on: edges are left, the first two are those of the next run, and behind it come those of the positions behind
+pub record IsAtRun (size : ℕ) (low high : Point) (corners : List Point) (ring : List Point) (begin : ℕ) : Type 0 where
   pub within : begin < length ring
-  pub behind : AreRunsOf size (drop (i + 1) runs) (drop (begin + size) ring)
+  pub bounds : between low high ≡ bounds_of (take (size + 1) (drop begin ring))
+  pub behind : AreCornersOf size (drop 2 corners) (drop (begin + size) ring)
 
 not_past : (ring : List Point) (begin : ℕ) → 1 < length (drop begin ring) → begin < length ring
 not_past ring begin some = omega (arith, simp length-drop at some)
 
-pub at_a_run : (size : ℕ) (runs : List Bounds) (i : ℕ) (ring : List Point) (begin : ℕ) → i < length runs →
-    AreRunsOf size (drop i runs) (drop begin ring) → IsAtRun size runs i ring begin
-at_a_run size [] i ring begin below are = absurd (omega arith)
-at_a_run size (run ∷ runs) i ring begin below are =
-    let first : drop i (run ∷ runs) ≡ get_or (run ∷ runs) i run ∷ drop (i + 1) (run ∷ runs) = rw (add-one i, drop-cons (run ∷ runs) i run) refl in
-    let parts : AreRunsOf size (get_or (run ∷ runs) i run ∷ drop (i + 1) (run ∷ runs)) (drop begin ring) = subst (λ (rs : List Bounds). AreRunsOf size rs (drop begin ring)) first are in
-    record {
-      within = not_past ring begin parts.0;
-      behind = subst (AreRunsOf size (drop (i + 1) (run ∷ runs))) (drop-drop size begin ring) parts.2;
-    }
+pub at_a_run : (size : ℕ) (low high : Point) (corners : List Point) (ring : List Point) (begin : ℕ) → 1 < length corners →
+    low ≡ get_or corners 0 low → high ≡ get_or corners 1 high →
+    AreCornersOf size corners (drop begin ring) → IsAtRun size low high corners ring begin
+at_a_run size low high [] ring begin some at_low at_high are = absurd (omega arith)
+at_a_run size low high (a ∷ []) ring begin some at_low at_high are = absurd (omega arith)
+at_a_run size low high (a ∷ b ∷ corners) ring begin some at_low at_high are = record {
+  within = not_past ring begin are.0;
+  bounds = ap (λ (p : Point). between p high) at_low ∙ ap (between a) at_high ∙ are.1;
+  behind = subst (AreCornersOf size corners) (drop-drop size begin ring) are.2;
+}
 
 -- one run further
 pub walk_more : (size : ℕ) (odd crossing total : Bool) (ring : List Point) (begin : ℕ) (part : List Point) (p : Point) →
@@ -126,8 +127,8 @@ no_edge (a ∷ []) p short = refl
 no_edge (a ∷ b ∷ rest) p short = absurd (omega arith)
 
 -- the end of the walk
-pub walk_all : (size : ℕ) (odd total : Bool) (runs : List Bounds) (i : ℕ) (ring : List Point) (p : Point) → length runs ≤ i →
-    AreRunsOf size (drop i runs) ring → is_just_one odd (odd_along ring p) ≡ total → odd ≡ total
-walk_all size odd total runs i ring p past are before =
-    let short : length ring ≤ 1 = subst (λ (rs : List Bounds). AreRunsOf size rs ring) (drop_all i runs past) are in
-    sym (just_one_with_false odd) ∙ ap (is_just_one odd) (sym (no_edge ring p short)) ∙ before
+pub walk_all : (size : ℕ) (odd total : Bool) (corners : List Point) (ring : List Point) (p : Point) → length corners ≤ 1 →
+    AreCornersOf size corners ring → is_just_one odd (odd_along ring p) ≡ total → odd ≡ total
+walk_all size odd total [] ring p past are before = sym (just_one_with_false odd) ∙ ap (is_just_one odd) (sym (no_edge ring p are)) ∙ before
+walk_all size odd total (a ∷ []) ring p past are before = sym (just_one_with_false odd) ∙ ap (is_just_one odd) (sym (no_edge ring p are)) ∙ before
+walk_all size odd total (a ∷ b ∷ corners) ring p past are before = absurd (omega arith)

@@ -12,7 +12,22 @@ edges_of_a_run = 16
 abbrev pub is_spanned : Bounds → ℤ → Bool
 is_spanned run lat = int_le run.lat_min lat && int_lt lat run.lat_max
 
--- what a long ring keeps: the runs of `size` edges each, one after the other, until no edge is left
-abbrev pub AreRunsOf : ℕ → List Bounds → List Point → Type 0
-AreRunsOf size [] ring = length ring ≤ 1
-AreRunsOf size (run ∷ runs) ring = (1 < length ring) × (run ≡ bounds_of (take (size + 1) ring)) × AreRunsOf size runs (drop size ring)
+-- the bounds between two corners, which have the least and the greatest latitude and longitude
+abbrev pub between : Point → Point → Bounds
+between low high = record {
+  lat_min = low.lat;
+  lat_max = high.lat;
+  lon_min = low.lon;
+  lon_max = high.lon;
+}
+
+-- what a long ring keeps of its runs of `size` edges each, one after the other, until no edge is left: the two corners of each
+abbrev pub AreCornersOf : ℕ → List Point → List Point → Type 0
+AreCornersOf size [] ring = length ring ≤ 1
+AreCornersOf size (low ∷ []) ring = length ring ≤ 1
+AreCornersOf size (low ∷ high ∷ corners) ring = (1 < length ring) × (between low high ≡ bounds_of (take (size + 1) ring)) × AreCornersOf size corners (drop size ring)
+
+-- a long ring's list: so many positions, and behind them the corners of their runs
+pub record IsLongRing (len : ℕ) (places : List Point) : Type 0 where
+  pub within : len ≤ length places
+  pub behind : AreCornersOf edges_of_a_run (drop len places) (take len places)

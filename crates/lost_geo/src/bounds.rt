@@ -22,6 +22,7 @@ pub struct Bounds {
 
 impl Bounds {
     ghost use Rattle.lost_geo.specs.Bounds.{bounds_of, is_within_bounds, AreInRange};
+    ghost use Rattle.lost_geo.specs.Runs.{between};
 
     /// The bounds of a list of positions that begins with `first`.
     pub(crate) fn of(first: &GeoPoint, rest: &[GeoPoint]) -> Bounds
@@ -47,6 +48,31 @@ impl Bounds {
             lon_min: lon,
             lon_max: lon,
         }
+    }
+
+    /// The bounds between two corners.
+    pub(crate) fn between(low: &GeoPoint, high: &GeoPoint) -> Bounds
+        ensures { result ≡ between low.now high.now }
+    {
+        let (lat_min, lon_min) = low.pair();
+        let (lat_max, lon_max) = high.pair();
+        Bounds {
+            lat_min,
+            lat_max,
+            lon_min,
+            lon_max,
+        }
+    }
+
+    /// The corners that these bounds are between.
+    pub(crate) fn corners(&self) -> (GeoPoint, GeoPoint)
+        requires { AreInRange self.now }
+        ensures { between result.0 result.1 ≡ self.now }
+    {
+        (
+            GeoPoint::at(i64::from(self.lat_min), i64::from(self.lon_min)),
+            GeoPoint::at(i64::from(self.lat_max), i64::from(self.lon_max)),
+        )
     }
 
     /// These bounds, widened to hold one more position.

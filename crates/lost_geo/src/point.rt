@@ -53,7 +53,7 @@ impl GeoPoint {
     }
 
     /// The point at a latitude and a longitude that are within their ranges, and so fit 32 bits.
-    fn at(lat: i64, lon: i64) -> GeoPoint
+    pub(crate) fn at(lat: i64, lon: i64) -> GeoPoint
         requires lat { IsLat lat }
         requires lon { IsLon lon }
         ensures lat { result.lat ≡ lat }
@@ -79,6 +79,14 @@ impl GeoPoint {
         ensures in_range { IsInRange self.now }
     {
         self.lon as i64
+    }
+
+    /// The latitude and the longitude, as they are kept.
+    pub(crate) fn pair(&self) -> (i32, i32)
+        ensures lat { result.0 ≡ self.now.lat }
+        ensures lon { result.1 ≡ self.now.lon }
+    {
+        (self.lat, self.lon)
     }
 
     /// The normal form: longitude 1,800,000,000 is taken at -1,800,000,000, and latitude 900,000,000 at

@@ -3,8 +3,8 @@
 
 ghost use Rattle.std.specs.Prelude.{◌≡◌, ℕ, ◌+◌, ◌-◌, ◌<◌, ◌≤◌, length, filter, take, drop, int_le, int_lt, IfOk};
 ghost use Rattle.lost_spec.specs.Ring.{edges, spans as edge_spans, crossings, is_odd};
-ghost use Rattle.lost_geo.specs.Bounds.{bounds_of};
-ghost use Rattle.lost_geo.specs.Runs.{edges_of_a_run, is_spanned, AreRunsOf};
+ghost use Rattle.lost_geo.specs.Bounds.{bounds_of, AreInRange};
+ghost use Rattle.lost_geo.specs.Runs.{edges_of_a_run, is_spanned, AreCornersOf};
 
 use crate::bounds::Bounds;
 use crate::edge;
@@ -69,39 +69,58 @@ fn is_low(position: &GeoPoint, place: &GeoPoint) -> bool
     position.lat() <= place.lat()
 }
 
-/// The bounds of the runs of a list of positions.
-pub(crate) fn runs_of(alloc: Global, positions: &[GeoPoint]) -> Result<Vec<Bounds>, AllocError>
-    ensures { IfOk result (λ runs. AreRunsOf edges_of_a_run runs.items positions.now) }
+/// The corners of the runs of a list of positions, two for each run.
+pub(crate) fn corners_of(alloc: Global, positions: &[GeoPoint]) -> Result<Vec<GeoPoint>, AllocError>
+    ensures { IfOk result (λ corners. AreCornersOf edges_of_a_run corners.items positions.now) }
 {
-    let mut runs = Vec::with_capacity(alloc, positions.len().div_ceil(run_len()))?;
+    let mut corners = Vec::new(alloc);
     let mut rest = positions;
     while rest.len() > 1 {
-        runs.push(bounds_of_run(first_run(rest)))?;
+        let (low, high) = bounds_of_run(first_run(rest)).corners();
+        corners.push(low)?;
+        corners.push(high)?;
         rest = behind_run(rest);
     }
-    Ok(runs)
+    Ok(corners)
 }
 
 /// The bounds of the run whose edges join these positions.
 fn bounds_of_run(positions: &[GeoPoint]) -> Bounds
     requires { 0 < length positions.now }
-    ensures { result ≡ bounds_of positions.now }
+    ensures bounds { result ≡ bounds_of positions.now }
+    ensures in_range { AreInRange result }
 {
     Bounds::of(&positions[0], &positions[1..])
 }
 
-/// Whether an odd number of the edges between the positions cross at the place.
-pub(crate) fn has_odd_crossings(runs: &[Bounds], positions: &[GeoPoint], place: &GeoPoint) -> bool
-    requires { AreRunsOf edges_of_a_run runs.now positions.now }
+/// Whether an odd number of the edges between the positions, whose runs have these corners, cross at the place.
+pub(crate) fn has_odd_crossings(
+    corners: &[GeoPoint],
+    positions: &[GeoPoint],
+    place: &GeoPoint,
+) -> bool
+    requires { AreCornersOf edges_of_a_run corners.now positions.now }
     ensures { result ≡ is_odd (crossings (edges positions.now) place.now) }
 {
     let mut odd = false;
     let mut begin = 0;
-    for run in runs {
-        odd ^= run_has_odd_crossings(run, run_at(positions, begin), place);
+    let mut rest = corners;
+    while rest.len() > 1 {
+        let run = Bounds::between(&rest[0], &rest[1]);
+        odd ^= run_has_odd_crossings(&run, run_at(positions, begin), place);
         begin += run_len();
+        rest = behind_corners(rest);
     }
     odd
+}
+
+/// The corners behind those of the first run.
+fn behind_corners(corners: &[GeoPoint]) -> &[GeoPoint]
+    requires { 1 < length corners.now }
+    ensures value { result.now ≡ drop 2 corners.now }
+    ensures shorter { length result.now < length corners.now }
+{
+    &corners[2..]
 }
 
 /// The positions of the run that begins with the position at this place of the list.
