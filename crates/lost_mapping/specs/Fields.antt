@@ -4,6 +4,7 @@ use Rattle.lost_spec.specs.Mapping as spec
 use Rattle.lost_mapping.specs.declared.mapping.Fields.{Fields}
 use Rattle.lost_mapping.specs.Expires.{expires_seen}
 use Rattle.lost_mapping.specs.Parts.{display_names_of}
+use Rattle.lost_mapping.specs.ReferenceText.{bytes_of}
 use Rattle.lost_mapping.specs.Shape.{IsShaped}
 use Rattle.lost_mapping.specs.Shown.{reference_text as text_by_reference}
 use Rattle.lost_mapping.specs.Texts.{texts_of}
@@ -26,4 +27,4 @@ mapping_with fields = record {
 -- what is kept makes a shaped mapping, and a text that is kept with it is its own
 pub record IsKept (fields : Fields) : Type 0 where
   pub shaped : IsShaped (mapping_with fields)
-  pub own_text : IfSome fields.reference_text (λ text. text.items ≡ text_by_reference (mapping_with fields))
+  pub own_text : IfSome fields.reference_text (λ text. bytes_of text ≡ text_by_reference (mapping_with fields))

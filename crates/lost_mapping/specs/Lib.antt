@@ -3,6 +3,7 @@ pub mod Faults
 pub mod Fields
 pub mod Identity
 pub mod Parts
+pub mod ReferenceText
 pub mod Shape
 pub mod Shown
 pub mod Source

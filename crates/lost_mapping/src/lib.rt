@@ -18,6 +18,7 @@ mod number;
 mod part_items;
 mod parts;
 mod path;
+mod reference_text;
 mod reply;
 mod request;
 mod shape;

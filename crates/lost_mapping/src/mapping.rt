@@ -18,6 +18,7 @@ use crate::identity::Identity;
 use crate::moment::Moment;
 use crate::part_items::PartItems;
 use crate::parts::{BorrowedParts, DisplayName, Parts};
+use crate::reference_text::ReferenceText;
 use crate::stamp::Stamp;
 use lost_civic::CivicPattern;
 use lost_geo::Polygon;
@@ -52,7 +53,7 @@ struct Fields {
     // What a search looks at lies together, from the polygons of the regions on.
     regions: Regions,
     service: ServiceUrn,
-    reference_text: Option<Vec<u8>>,
+    reference_text: Option<ReferenceText>,
     is_default: bool,
     expires: Expires,
 }
@@ -251,7 +252,10 @@ impl Mapping {
     pub fn reference_text(&self) -> Option<&[u8]>
         ensures { IfSome result (λ text. text.now ≡ reference_text self.now) }
     {
-        self.inner.reference_text.as_deref()
+        match &self.inner.reference_text {
+            Some(text) => Some(text.as_slice()),
+            None => None,
+        }
     }
 
     /// The mapping, with its text by reference kept beside it. A mapping that has another owner keeps no text.
@@ -261,7 +265,7 @@ impl Mapping {
     {
         let mut mapping = self;
         if let Some(fields) = Arc::get_mut(&mut mapping.inner) {
-            fields.reference_text = Some(text);
+            fields.reference_text = Some(ReferenceText::of(text));
         }
         mapping
     }
