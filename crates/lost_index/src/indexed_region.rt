@@ -12,8 +12,6 @@ pub(crate) struct IndexedRegion<P: Profile> {
 }
 
 impl<P: Profile> Model for IndexedRegion<P> {
-    ghost use Rattle.std.specs.Prelude.{◌≡◌};
-
     ghost Value = { P.Region };
 
     ghost view = { λ a. a.region };
