@@ -48,7 +48,7 @@ impl<S: BuildHasher + Drop> PlaceCache<S> {
         Ok(PlaceCache {
             hasher,
             cache: LruCache::new(alloc, capacity)?,
-            marks: Marks::new(alloc)?,
+            marks: Marks::new(alloc, capacity.get())?,
             asked: 0,
             is_held: false,
             hits: 0,
