@@ -1,15 +1,15 @@
 -- A ring's crossings from run to run.
-use Rattle.std.proofs.Common.{◌≡◌, refl, sym, ◌∙◌, ap, ℕ, zero, suc, ◌+◌, ◌<◌, ◌≤◌, Bool, true, false, not, ◌&&◌, subst, List, [], ◌∷◌, length, take, drop, get_or, ℤ, ◌≤ℤ◌, ◌<ℤ◌, int_le, int_lt, arith}
+use Rattle.std.proofs.Common.{◌≡◌, refl, sym, ◌∙◌, ap, ℕ, zero, suc, ◌+◌, ◌<◌, ◌≤◌, Bool, true, false, not, ◌&&◌, subst, List, [], ◌∷◌, length, take, drop, ℤ, ◌≤ℤ◌, ◌<ℤ◌, int_le, int_lt, arith}
 use Rattle.std.proofs.Math.Bool.{beq}
 use Rattle.std.proofs.Math.Numerals.{add-one}
 use Rattle.std.proofs.Math.Seq.{drop-nil}
 use Rattle.std.proofs.lemmas.Int.{ints}
-use Rattle.std.proofs.lemmas.List.{drop-drop, length-drop}
+use Rattle.std.proofs.lemmas.List.{drop-drop}
 use Rattle.lost_spec.specs.Ring.{Point, edges, spans, crosses}
 use Rattle.lost_geo.specs.declared.bounds.Bounds.{Bounds}
 use Rattle.lost_geo.specs.Bounds.{bounds_of}
 use Rattle.lost_geo.specs.Laws.{is_just_one}
-use Rattle.lost_geo.specs.Runs.{is_spanned, between, AreCornersOf}
+use Rattle.lost_geo.specs.Runs.{is_spanned, AreCornersOf}
 use Rattle.lost_geo.proofs.Cuts.{odd_along}
 use Rattle.lost_geo.proofs.Exact.{AreExact-bounds_of}
 use Rattle.lost_geo.proofs.Parity.{odd_count, odd_count-cons, just_one_assoc, just_one_of_false, just_one_with_false}
@@ -88,25 +88,12 @@ spanned_where_right run (a ∷ rest) p is beside =
 
 -- ---- a walk over the runs
 
--- the corners from some on: edges are left, the first two are those of the next run, and behind it come those of the positions behind
-pub record IsAtRun (size : ℕ) (low high : Point) (corners : List Point) (ring : List Point) (begin : ℕ) : Type 0 where
-  pub within : begin < length ring
-  pub bounds : between low high ≡ bounds_of (take (size + 1) (drop begin ring))
-  pub behind : AreCornersOf size (drop 2 corners) (drop (begin + size) ring)
-
-not_past : (ring : List Point) (begin : ℕ) → 1 < length (drop begin ring) → begin < length ring
-not_past ring begin some = omega (arith, simp length-drop at some)
-
-pub at_a_run : (size : ℕ) (low high : Point) (corners : List Point) (ring : List Point) (begin : ℕ) → 1 < length corners →
-    low ≡ get_or corners 0 low → high ≡ get_or corners 1 high →
-    AreCornersOf size corners (drop begin ring) → IsAtRun size low high corners ring begin
-at_a_run size low high [] ring begin some at_low at_high are = absurd (omega arith)
-at_a_run size low high (a ∷ []) ring begin some at_low at_high are = absurd (omega arith)
-at_a_run size low high (a ∷ b ∷ corners) ring begin some at_low at_high are = record {
-  within = not_past ring begin are.0;
-  bounds = ap (λ (p : Point). between p high) at_low ∙ ap (between a) at_high ∙ are.1;
-  behind = subst (AreCornersOf size corners) (drop-drop size begin ring) are.2;
-}
+-- behind the first two corners are those of the positions behind the run
+pub behind_a_run : (size : ℕ) (corners : List Point) (ring : List Point) (begin : ℕ) → 1 < length corners →
+    AreCornersOf size corners (drop begin ring) → AreCornersOf size (drop 2 corners) (drop (begin + size) ring)
+behind_a_run size [] ring begin some are = absurd (omega arith)
+behind_a_run size (a ∷ []) ring begin some are = absurd (omega arith)
+behind_a_run size (a ∷ b ∷ corners) ring begin some are = subst (AreCornersOf size corners) (drop-drop size begin ring) are.2
 
 -- one run further
 pub walk_more : (size : ℕ) (odd crossing total : Bool) (ring : List Point) (begin : ℕ) (part : List Point) (p : Point) →

@@ -1,12 +1,10 @@
 -- How the positions of a ring are kept.
 use Rattle.std.specs.Prelude.{List}
-use Rattle.std.specs.Arc.{arc_value}
 use Rattle.lost_spec.specs.Ring.{Point}
 use Rattle.lost_geo.specs.declared.ring.Ring.{Ring}
-use Rattle.lost_geo.specs.declared.ring.Ring.TheVariants.{Own, Shared, Long}
+use Rattle.lost_geo.specs.declared.ring.Ring.TheVariants.{Plain, Long}
 
--- the positions, in a list of the ring's own or in one that is shared, perhaps with its runs
+-- the positions, alone or with the runs of their edges
 abbrev pub positions_of : Ring → List Point
-positions_of (Own positions) = positions.items
-positions_of (Shared positions) = (arc_value positions).items
-positions_of (Long ring) = arc_value ring
+positions_of (Plain positions) = positions.items
+positions_of (Long ring) = ring

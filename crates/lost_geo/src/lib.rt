@@ -1,6 +1,6 @@
 //! Points and rings in EPSG 4326, latitude first, in whole 1e-7 degrees (RFC 5222, section 12.2; unit own): which
-//! numbers make a point, which points make a ring, and when a point is inside a ring. Only sharing and copying a
-//! polygon take memory.
+//! numbers make a point, which points make a ring, and when a point is inside a ring. Only the runs and a copy
+//! of a polygon take memory.
 #![tactic(auto)]
 
 pub use bounds::Bounds;

@@ -41,6 +41,16 @@ impl LongRing {
         Ok(LongRing { places, len })
     }
 
+    /// A copy.
+    pub(crate) fn clone(&self) -> Result<LongRing, AllocError>
+        ensures { IfOk result (λ ring. ring ≡ self.now) }
+    {
+        Ok(LongRing {
+            places: self.places.clone()?,
+            len: self.len,
+        })
+    }
+
     /// The positions.
     pub(crate) fn positions(&self) -> &[GeoPoint]
         ensures { result.now ≡ self.now }

@@ -55,7 +55,7 @@ impl Polygon {
         check_ring(&positions)?;
         let bounds = Bounds::of(&positions[0], &positions[1..]);
         Ok(Polygon {
-            ring: Ring::Own(positions),
+            ring: Ring::Plain(positions),
             bounds,
         })
     }
@@ -88,19 +88,18 @@ impl Polygon {
         self.bounds.holds(&place) && self.ring.has_odd_crossings(&place)
     }
 
-    /// The same polygon, its positions in a shared list: from then on a copy costs a pointer. Where there are more than
-    /// 33 of them, the list comes with what makes `inside` faster.
-    pub fn share(self, alloc: Global) -> Result<Polygon, AllocError>
+    /// The same polygon. Where it has more than 33 positions, it comes with what makes `inside` faster.
+    pub fn with_runs(self, alloc: Global) -> Result<Polygon, AllocError>
         ensures { IfOk result (λ polygon. polygon ≡ self) }
     {
         let Polygon { ring, bounds } = self;
         Ok(Polygon {
-            ring: ring.share(alloc)?,
+            ring: ring.with_runs(alloc)?,
             bounds,
         })
     }
 
-    /// A copy. It costs a pointer where the positions are shared, and else a copy of each.
+    /// A copy, of each position too.
     pub fn clone(&self) -> Result<Polygon, AllocError>
         ensures { IfOk result (λ copy. copy ≡ self.now) }
     {

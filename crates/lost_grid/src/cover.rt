@@ -12,7 +12,7 @@ use lost_geo::Bounds;
 
 /// The greatest number of cells of a cover: as many as the level of the largest cells has. With few, a ring takes few notes,
 /// and the cells of a large map are so few that they stay near the processor.
-pub(crate) const MAX_CELLS: u32 = 8;
+pub const MAX_CELLS: u32 = 8;
 
 /// The cell at a position among those that bounds meet at the least level at which they are at most [`MAX_CELLS`], by row
 /// and then by column.

@@ -3,6 +3,7 @@
 #![tactic(auto)]
 
 pub use cell::Cell;
+pub use cover::MAX_CELLS;
 pub use geodetic::Geodetic2d;
 
 mod cell;

@@ -1,7 +1,7 @@
 -- How a list is refused where one of its parts is.
 use Rattle.std.proofs.Common.{◌≡◌, ◌≢◌, Bool, true, false, Some, refl, sym, ap, ◌∙◌}
 use Rattle.lost_spec.specs.declared.faults.MappingError.{MappingError}
-use Rattle.lost_spec.specs.declared.faults.MappingError.TheVariants.{BadRegion, Memory}
+use Rattle.lost_spec.specs.declared.faults.MappingError.TheVariants.{Memory}
 use Rattle.lost_location.specs.Refusals.{bad_unless}
 
 fails_where_refused : (passes : Bool) (e : MappingError) → bad_unless passes ≡ Some e → passes ≡ false

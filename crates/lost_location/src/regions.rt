@@ -24,17 +24,17 @@ use std::marker::Model;
 /// Where a mapping holds: its polygons, its patterns and its token sets, each kind in the order in which it was given.
 /// Contracts see the record of the three lists.
 pub struct Regions {
-    token_sets: Vec<TokenSet>,
-    patterns: Vec<CivicPattern>,
     polygons: Polygons,
+    patterns: Vec<CivicPattern>,
+    token_sets: Vec<TokenSet>,
 }
 
 impl Drop for Regions {
     fn drop(self) {
         let Regions {
-            token_sets: _,
-            patterns: _,
             polygons: _,
+            patterns: _,
+            token_sets: _,
         } = self;
     }
 }

@@ -8,25 +8,25 @@ use lost_geo::{GeoPoint, Polygon};
 use lost_spec::faults::MappingError;
 use std::alloc::Global;
 
-/// The polygon of these positions, shared: a copy costs a pointer.
+/// The polygon of these positions.
 pub(crate) fn read_polygon(alloc: Global, positions: &[(i64, i64)]) -> Result<Polygon, MappingError>
     ensures polygon { IfOk result (λ polygon. polygon ≡ map point_of positions.now) }
     ensures refuses { Refuses result (bad_unless (is_ring positions.now)) }
 {
     let points = read_points(alloc, positions)?;
     match Polygon::new(points) {
-        Ok(polygon) => shared(alloc, polygon),
+        Ok(polygon) => with_runs(alloc, polygon),
         Err(_) => Err(MappingError::BadRegion),
     }
 }
 
-/// The same polygon, shared.
-fn shared(alloc: Global, polygon: Polygon) -> Result<Polygon, MappingError>
-    ensures polygon { IfOk result (λ shared. shared ≡ polygon) }
+/// The same polygon, with what makes a search faster.
+fn with_runs(alloc: Global, polygon: Polygon) -> Result<Polygon, MappingError>
+    ensures polygon { IfOk result (λ same. same ≡ polygon) }
     ensures refuses { Refuses result None }
 {
-    match polygon.share(alloc) {
-        Ok(shared) => Ok(shared),
+    match polygon.with_runs(alloc) {
+        Ok(polygon) => Ok(polygon),
         Err(_) => Err(MappingError::Memory),
     }
 }

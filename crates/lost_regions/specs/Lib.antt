@@ -1,2 +1,3 @@
 pub mod UnderNumber
+pub mod MappedPolygons
 pub mod Regions

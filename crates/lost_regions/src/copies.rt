@@ -1,19 +1,23 @@
-//! Copies of a mapping's regions, in their own lists. A copy of a region costs a pointer.
+//! A mapping's regions, in lists of their own. Each costs a pointer.
 ghost use Rattle.std.specs.Prelude.{◌≡◌, IfOk};
 
+use crate::mapped_polygon::MappedPolygon;
 use lost_civic::CivicPattern;
-use lost_geo::Polygon;
 use lost_mapping::Mapping;
 use lost_profile::TokenSet;
 use std::alloc::{AllocError, Global};
 
 /// The polygons of a mapping.
-pub(crate) fn polygons_of(alloc: Global, mapping: &Mapping) -> Result<Vec<Polygon>, AllocError>
+pub(crate) fn polygons_of(
+    alloc: Global,
+    mapping: &Mapping,
+) -> Result<Vec<MappedPolygon>, AllocError>
     ensures { IfOk result (λ polygons. polygons.items ≡ mapping.now.regions.polygons) }
 {
-    let mut polygons = Vec::with_capacity(alloc, mapping.polygons().len())?;
-    for polygon in mapping.polygons() {
-        polygons.push(polygon.clone()?)?;
+    let count = mapping.polygons().len();
+    let mut polygons = Vec::with_capacity(alloc, count)?;
+    for position in 0..count {
+        polygons.push(MappedPolygon::of(mapping, position)?)?;
     }
     Ok(polygons)
 }

@@ -3,6 +3,8 @@
 #![tactic(auto)]
 
 mod copies;
+mod mapped_geodetic;
+mod mapped_polygon;
 mod named_patterns;
 mod part;
 mod regions;

@@ -9,11 +9,11 @@ ghost use Rattle.lost_regions.specs.UnderNumber.{IsHeldWith};
 ghost use Rattle.lost_regions.specs.Regions.{no_regions, AreHeld, IsAboveAll, HasAll, joined, with_mapping, with_more, with_other, without_number, numbers_at, holders_at};
 
 use crate::copies::{patterns_of, polygons_of, token_sets_of};
+use crate::mapped_geodetic::MappedGeodetic2d;
 use crate::named_patterns::NamedPatterns;
-use crate::part::{keep_first, keep_rest};
+use crate::part::{keep_first, keep_first_polygons, keep_rest, keep_rest_polygons};
 use lost_civic::Element;
 use lost_civicdex::{Civic, RequiredElements};
-use lost_grid::Geodetic2d;
 use lost_index::Index;
 use lost_location::Place;
 use lost_mapping::Mapping;
@@ -24,7 +24,7 @@ use std::marker::Model;
 /// The regions of mappings under their numbers, which rise. Contracts see four lists of (number, regions).
 pub struct Regions {
     alloc: Global,
-    points: Index<Geodetic2d>,
+    points: Index<MappedGeodetic2d>,
     addresses: Index<Civic>,
     references: NamedPatterns,
     tokens: Index<Tokens>,
@@ -141,7 +141,7 @@ impl Regions {
     {
         self.points.add(number, polygons_of(self.alloc, new)?)?;
         if self.grow_named(number, old, new).is_err() {
-            keep_first(&mut self.points, number, old.polygons(), new.polygons());
+            keep_first_polygons(&mut self.points, number, old.polygons(), new.polygons());
             return Err(AllocError);
         }
         Ok(())
@@ -193,7 +193,7 @@ impl Regions {
         requires { HasAll number (joined old.now.regions new.now.regions) self.old }
         ensures { self.new ≡ with_other number new.now self.old }
     {
-        keep_rest(&mut self.points, number, old.polygons(), new.polygons());
+        keep_rest_polygons(&mut self.points, number, old.polygons(), new.polygons());
         keep_rest(&mut self.addresses, number, old.patterns(), new.patterns());
         self.references.shed(number, old, new);
         keep_rest(&mut self.tokens, number, old.token_sets(), new.token_sets());

@@ -2,7 +2,7 @@
 use Rattle.std.proofs.Common.{◌≤◌, length, drop, arith}
 use Rattle.lost_geo.specs.Runs.{edges_of_a_run}
 use Rattle.lost_geo.proofs.Cuts.{odd_along}
-use Rattle.lost_geo.proofs.Runs.{at_a_run, walk_more, walk_all}
+use Rattle.lost_geo.proofs.Runs.{behind_a_run, walk_more, walk_all}
 use Rattle.lost_geo.proofs.run.has_odd_crossings.Goals as goal
 
 pub loop-rest-preserved : goal.loop-rest-preserved
@@ -14,8 +14,7 @@ loop-rest-preserved c = record {
   left =
       rw c.run_len-begin.ensures.value
       rw c.behind_corners-rest.ensures.value
-      (at_a_run edges_of_a_run c.index-rest-0.result c.index-rest-1.result c.loop-rest.rest.now c.args.positions.now c.loop-rest.begin c.loop-rest-test.true
-      c.index-rest-0.is c.index-rest-1.is c.loop-rest.invariant.left).behind;
+      (behind_a_run edges_of_a_run c.loop-rest.rest.now c.args.positions.now c.loop-rest.begin c.loop-rest-test.true c.loop-rest.invariant.left);
 }
 
 pub returns : goal.returns

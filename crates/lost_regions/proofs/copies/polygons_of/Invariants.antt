@@ -1,5 +1,5 @@
 use Rattle.std.proofs.Common.{◌≡◌, take}
 use Rattle.lost_regions.proofs.copies.polygons_of.Given as goal
 
-abbrev pub invariant-loop-polygon : goal.invariant-loop-polygon
-invariant-loop-polygon l = l.polygons.items ≡ take l.polygon-index l.mapping.regions.polygons
+abbrev pub invariant-loop-position : goal.invariant-loop-position
+invariant-loop-position l = l.polygons.items ≡ take l.position l.mapping.regions.polygons

@@ -9,8 +9,8 @@ add-requires c =
     is_held c.args.number c.args.old.now.regions.polygons c.self.inside.points
     (subst (IsHeldWith c.args.number c.args.old.now.regions.polygons) (sym (ap (λ r. r.points) c.self.view_is)) c.requires.points)
 
-pub keep_first-requires : goal.keep_first-requires
-keep_first-requires c =
+pub keep_first_polygons-requires : goal.keep_first_polygons-requires
+keep_first_polygons-requires c =
     let back : c.self-2.inside.points ≡ c.add.new.self = search rules in
     grown c.args.number c.args.old.now.regions.polygons c.in_ok-polygons_of.field-0.items _ _ c.self.inside.points c.self-2.inside.points
     (subst (IsHeldWith c.args.number c.args.old.now.regions.polygons) (sym (ap (λ r. r.points) c.self.view_is)) c.requires.points)
@@ -24,7 +24,7 @@ returns-then-is_err-clause-refused c =
     let references : c.self-2.inside.references ≡ c.self.inside.references = search rules in
     let tokens : c.self-2.inside.tokens ≡ c.self.inside.tokens = search rules in
     same_lists _ _ _ _ _ _ _ _
-    (c.keep_first.ensures
+    (c.keep_first_polygons.ensures
     ∙ growth_undone c.args.number c.args.old.now.regions.polygons c.in_ok-polygons_of.field-0.items c.polygons.result.now c.self.inside.points c.self-2.inside.points
     (subst (IsHeldWith c.args.number c.args.old.now.regions.polygons) (sym (ap (λ r. r.points) c.self.view_is)) c.requires.points)
     (back ∙ c.in_ok-add.ensures.added) c.polygons.ensures)
