@@ -44,18 +44,19 @@ impl Drop for Mapping {
 
 #[derive(Drop)]
 struct Fields {
+    // What a search looks at lies together, beside the count of owners, and then what a reply takes.
+    is_default: bool,
+    expires: Expires,
+    service: ServiceUrn,
+    regions: Regions,
+    reference_text: Option<ReferenceText>,
+    // The rest.
     identity: Identity,
     stamp: Stamp,
     uris: Vec<String>,
     number: Option<String>,
     display_names: Vec<DisplayName>,
     key: Option<String>,
-    // What a search looks at lies together, from the polygons of the regions on.
-    regions: Regions,
-    service: ServiceUrn,
-    reference_text: Option<ReferenceText>,
-    is_default: bool,
-    expires: Expires,
 }
 
 impl Model for Mapping {
