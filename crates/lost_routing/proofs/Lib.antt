@@ -7,3 +7,4 @@ pub mod QuestionLemmas
 pub mod NamedLemmas
 pub mod ServiceLemmas
 pub mod ChainLemmas
+pub mod RefusalLemmas

@@ -19,13 +19,7 @@ impl Store {
             → Covers test self.now.numbers self.now.mappings candidates.now
             → IfOk result (λ found. found.items ≡ positions test self.now.mappings) }
     {
-        picks::select(
-            self.alloc,
-            &self.numbers,
-            &self.mappings,
-            candidates,
-            passes,
-        )
+        picks::select(self.alloc, &self.rows, candidates, passes)
     }
 
     /// Whether some mapping passes a test, given candidates among which is the number of each that does.
@@ -35,6 +29,6 @@ impl Store {
             → Covers test self.now.numbers self.now.mappings candidates.now
             → result ≡ list_any test self.now.mappings }
     {
-        picks::any(&self.numbers, &self.mappings, candidates, passes)
+        picks::any(&self.rows, candidates, passes)
     }
 }

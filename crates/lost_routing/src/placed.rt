@@ -27,8 +27,8 @@ impl Store {
             → ((m : spec.Mapping) → test m ≡ true → holds m (place_of place.now) ≡ true)
             → IfOk result (λ found. found.items ≡ positions test self.now.mappings) }
     {
-        if self.mappings.len() <= FEW {
-            return scan(self.alloc, &self.mappings, passes);
+        if self.rows.len() <= FEW {
+            return scan(self.alloc, &self.rows, passes);
         }
         let candidates = self.regions.near(place)?;
         self.pick(candidates.as_slice(), passes)
@@ -84,8 +84,8 @@ impl Store {
             → ((m : spec.Mapping) → test m ≡ true → IsHolderBelow service.now (place_of place.now) m)
             → IfOk result (λ found. found.items ≡ positions test self.now.mappings) }
     {
-        if self.mappings.len() <= FEW {
-            return scan(self.alloc, &self.mappings, passes);
+        if self.rows.len() <= FEW {
+            return scan(self.alloc, &self.rows, passes);
         }
         let candidates = self.near_below(place, service)?;
         self.pick(candidates.as_slice(), passes)

@@ -21,7 +21,7 @@ impl Store {
         ensures { result ≡ position (λ m. has_identity m identity.now) self.now.mappings }
     {
         let candidates = self.tables.of_identity(identity);
-        picks::first(&self.numbers, &self.mappings, candidates, |mapping| {
+        picks::first(&self.rows, candidates, |mapping| {
             has_identity(mapping, identity)
         })
     }
@@ -32,7 +32,7 @@ impl Store {
         ensures { result ≡ list_any (λ m. has_identity m identity.now) self.now.mappings }
     {
         let candidates = self.tables.of_identity(identity);
-        picks::any(&self.numbers, &self.mappings, candidates, |mapping| {
+        picks::any(&self.rows, candidates, |mapping| {
             has_identity(mapping, identity)
         })
     }
@@ -42,7 +42,7 @@ impl Store {
         ensures { option_copied result ≡ find (λ m. has_identity m identity.now) self.now.mappings }
     {
         match self.of_identity(identity) {
-            Some(position) => self.mappings.get(position),
+            Some(position) => self.rows.get(position),
             None => None,
         }
     }
@@ -53,7 +53,7 @@ impl Store {
         ensures { result ≡ list_any (λ m. not (has_identity m identity.now) && has_key m key.now) self.now.mappings }
     {
         let candidates = self.tables.of_key(key);
-        picks::any(&self.numbers, &self.mappings, candidates, |mapping| {
+        picks::any(&self.rows, candidates, |mapping| {
             !has_identity(mapping, identity) && has_key(mapping, key)
         })
     }
@@ -64,7 +64,7 @@ impl Store {
         ensures { result ≡ position (has_live_key moment.now key.now) self.now.mappings }
     {
         let candidates = self.tables.of_key(key);
-        picks::first(&self.numbers, &self.mappings, candidates, |mapping| {
+        picks::first(&self.rows, candidates, |mapping| {
             mapping.is_live(moment) && has_key(mapping, key)
         })
     }

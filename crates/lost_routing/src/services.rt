@@ -10,7 +10,7 @@ ghost use Rattle.lost_routing.specs.Walk.{is_live_of, live_position};
 use crate::store::Store;
 use lost_mapping::{Mapping, Moment};
 use lost_query::Children;
-use lost_tables::{TieredVec, laws, picks};
+use lost_tables::{NumberedMappings, laws, picks};
 use lost_urn::ServiceUrn;
 use std::alloc::AllocError;
 
@@ -28,9 +28,9 @@ impl Store {
         let mut children = Children::new(self.alloc, above);
         for row in 0..self.tables.service_count() {
             let (text, candidates) = self.tables.service_at(row);
-            let position = live_position(&self.numbers, &self.mappings, moment, text, candidates);
+            let position = live_position(&self.rows, moment, text, candidates);
             if let Some(position) = position {
-                children.add(self.mappings.at(position).service())?;
+                children.add(self.rows.at(position).service())?;
             }
         }
 
@@ -43,17 +43,16 @@ impl Store {
 /// The position of the first of these candidates whose mapping is live and has the service of this text. The numbers of
 /// the mappings rise.
 fn live_position(
-    numbers: &TieredVec<u64>,
-    mappings: &TieredVec<Mapping>,
+    rows: &NumberedMappings,
     moment: &Moment,
     text: &str,
     candidates: &[u64],
 ) -> Option<usize>
-    requires rising { IsStrictlySortedBy nat_cmp numbers.now }
-    requires paired { length numbers.now ≡ length mappings.now }
-    ensures { result ≡ live_position numbers.now mappings.now moment.now text.now candidates.now }
+    requires rising { IsStrictlySortedBy nat_cmp rows.now.numbers }
+    requires paired { length rows.now.numbers ≡ length rows.now.mappings }
+    ensures { result ≡ live_position rows.now.numbers rows.now.mappings moment.now text.now candidates.now }
 {
-    picks::one(numbers, mappings, candidates, |mapping| {
+    picks::one(rows, candidates, |mapping| {
         is_live_of(mapping, moment, text)
     })
 }

@@ -7,7 +7,7 @@ use crate::classes::Classes;
 use crate::entering::{enter, exchange, leave};
 use lost_mapping::Mapping;
 use lost_regions::Regions;
-use lost_tables::{Tables, TieredVec};
+use lost_tables::{NumberedMappings, Tables};
 use std::alloc::{AllocError, Global};
 use std::marker::Model;
 
@@ -17,8 +17,7 @@ use std::marker::Model;
 #[derive(Drop)]
 pub(crate) struct Store {
     pub(crate) alloc: Global,
-    pub(crate) numbers: TieredVec<u64>,
-    pub(crate) mappings: TieredVec<Mapping>,
+    pub(crate) rows: NumberedMappings,
     pub(crate) tables: Tables,
     pub(crate) regions: Regions,
     pub(crate) strays: Classes,
@@ -30,9 +29,9 @@ impl Model for Store {
 
     ghost Value = { spec.Stored };
 
-    ghost view = { λ h. record { numbers = h.numbers; mappings = h.mappings } };
+    ghost view = { λ h. record { numbers = h.rows.numbers; mappings = h.rows.mappings } };
 
-    ghost invariant = { λ h. IsClassed h.numbers h.mappings h.tables h.regions h.strays };
+    ghost invariant = { λ h. IsClassed h.rows.numbers h.rows.mappings h.tables h.regions h.strays };
 }
 
 impl Store {
@@ -42,8 +41,7 @@ impl Store {
     {
         Store {
             alloc,
-            numbers: TieredVec::new(alloc),
-            mappings: TieredVec::new(alloc),
+            rows: NumberedMappings::new(alloc),
             tables: Tables::new(alloc),
             regions: Regions::new(alloc),
             strays: Classes::none(),
@@ -54,7 +52,7 @@ impl Store {
     pub(crate) fn len(&self) -> usize
         ensures { result ≡ length self.now.mappings }
     {
-        self.mappings.len()
+        self.rows.len()
     }
 
     /// The mapping at a position.
@@ -62,7 +60,7 @@ impl Store {
         requires { position < length self.now.mappings }
         ensures { slice_get self.now.mappings position ≡ Some result.now }
     {
-        self.mappings.at(position)
+        self.rows.at(position)
     }
 
     /// Adds a mapping at the end, under a number that is above all. If memory is refused, nothing changes.
@@ -71,16 +69,11 @@ impl Store {
         ensures put { OnOk result (self.new ≡ with_last number mapping self.old) }
         ensures refused { OnErr result (self.new ≡ self.old) }
     {
-        let position = self.numbers.len();
-        self.numbers.push(number)?;
-        if self.mappings.push(mapping).is_err() {
-            self.numbers.remove(position);
-            return Err(AllocError);
-        }
-        let mapping = self.mappings.at(position);
+        let position = self.rows.len();
+        self.rows.push(number, mapping)?;
+        let mapping = self.rows.at(position);
         if enter(&mut self.tables, &mut self.regions, mapping, number).is_err() {
-            self.numbers.remove(position);
-            self.mappings.remove(position);
+            self.rows.remove(position);
             return Err(AllocError);
         }
         self.strays.note(number, mapping);
@@ -93,16 +86,16 @@ impl Store {
         ensures changed { OnOk result (self.new ≡ with_mapping_at position mapping self.old) }
         ensures refused { OnErr result (self.new ≡ self.old) }
     {
-        let number = *self.numbers.at(position);
+        let number = self.rows.number_at(position);
         exchange(
             &mut self.tables,
             &mut self.regions,
-            self.mappings.at(position),
+            self.rows.at(position),
             &mapping,
             number,
         )?;
         self.strays.note(number, &mapping);
-        self.mappings.set(position, mapping);
+        self.rows.set(position, mapping);
         Ok(())
     }
 
@@ -111,8 +104,7 @@ impl Store {
         requires { position < length self.old.mappings }
         ensures { self.new ≡ without_position position self.old }
     {
-        let number = self.numbers.remove(position);
-        let mapping = self.mappings.remove(position);
+        let (number, mapping) = self.rows.remove(position);
         leave(&mut self.tables, &mut self.regions, &mapping, number);
     }
 
@@ -121,9 +113,9 @@ impl Store {
         ensures { IfOk result (λ copy. copy ≡ self.now) }
     {
         let mut copy = Store::new(self.alloc);
-        for position in 0..self.mappings.len() {
-            let mapping = self.mappings.at(position).clone()?;
-            copy.put(*self.numbers.at(position), mapping)?;
+        for position in 0..self.rows.len() {
+            let mapping = self.rows.at(position).clone()?;
+            copy.put(self.rows.number_at(position), mapping)?;
         }
         Ok(copy)
     }

@@ -31,7 +31,7 @@ impl Store {
         ensures { result ≡ list_any (λ m. serves m moment.now (take labels service.now)) self.now.mappings }
     {
         let candidates = self.tables.of_service(service.front(labels));
-        picks::any(&self.numbers, &self.mappings, candidates, |mapping| {
+        picks::any(&self.rows, candidates, |mapping| {
             mapping.is_live(moment) && is_front(mapping, service, labels)
         })
     }

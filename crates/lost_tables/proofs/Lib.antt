@@ -4,3 +4,4 @@ pub mod PickLemmas
 pub mod RisingLemmas
 pub mod WalkLemmas
 pub mod ChunkLemmas
+pub mod NumberedLemmas

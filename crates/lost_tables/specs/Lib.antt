@@ -2,3 +2,4 @@ pub mod Lists
 pub mod Lookup
 pub mod Picks
 pub mod Chunks
+pub mod Numbered

@@ -8,7 +8,7 @@ ghost use Rattle.lost_spec.specs.Mapping as spec;
 ghost use Rattle.lost_spec.specs.Positions.{positions};
 ghost use Rattle.lost_tables.specs.Picks.{Covers, AreBelow, AreAbove, passing, lesser as lesser_of};
 
-use crate::TieredVec;
+use crate::numbered::NumberedMappings;
 use lost_mapping::Mapping;
 use smallvec::SmallVec;
 use std::alloc::{AllocError, Global};
@@ -21,14 +21,14 @@ pub const SPREAD: u64 = 64;
 const REACHES: [usize; 5] = [1, 8, 64, 512, 4_096];
 
 /// The position of a number among rising numbers. It takes no memory.
-pub fn position_of(numbers: &TieredVec<u64>, number: u64) -> Option<usize>
-    requires rising { IsStrictlySortedBy nat_cmp numbers.now }
-    ensures { result ≡ position (nat_eq number) numbers.now }
+pub fn position_of(things: &NumberedMappings, number: u64) -> Option<usize>
+    requires rising { IsStrictlySortedBy nat_cmp things.now.numbers }
+    ensures { result ≡ position (nat_eq number) things.now.numbers }
 {
-    let likely = likely_position(numbers, number);
-    match numbers.get(likely) {
-        Some(there) if *there == number => Some(likely),
-        _ => searched_position(numbers, number),
+    let likely = likely_position(things, number);
+    match things.number(likely) {
+        Some(there) if there == number => Some(likely),
+        _ => searched_position(things, number),
     }
 }
 
@@ -36,44 +36,44 @@ pub fn position_of(numbers: &TieredVec<u64>, number: u64) -> Option<usize>
 /// SPREAD`. Where the numbers were put one after another, the position is at most that, lower by the count of numbers
 /// left out below it: mostly few. So the search begins there and reaches down, which reads fewer far parts of a long
 /// list than halving does.
-fn likely_position(numbers: &TieredVec<u64>, number: u64) -> usize
-    requires rising { IsStrictlySortedBy nat_cmp numbers.now }
+fn likely_position(things: &NumberedMappings, number: u64) -> usize
+    requires rising { IsStrictlySortedBy nat_cmp things.now.numbers }
 {
     let place = (number / SPREAD) as usize;
-    let end = numbers.len().min(place.saturating_add(1));
+    let end = things.len().min(place.saturating_add(1));
     for reach in REACHES {
         let start = end.saturating_sub(reach);
-        if numbers.get(start).is_some_and(|first| *first <= number) {
-            return halved(numbers, number, start, end);
+        if things.number(start).is_some_and(|first| first <= number) {
+            return halved(things, number, start, end);
         }
     }
     end
 }
 
 /// The position of a number among rising numbers, by a search of all of them.
-fn searched_position(numbers: &TieredVec<u64>, number: u64) -> Option<usize>
-    requires rising { IsStrictlySortedBy nat_cmp numbers.now }
-    ensures { result ≡ position (nat_eq number) numbers.now }
+fn searched_position(things: &NumberedMappings, number: u64) -> Option<usize>
+    requires rising { IsStrictlySortedBy nat_cmp things.now.numbers }
+    ensures { result ≡ position (nat_eq number) things.now.numbers }
 {
-    let found = halved(numbers, number, 0, numbers.len());
-    match numbers.get(found) {
-        Some(there) if *there == number => Some(found),
+    let found = halved(things, number, 0, things.len());
+    match things.number(found) {
+        Some(there) if there == number => Some(found),
         _ => None,
     }
 }
 
 /// The end of the numbers below a number, among rising numbers from `start` to `end`.
-fn halved(numbers: &TieredVec<u64>, number: u64, start: usize, end: usize) -> usize
-    requires rising { IsStrictlySortedBy nat_cmp numbers.now }
-    ensures below { AreBelow number numbers.now start → AreBelow number numbers.now result }
-    ensures above { AreAbove number numbers.now end → AreAbove number numbers.now result }
+fn halved(things: &NumberedMappings, number: u64, start: usize, end: usize) -> usize
+    requires rising { IsStrictlySortedBy nat_cmp things.now.numbers }
+    ensures below { AreBelow number things.now.numbers start → AreBelow number things.now.numbers result }
+    ensures above { AreAbove number things.now.numbers end → AreAbove number things.now.numbers result }
 {
     let mut low = start;
     let mut high = end;
     while low < high {
         let middle = low + (high - low) / 2;
-        match numbers.get(middle) {
-            Some(there) if *there < number => low = middle + 1,
+        match things.number(middle) {
+            Some(there) if there < number => low = middle + 1,
             _ => high = middle,
         }
     }
@@ -84,21 +84,20 @@ fn halved(numbers: &TieredVec<u64>, number: u64, start: usize, end: usize) -> us
 /// number of each thing that passes, in any order, and may contain others. Up to two positions take no memory.
 pub fn select<F: Fn(&Mapping) -> bool>(
     alloc: Global,
-    numbers: &TieredVec<u64>,
-    things: &TieredVec<Mapping>,
+    things: &NumberedMappings,
     candidates: &[u64],
     passes: F,
 ) -> Result<SmallVec<usize, 2>, AllocError>
     requires callable { F.IsAlwaysCallable passes }
-    requires rising { IsStrictlySortedBy nat_cmp numbers.now }
-    requires paired { length numbers.now ≡ length things.now }
+    requires rising { IsStrictlySortedBy nat_cmp things.now.numbers }
+    requires paired { length things.now.numbers ≡ length things.now.mappings }
     ensures { (test : spec.Mapping → Bool) → ((m : spec.Mapping) (r : Bool) → FnReturnsAt F.Fn passes m r → r ≡ test m)
-        → Covers test numbers.now things.now candidates.now
-        → IfOk result (λ found. found.items ≡ positions test things.now) }
+        → Covers test things.now.numbers things.now.mappings candidates.now
+        → IfOk result (λ found. found.items ≡ positions test things.now.mappings) }
 {
     let mut found = SmallVec::new(alloc);
     for candidate in candidates {
-        if let Some(position) = passing_position(numbers, things, *candidate, &passes) {
+        if let Some(position) = passing_position(things, *candidate, &passes) {
             found.push(position)?;
         }
     }
@@ -110,24 +109,20 @@ pub fn select<F: Fn(&Mapping) -> bool>(
 /// The position of the first thing that passes a test. The numbers of the things rise. The candidates contain the
 /// number of each thing that passes, in any order, and may contain others. It takes no memory.
 pub fn first<F: Fn(&Mapping) -> bool>(
-    numbers: &TieredVec<u64>,
-    things: &TieredVec<Mapping>,
+    things: &NumberedMappings,
     candidates: &[u64],
     passes: F,
 ) -> Option<usize>
     requires callable { F.IsAlwaysCallable passes }
-    requires rising { IsStrictlySortedBy nat_cmp numbers.now }
-    requires paired { length numbers.now ≡ length things.now }
+    requires rising { IsStrictlySortedBy nat_cmp things.now.numbers }
+    requires paired { length things.now.numbers ≡ length things.now.mappings }
     ensures { (test : spec.Mapping → Bool) → ((m : spec.Mapping) (r : Bool) → FnReturnsAt F.Fn passes m r → r ≡ test m)
-        → Covers test numbers.now things.now candidates.now
-        → result ≡ position test things.now }
+        → Covers test things.now.numbers things.now.mappings candidates.now
+        → result ≡ position test things.now.mappings }
 {
     let mut least = None;
     for candidate in candidates {
-        least = lesser(
-            least,
-            passing_position(numbers, things, *candidate, &passes),
-        );
+        least = lesser(least, passing_position(things, *candidate, &passes));
     }
     least
 }
@@ -135,19 +130,18 @@ pub fn first<F: Fn(&Mapping) -> bool>(
 /// The position of a thing that passes a test, the first by the order of the candidates. The numbers of the things
 /// rise. It takes no memory.
 pub fn one<F: Fn(&Mapping) -> bool>(
-    numbers: &TieredVec<u64>,
-    things: &TieredVec<Mapping>,
+    things: &NumberedMappings,
     candidates: &[u64],
     passes: F,
 ) -> Option<usize>
     requires callable { F.IsAlwaysCallable passes }
-    requires rising { IsStrictlySortedBy nat_cmp numbers.now }
-    requires paired { length numbers.now ≡ length things.now }
+    requires rising { IsStrictlySortedBy nat_cmp things.now.numbers }
+    requires paired { length things.now.numbers ≡ length things.now.mappings }
     ensures { (test : spec.Mapping → Bool) → ((m : spec.Mapping) (r : Bool) → FnReturnsAt F.Fn passes m r → r ≡ test m)
-        → result ≡ slice_get (filter_map (passing test numbers.now things.now) candidates.now) 0 }
+        → result ≡ slice_get (filter_map (passing test things.now.numbers things.now.mappings) candidates.now) 0 }
 {
     for candidate in candidates {
-        let position = passing_position(numbers, things, *candidate, &passes);
+        let position = passing_position(things, *candidate, &passes);
         if position.is_some() {
             return position;
         }
@@ -158,20 +152,19 @@ pub fn one<F: Fn(&Mapping) -> bool>(
 /// Whether some thing passes a test. The numbers of the things rise. The candidates contain the number of each thing
 /// that passes, in any order, and may contain others. It takes no memory.
 pub fn any<F: Fn(&Mapping) -> bool>(
-    numbers: &TieredVec<u64>,
-    things: &TieredVec<Mapping>,
+    things: &NumberedMappings,
     candidates: &[u64],
     passes: F,
 ) -> bool
     requires callable { F.IsAlwaysCallable passes }
-    requires rising { IsStrictlySortedBy nat_cmp numbers.now }
-    requires paired { length numbers.now ≡ length things.now }
+    requires rising { IsStrictlySortedBy nat_cmp things.now.numbers }
+    requires paired { length things.now.numbers ≡ length things.now.mappings }
     ensures { (test : spec.Mapping → Bool) → ((m : spec.Mapping) (r : Bool) → FnReturnsAt F.Fn passes m r → r ≡ test m)
-        → Covers test numbers.now things.now candidates.now
-        → result ≡ list_any test things.now }
+        → Covers test things.now.numbers things.now.mappings candidates.now
+        → result ≡ list_any test things.now.mappings }
 {
     for candidate in candidates {
-        if passing_position(numbers, things, *candidate, &passes).is_some() {
+        if passing_position(things, *candidate, &passes).is_some() {
             return true;
         }
     }
@@ -180,18 +173,17 @@ pub fn any<F: Fn(&Mapping) -> bool>(
 
 /// The position of the thing with a number, if it passes a test.
 fn passing_position<F: Fn(&Mapping) -> bool>(
-    numbers: &TieredVec<u64>,
-    things: &TieredVec<Mapping>,
+    things: &NumberedMappings,
     number: u64,
     passes: &F,
 ) -> Option<usize>
     requires callable { F.IsAlwaysCallable passes.now }
-    requires rising { IsStrictlySortedBy nat_cmp numbers.now }
-    requires paired { length numbers.now ≡ length things.now }
+    requires rising { IsStrictlySortedBy nat_cmp things.now.numbers }
+    requires paired { length things.now.numbers ≡ length things.now.mappings }
     ensures { (test : spec.Mapping → Bool) → ((m : spec.Mapping) (r : Bool) → FnReturnsAt F.Fn passes.now m r → r ≡ test m)
-        → result ≡ passing test numbers.now things.now number }
+        → result ≡ passing test things.now.numbers things.now.mappings number }
 {
-    let position = position_of(numbers, number)?;
+    let position = position_of(things, number)?;
     if passes(things.at(position)) {
         Some(position)
     } else {

@@ -9,17 +9,17 @@ use Rattle.lost_routing.proofs.store.Store.change.Goals as goal
 
 pub exchange-requires : goal.exchange-requires
 exchange-requires c =
-    at_has c.self.inside.numbers c.self.inside.mappings c.self.inside.tables c.self.inside.regions c.self.invariant.store
-    c.args.position c.at-number.result.now c.at.result.now
-    (subst (λ l. c.args.position < length l) (sym (ap (λ k. k.mappings) c.self.view_is)) c.requires) c.at-number.ensures c.at.ensures
+    at_has c.self.inside.rows.numbers c.self.inside.rows.mappings c.self.inside.tables c.self.inside.regions c.self.invariant.store
+    c.args.position c.number_at-number.result c.at.result.now
+    (subst (λ l. c.args.position < length l) (sym (ap (λ k. k.mappings) c.self.view_is)) c.requires) c.number_at-number.ensures c.at.ensures
 
 pub invariant_of-self : goal.invariant_of-self
 invariant_of-self c =
     record {
       store =
-          at_unchanged c.self.inside.numbers c.self.inside.mappings c.self.inside.tables c.self.inside.regions c.self.invariant.store
-          c.args.position c.at-number.result.now c.at.result.now
-          (subst (λ l. c.args.position < length l) (sym (ap (λ k. k.mappings) c.self.view_is)) c.requires) c.at-number.ensures c.at.ensures
+          at_unchanged c.self.inside.rows.numbers c.self.inside.rows.mappings c.self.inside.tables c.self.inside.regions c.self.invariant.store
+          c.args.position c.number_at-number.result c.at.result.now
+          (subst (λ l. c.args.position < length l) (sym (ap (λ k. k.mappings) c.self.view_is)) c.requires) c.number_at-number.ensures c.at.ensures
           c.exchange.new.tables c.exchange.new.regions c.in_err-exchange.ensures.remaining c.exchange.ensures.others c.in_err-exchange.ensures.refused;
       told = c.self.invariant.told;
     }
@@ -28,16 +28,18 @@ pub invariant_of-self-2 : goal.invariant_of-self-2
 invariant_of-self-2 c =
     record {
       store =
-          subst (λ l. IsStore c.self.inside.numbers l c.exchange.new.tables c.exchange.new.regions) (sym c.set.ensures)
-          (at_changed c.self.inside.numbers c.self.inside.mappings c.self.inside.tables c.self.inside.regions c.self.invariant.store
-          c.args.position c.at-number.result.now c.at.result.now
-          (subst (λ l. c.args.position < length l) (sym (ap (λ k. k.mappings) c.self.view_is)) c.requires) c.at-number.ensures c.at.ensures
+          subst (λ l. IsStore l c.set.new.self.mappings c.exchange.new.tables c.exchange.new.regions) (sym c.set.ensures.numbers)
+          (subst (λ l. IsStore c.self.inside.rows.numbers l c.exchange.new.tables c.exchange.new.regions) (sym c.set.ensures.mappings)
+          (at_changed c.self.inside.rows.numbers c.self.inside.rows.mappings c.self.inside.tables c.self.inside.regions c.self.invariant.store
+          c.args.position c.number_at-number.result c.at.result.now
+          (subst (λ l. c.args.position < length l) (sym (ap (λ k. k.mappings) c.self.view_is)) c.requires) c.number_at-number.ensures c.at.ensures
           c.args.mapping c.exchange.new.tables c.exchange.new.regions c.in_ok-exchange.ensures.listed c.exchange.ensures.others
-          c.in_ok-exchange.ensures.changed);
+          c.in_ok-exchange.ensures.changed));
       told =
-          subst (λ l. AreTold c.note.new.self (zip c.self.inside.numbers l)) (sym c.set.ensures)
-          (told_changed c.self.inside.strays c.note.new.self c.self.inside.numbers c.self.inside.mappings c.args.position c.at-number.result.now
+          subst (λ l. AreTold c.note.new.self (zip l c.set.new.self.mappings)) (sym c.set.ensures.numbers)
+          (subst (λ l. AreTold c.note.new.self (zip c.self.inside.rows.numbers l)) (sym c.set.ensures.mappings)
+          (told_changed c.self.inside.strays c.note.new.self c.self.inside.rows.numbers c.self.inside.rows.mappings c.args.position c.number_at-number.result
           c.args.mapping c.self.invariant.store.paired
-          (subst (λ l. c.args.position < length l) (sym (ap (λ k. k.mappings) c.self.view_is)) c.requires) c.at-number.ensures
-          c.note.ensures.keeps c.note.ensures.told c.self.invariant.told);
+          (subst (λ l. c.args.position < length l) (sym (ap (λ k. k.mappings) c.self.view_is)) c.requires) c.number_at-number.ensures
+          c.note.ensures.keeps c.note.ensures.told c.self.invariant.told));
     }

@@ -6,7 +6,7 @@ use Rattle.lost_routing.proofs.store.Store.clone.Goals as goal
 
 pub put-requires : goal.put-requires
 put-requires c =
-    let numbers : c.loop-position.copy.numbers ≡ take c.loop-position.position c.self.inside.numbers = search rules in
-    let within : c.loop-position.position < length c.self.inside.numbers = search (arith, rules) in
-    subst (IsNew c.at-in-loop-position.result.now) (sym numbers)
-    (new_at c.self.inside.numbers c.loop-position.position c.at-in-loop-position.result.now within c.at-in-loop-position.ensures c.self.invariant.store.rising)
+    let numbers : c.loop-position.copy.numbers ≡ take c.loop-position.position c.self.inside.rows.numbers = search rules in
+    let within : c.loop-position.position < length c.self.inside.rows.numbers = search (arith, rules) in
+    subst (IsNew c.number_at.result) (sym numbers)
+    (new_at c.self.inside.rows.numbers c.loop-position.position c.number_at.result within c.number_at.ensures c.self.invariant.store.rising)

@@ -9,6 +9,6 @@ pub returns : goal.returns
 returns c =
     c.pick.ensures (is_standby c.args.moment.now c.args.service.now) (λ m r says. search rules)
     (subst (λ k. Covers (is_standby c.args.moment.now c.args.service.now) k.numbers k.mappings c.of_default-candidates.result.now) c.self.view_is
-    (covers_default c.self.inside.numbers c.self.inside.mappings c.self.inside.tables c.self.inside.regions c.self.invariant.store
+    (covers_default c.self.inside.rows.numbers c.self.inside.rows.mappings c.self.inside.tables c.self.inside.regions c.self.invariant.store
     c.args.moment.now c.args.service.now c.of_default-candidates.result.now
     (c.of_default-candidates.ensures c.args.service.now c.text.ensures.text)))

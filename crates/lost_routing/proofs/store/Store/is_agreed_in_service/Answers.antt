@@ -10,6 +10,6 @@ returns c =
     let r = c.args.reference.now in
     c.has_any.ensures (is_referring_by r) (λ m b says. search rules)
     (subst (λ k. Covers (is_referring_by r) k.numbers k.mappings c.of_service-candidates.result.now) c.self.view_is
-    (covers_referring c.self.inside.numbers c.self.inside.mappings c.self.inside.tables c.self.inside.regions c.self.invariant.store
+    (covers_referring c.self.inside.rows.numbers c.self.inside.rows.mappings c.self.inside.tables c.self.inside.regions c.self.invariant.store
     r.moment.now r.service.now r.address.now r.elements.now c.of_service-candidates.result.now
     (c.of_service-candidates.ensures r.service.now c.text.ensures.text)))

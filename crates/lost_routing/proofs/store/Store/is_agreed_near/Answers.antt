@@ -11,6 +11,6 @@ returns c =
     c.has_any-agreed.ensures (is_referring_by r) (λ m b says. search rules)
     (subst (λ k. Covers (is_referring_by r) k.numbers k.mappings c.as_slice.result.now) c.self.view_is
     (covers_naming r.address.now r.moment.now r.service.now r.elements.now
-    c.self.inside.numbers c.self.inside.mappings c.self.inside.tables c.self.inside.regions c.self.invariant.store
+    c.self.inside.rows.numbers c.self.inside.rows.mappings c.self.inside.tables c.self.inside.regions c.self.invariant.store
     c.args.required.now c.as_slice.result.now c.requires
     (λ n stands. subst (λ l. Contains l n) (sym c.as_slice.ensures.value) (c.in_ok-candidates.ensures.holders n stands))))

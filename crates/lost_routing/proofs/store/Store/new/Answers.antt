@@ -6,6 +6,5 @@ use Rattle.lost_routing.proofs.store.Store.new.Goals as goal
 
 pub invariant_of-result : goal.invariant_of-result
 invariant_of-result c =
-    subst (λ l. IsClassed l c.new-2.result c.new-3.result c.new-4.result c.none.result) (sym c.new.ensures)
-    (subst (λ l. IsClassed [] l c.new-3.result c.new-4.result c.none.result) (sym c.new-2.ensures)
-    (subst (λ r. IsClassed [] [] c.new-3.result r c.none.result) (sym c.new-4.ensures) (nothing_classed c.new-3.result c.none.result)))
+    subst (λ k. IsClassed k.numbers k.mappings c.new-2.result c.new-3.result c.none.result) (sym c.new.ensures)
+    (subst (λ r. IsClassed [] [] c.new-2.result r c.none.result) (sym c.new-3.ensures) (nothing_classed c.new-2.result c.none.result))

@@ -9,6 +9,6 @@ pub returns : goal.returns
 returns g c = λ test says tells.
     c.pick.ensures test says
     (subst (λ k. Covers test k.numbers k.mappings c.as_slice.result.now) c.self.view_is
-    (covers_at c.self.inside.numbers c.self.inside.mappings c.self.inside.tables c.self.inside.regions c.self.invariant.store
+    (covers_at c.self.inside.rows.numbers c.self.inside.rows.mappings c.self.inside.tables c.self.inside.regions c.self.invariant.store
     test (place_of c.args.place.now) c.as_slice.result.now tells
     (λ n stands. subst (λ l. Contains l n) (sym c.as_slice.ensures.value) (c.in_ok-candidates.ensures.holders n stands))))

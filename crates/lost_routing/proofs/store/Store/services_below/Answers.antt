@@ -14,8 +14,8 @@ pub at-requires : goal.at-requires
 at-requires c =
     let row : Text × List ℕ = (c.service_at.result.0.now, c.service_at.result.1.now) in
     let held = c.self.inside in
-    let within : c.in-Some.position < length held.mappings =
-    chosen_within held.numbers held.mappings held.tables held.regions c.self.invariant.store (option_copied c.args.above) c.args.moment.now
+    let within : c.in-Some.position < length held.rows.mappings =
+    chosen_within held.rows.numbers held.rows.mappings held.tables held.regions c.self.invariant.store (option_copied c.args.above) c.args.moment.now
     row c.in-Some.position
     c.in-Some.ensures in
     search rules
@@ -26,16 +26,16 @@ loop-row-preserved c =
     let held = c.self.inside in
     elim c.match-position.branch [
       | in-Some+in_ok-add w ↦ rw w.children-is
-          (one_more held.numbers held.mappings held.tables held.regions c.self.invariant.store (option_copied c.args.above) c.args.moment.now
+          (one_more held.rows.numbers held.rows.mappings held.tables held.regions c.self.invariant.store (option_copied c.args.above) c.args.moment.now
           row c.loop-row.row c.service_at.ensures c.loop-row.children c.loop-row.invariant w.in-Some.position w.at.result.now
           w.in-Some.ensures
-          (seen_at held.mappings w.in-Some.position w.at.result.now
-          (chosen_within held.numbers held.mappings held.tables held.regions c.self.invariant.store (option_copied c.args.above) c.args.moment.now
+          (seen_at held.rows.mappings w.in-Some.position w.at.result.now
+          (chosen_within held.rows.numbers held.rows.mappings held.tables held.regions c.self.invariant.store (option_copied c.args.above) c.args.moment.now
           row w.in-Some.position w.in-Some.ensures)
           w.at.ensures)
           w.service.result.now w.service.ensures w.in_ok-add.ensures.well_formed w.add.new.self w.in_ok-add.ensures.child)
       | in_default w ↦ rw w.children-is
-          (no_more held.numbers held.mappings held.tables held.regions c.self.invariant.store (option_copied c.args.above) c.args.moment.now
+          (no_more held.rows.numbers held.rows.mappings held.tables held.regions c.self.invariant.store (option_copied c.args.above) c.args.moment.now
           row c.loop-row.row c.service_at.ensures c.loop-row.children c.loop-row.invariant w.in_default.ensures)
     ]
 
@@ -44,7 +44,7 @@ returns c =
     let held = c.self.inside in
     let past : length (service_rows held.tables) ≤ c.loop-row.row = search (arith, rules) in
     let all : c.loop-row.children.found ≡ children_in (option_copied c.args.above) (filter (λ (m : Mapping). is_live m c.args.moment.now) c.args.self.now.mappings) =
-    all_walked held.numbers held.mappings held.tables held.regions c.self.invariant.store (option_copied c.args.above) c.args.moment.now
+    all_walked held.rows.numbers held.rows.mappings held.tables held.regions c.self.invariant.store (option_copied c.args.above) c.args.moment.now
     c.services_are_walked.ensures.walked c.loop-row.row c.loop-row.children past c.loop-row.invariant
     ∙ ap (λ l. children_in (option_copied c.args.above) (filter (λ (m : Mapping). is_live m c.args.moment.now) l)) (ap (λ k. k.mappings) c.self.view_is) in
     search rules

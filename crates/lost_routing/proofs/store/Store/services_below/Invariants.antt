@@ -6,4 +6,4 @@ use Rattle.lost_routing.proofs.store.Store.services_below.Given as goal
 
 abbrev pub invariant-loop-row : goal.invariant-loop-row
 invariant-loop-row l =
-    IsWalked (option_copied l.above) l.moment l.self-inside.numbers l.self-inside.mappings (service_rows l.self-inside.tables) l.row l.children
+    IsWalked (option_copied l.above) l.moment l.self-inside.rows.numbers l.self-inside.rows.mappings (service_rows l.self-inside.tables) l.row l.children
