@@ -1,12 +1,12 @@
 -- Where the first labels of a text end, and what is left of a service that is cut there.
-use Rattle.std.proofs.Common.{◌≡◌, ℕ, ◌+◌, ◌<◌, ◌≤◌, zero, suc, true, nat_eq, None, List, [], ◌∷◌, ◌++◌, take, drop, length, get_or, refl, sym, ap, ◌∙◌, arith}
+use Rattle.std.proofs.Common.{◌≡◌, ℕ, ◌+◌, ◌<◌, ◌≤◌, suc, true, nat_eq, None, List, ◌∷◌, ◌++◌, take, drop, length, get_or, sym, ap, ◌∙◌, arith}
 use Rattle.std.specs.List.{count_by, join_with_byte}
 use Rattle.std.proofs.lemmas.List.Splits.{length-slice_split, join_with_byte-slice_split}
 use Rattle.std.specs.Option.{option_or}
 use Rattle.std.specs.Str.{IsCharBoundary}
 use Rattle.std.proofs.lemmas.Str.{IsCharBoundary-from_ascii}
-use Rattle.std.proofs.lemmas.List.{take-append-drop, take_all, length-take-le, append_assoc}
-use Rattle.std.proofs.Math.Seq.{drop-cons, take-append_seam, take-length}
+use Rattle.std.proofs.lemmas.List.{take-append-drop, take_all, length-take-le}
+use Rattle.std.proofs.Math.Seq.{drop-cons, take-append_seam, take-append-add, take-length}
 use Rattle.std.proofs.lemmas.Bool.Decides.{nat_tests}
 use Rattle.lost_spec.specs.Text.{Text, first_fault_of}
 use Rattle.lost_spec.specs.Service.{Service, split_at_dots, is_service, service_text, label_fault, count_fault, urn_prefix}
@@ -40,25 +40,10 @@ joined_at_end text n few =
 
 -- ---- a service that is cut
 
--- the parts of a service's text between its dots: the prefix stands before the first label
-split-text : (label : Text) (rest : List Text) → is_service (label ∷ rest) ≡ true → split_at_dots (service_text (label ∷ rest)) ≡ (urn_prefix ++ label) ∷ rest
-split-text label rest h = rw (split-service (label ∷ rest) h)
-
-join-front : (front label : Text) (rest : List Text) → join_with_byte 46 ((front ++ label) ∷ rest) ≡ front ++ join_with_byte 46 (label ∷ rest)
-join-front front label [] = refl
-join-front front label (next ∷ rest) = append_assoc front label (46 ∷ join_with_byte 46 (next ∷ rest))
-
--- the first n parts of the text are the text of the first n labels
-pub cut_text : (s : Service) (n : ℕ) → is_service s ≡ true → 1 ≤ n → join_with_byte 46 (take n (split_at_dots (service_text s))) ≡ service_text (take n s)
-cut_text [] n h some = absurd (cc)
-cut_text (label ∷ rest) zero h some = absurd (omega arith)
-cut_text (label ∷ rest) (suc n) h some =
-    ap (λ parts. join_with_byte 46 (take (suc n) parts)) (split-text label rest h) ∙ join-front urn_prefix label (take n rest)
-
 few_labels : (labels : List Text) → count_fault labels ≡ None → length labels ≤ 8
 few_labels labels h = grind (arith, nat_tests)
 
-no_count_fault : (labels : List Text) → length labels ≤ 8 → count_fault labels ≡ None
+pub no_count_fault : (labels : List Text) → length labels ≤ 8 → count_fault labels ≡ None
 no_count_fault labels h = grind (arith, nat_tests)
 
 -- the first labels of a service are a service
@@ -73,7 +58,14 @@ cut_service s n h some within =
 pub cut_boundary : (text : Text) (s : Service) (end : ℕ) → is_service s ≡ true → text ≡ service_text s → end ≤ length text → IsCharBoundary text end
 cut_boundary text s end h is within = IsCharBoundary-from_ascii text end (rw is (ascii-service_text s h)) within
 
--- a text that is cut where its first n labels end is the text of those labels
-pub cut_written : (s : Service) (n end : ℕ) (text front : Text) → is_service s ≡ true → 1 ≤ n → text ≡ service_text s → front ≡ take end text → take end text ≡ join_with_byte 46 (take n (split_at_dots text))
-    → front ≡ service_text (take n s)
-cut_written s n end text front h some is front_is ends = front_is ∙ ends ∙ ap (λ t. join_with_byte 46 (take n (split_at_dots t))) is ∙ cut_text s n h some
+-- a service's text that is cut where its first n labels end behind the prefix is the text of those labels
+pub cut_written : (s : Service) (n end : ℕ) (text labels : Text) → is_service s ≡ true → text ≡ service_text s → labels ≡ drop 12 text → take end labels ≡ join_with_byte 46 (take n (split_at_dots labels))
+    → take (12 + end) text ≡ service_text (take n s)
+cut_written s n end text labels h is behind ends =
+    let joined : labels ≡ join_with_byte 46 s = behind ∙ ap (drop 12) is in
+    ap (take (12 + end)) is
+    ∙ take-append-add urn_prefix (join_with_byte 46 s) end
+    ∙ ap (λ t. urn_prefix ++ take end t) (sym joined)
+    ∙ ap (λ t. urn_prefix ++ t) ends
+    ∙ ap (λ t. urn_prefix ++ join_with_byte 46 (take n (split_at_dots t))) joined
+    ∙ ap (λ t. urn_prefix ++ join_with_byte 46 (take n t)) (split-service s h)

@@ -11,3 +11,4 @@ pub mod BelowLemmas
 pub mod CutLemmas
 pub mod OrderLemmas
 pub mod LowerLemmas
+pub mod PlainLemmas

@@ -9,6 +9,11 @@ use Rattle.lost_spec.specs.Service.{urn_prefix}
 lowered-cut : (n : ℕ) (text : Text) → lowered text ≡ lowered (take n text) ++ lowered (drop n text)
 lowered-cut n text = ap lowered (sym (take-append-drop n text)) ∙ map-append to_ascii_lowercase (take n text) (drop n text)
 
+-- the first bytes are the prefix in lower case
+pub lowercase_prefix_found : (text front rest : Text) → front ≡ take 12 text → rest ≡ drop 12 text → front ≡ urn_prefix → text ≡ urn_prefix ++ rest
+lowercase_prefix_found text front rest front_is rest_is found =
+    sym (take-append-drop 12 text) ∙ ap (λ f. f ++ drop 12 text) (sym front_is ∙ found) ∙ ap (λ r. urn_prefix ++ r) (sym rest_is)
+
 -- the first bytes are the prefix
 pub prefix_found : (text front rest : Text) → front ≡ take 12 text → rest ≡ drop 12 text → lowered front ≡ urn_prefix → lowered text ≡ urn_prefix ++ lowered rest
 prefix_found text front rest front_is rest_is found =

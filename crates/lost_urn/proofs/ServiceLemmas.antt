@@ -28,7 +28,7 @@ second_passes false false x y rest h = absurd (cc)
 pub label_bytes : (label : Text) → label_fault label ≡ None → list_all is_label_byte label ≡ true
 label_bytes label none = second_passes (nat_eq (length label) 0) (list_all is_label_byte label) EmptyLabel BadCharacter _ none
 
-lowered_byte : (b : ℕ) → is_label_byte b ≡ true → to_ascii_lowercase b ≡ b
+pub lowered_byte : (b : ℕ) → is_label_byte b ≡ true → to_ascii_lowercase b ≡ b
 lowered_byte b h = grind (arith, nat_tests)
 
 no_dot : (b : ℕ) → is_label_byte b ≡ true → nat_eq b 46 ≡ false
@@ -43,7 +43,7 @@ lowered_bytes (b ∷ rest) h =
     let parts = both_true (is_label_byte b) (list_all is_label_byte rest) h in
     rw (lowered_byte b parts.0, lowered_bytes rest parts.1)
 
-one_part : (bs : Text) → list_all is_label_byte bs ≡ true → split_at_dots bs ≡ bs ∷ []
+pub one_part : (bs : Text) → list_all is_label_byte bs ≡ true → split_at_dots bs ≡ bs ∷ []
 one_part [] h = refl
 one_part (b ∷ rest) h =
     let parts = both_true (is_label_byte b) (list_all is_label_byte rest) h in

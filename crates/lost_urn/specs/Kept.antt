@@ -1,5 +1,5 @@
 -- How a service is kept: as its text, with the number of its labels beside it.
-use Rattle.std.specs.Prelude.{ℕ, ◌≡◌, [], IsTrue, length, string_bytes}
+use Rattle.std.specs.Prelude.{ℕ, ◌≡◌, [], IsTrue, take, length, string_bytes}
 use Rattle.std.specs.Result.{result_unwrap_or}
 use Rattle.lost_spec.specs.Text.{Text}
 use Rattle.lost_spec.specs.Service.{Service, read_service, is_service, service_text}
@@ -20,3 +20,7 @@ pub record IsKept (text : Text) (depth : ℕ) : Type 0 where
   pub well_formed : IsTrue (is_service (service_of text))
   pub written : text ≡ service_text (service_of text)
   pub counted : depth ≡ length (service_of text)
+
+-- where a text is that of a service, its first bytes up to `end` are the text of the service's first n labels
+abbrev pub EndsLabels : Text → ℕ → ℕ → Type 0
+EndsLabels text n end = (s : Service) → IsTrue (is_service s) → text ≡ service_text s → take end text ≡ service_text (take n s)

@@ -9,7 +9,7 @@ ghost use Rattle.lost_urn.specs.Spelling.{AnswersFault};
 use lost_spec::faults::UrnError;
 
 /// The most bytes that a label has.
-const MAX_LEN: usize = 63;
+pub(crate) const MAX_LEN: usize = 63;
 
 /// Refuses a label that is empty, has a byte other than ASCII letters, digits and hyphens, begins or ends with a
 /// hyphen, or has more than 63 bytes, in this order and in any case (RFC 5031, section 3; the length and the order are

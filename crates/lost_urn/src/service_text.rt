@@ -32,6 +32,14 @@ impl ServiceText {
         Ok(ServiceText::Long(String::from_str(alloc, text)?))
     }
 
+    /// This ASCII text, as it is.
+    pub(crate) fn ascii(alloc: Global, text: &[u8]) -> Result<ServiceText, AllocError>
+        requires { IsAscii text.now }
+        ensures { IfOk result (λ kept. bytes_of kept ≡ text.now) }
+    {
+        ServiceText::of(alloc, read_ascii(text))
+    }
+
     /// An ASCII text in lower case.
     pub(crate) fn lowercase(alloc: Global, text: &[u8]) -> Result<ServiceText, AllocError>
         requires { IsAscii text.now }

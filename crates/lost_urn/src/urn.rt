@@ -2,11 +2,12 @@
 ghost use Rattle.std.specs.Prelude.{◌≡◌, ◌≢◌, ◌≤◌, IfOk, IfErr, IsErr, IsTrue, length, take};
 ghost use Rattle.std.specs.List.{join_with_byte};
 ghost use Rattle.std.specs.Result.{result_err};
-ghost use Rattle.lost_spec.specs.Service.{Service, read_service, service_text, is_service, is_at_or_below, split_at_dots};
-ghost use Rattle.lost_urn.specs.Kept.{service_of, bytes_of, IsKept};
+ghost use Rattle.lost_spec.specs.Service.{Service, read_service, service_text, is_service, is_at_or_below};
+ghost use Rattle.lost_spec.specs.Service.{split_at_dots, urn_prefix};
+ghost use Rattle.lost_urn.specs.Kept.{service_of, bytes_of, IsKept, EndsLabels};
 
 use crate::service_text::ServiceText;
-use crate::spelling::count_labels;
+use crate::spelling::{PREFIX, count_labels, count_plain};
 use lost_spec::faults::UrnError;
 use std::alloc::{AllocError, Global};
 use std::marker::Model;
@@ -50,6 +51,11 @@ impl ServiceUrn {
         // Memory comes only after the checks.
         ensures refused { IsErr (read_service text.now) → result ≡ read_service text.now }
     {
+        // Mostly it is plain, and kept as it is.
+        if let Some(depth) = count_plain(text) {
+            let text = ServiceText::ascii(alloc, text).map_err(|_| UrnError::Memory)?;
+            return Ok(ServiceUrn { alloc, text, depth });
+        }
         let depth = count_labels(text)?;
         let text = ServiceText::lowercase(alloc, text).map_err(|_| UrnError::Memory)?;
         Ok(ServiceUrn { alloc, text, depth })
@@ -59,6 +65,9 @@ impl ServiceUrn {
     pub fn check(text: &[u8]) -> Result<(), UrnError>
         ensures { result_err result ≡ result_err (read_service text.now) }
     {
+        if count_plain(text).is_some() {
+            return Ok(());
+        }
         match count_labels(text) {
             Ok(_) => Ok(()),
             Err(fault) => Err(fault),
@@ -100,6 +109,9 @@ impl ServiceUrn {
         ensures well_formed { IsTrue (is_service (take labels self.now)) }
     {
         let text = self.text();
+        if labels == self.depth {
+            return text;
+        }
         let end = end_of_labels(text.as_bytes(), labels);
         &text[..end]
     }
@@ -131,8 +143,19 @@ impl ServiceUrn {
     }
 }
 
-/// Where the first `n` labels end: at the `n`th dot, or at the end of the text.
+/// Where the first `n` labels of a service's text end: at the `n`th dot, or at the end of the text. The prefix has no
+/// dot, and is not read.
 fn end_of_labels(text: &[u8], n: usize) -> usize
+    requires some { 1 ≤ n }
+    requires prefixed { length urn_prefix ≤ length text.now }
+    ensures within { result ≤ length text.now }
+    ensures front { EndsLabels text.now n result }
+{
+    PREFIX.len() + end_of_parts(&text[PREFIX.len()..], n)
+}
+
+/// Where the first `n` parts between dots end: at the `n`th dot, or at the end of the text.
+fn end_of_parts(text: &[u8], n: usize) -> usize
     requires { 1 ≤ n }
     ensures within { result ≤ length text.now }
     ensures front { take result text.now ≡ join_with_byte 46 (take n (split_at_dots text.now)) }

@@ -1,12 +1,8 @@
-use Rattle.std.proofs.Common.{arith, ap, sym, ◌∙◌, ◌≡◌, ◌+◌}
-use Rattle.std.proofs.lemmas.List.{take_all}
-use Rattle.lost_urn.proofs.CutLemmas.{dots, joined_at_dot, joined_at_end}
+use Rattle.std.proofs.Common.{◌-◌, take, drop, length}
+use Rattle.std.proofs.lemmas.List.{take_rest}
+use Rattle.lost_urn.proofs.CutLemmas.{cut_written}
 use Rattle.lost_urn.proofs.urn.end_of_labels.Goals as goal
 
-pub returns-then-left-eq0-clause-front : goal.returns-then-left-eq0-clause-front
-returns-then-left-eq0-clause-front c = joined_at_dot c.args.text.now c.loop-at.at c.args.n c.loop-at-test.true c.if-byte-eq46.true (omega arith)
-
 pub returns-clause-front : goal.returns-clause-front
-returns-clause-front c =
-    let all : dots c.args.text.now + c.loop-at.left ≡ c.args.n = ap (λ t. dots t + c.loop-at.left) (sym (take_all c.loop-at.at c.args.text.now c.loop-at-test.false)) ∙ c.loop-at.invariant.counted in
-    joined_at_end c.args.text.now c.args.n (omega arith)
+returns-clause-front c = λ s h is.
+    cut_written s c.args.n c.end_of_parts.result c.args.text.now (take (length c.args.text.now - 12) (drop 12 c.args.text.now)) h is (take_rest c.args.text.now 12) c.end_of_parts.ensures.front

@@ -1,5 +1,5 @@
 use Rattle.std.proofs.Common.{rules, ◌∙◌, ◌≡◌, ◌≤◌, length, take}
-use Rattle.lost_urn.proofs.CutLemmas.{cut_written, cut_service, cut_boundary}
+use Rattle.lost_urn.proofs.CutLemmas.{cut_service, cut_boundary}
 use Rattle.lost_urn.proofs.urn.ServiceUrn.front.Goals as goal
 
 pub range-requires-clause-end_boundary : goal.range-requires-clause-end_boundary
@@ -10,8 +10,7 @@ range-requires-clause-end_boundary c =
 pub returns-clause-text : goal.returns-clause-text
 returns-clause-text c =
     let front : c.range.result.now ≡ take c.end_of_labels-end.result c.as_bytes.result.now = search rules in
-    cut_written c.args.self.now c.args.labels c.end_of_labels-end.result c.as_bytes.result.now c.range.result.now
-    c.text-text.ensures.well_formed c.requires.some (c.as_bytes.ensures.value ∙ c.text-text.ensures.text) front c.end_of_labels-end.ensures.front
+    front ∙ c.end_of_labels-end.ensures.front c.args.self.now c.text-text.ensures.well_formed (c.as_bytes.ensures.value ∙ c.text-text.ensures.text)
 
 pub returns-clause-well_formed : goal.returns-clause-well_formed
 returns-clause-well_formed c = cut_service c.args.self.now c.args.labels c.text-text.ensures.well_formed c.requires.some c.requires.within
