@@ -96,11 +96,10 @@ behind_a_run size (a ∷ []) ring begin some are = absurd (omega arith)
 behind_a_run size (a ∷ b ∷ corners) ring begin some are = subst (AreCornersOf size corners) (drop-drop size begin ring) are.2
 
 -- one run further
-pub walk_more : (size : ℕ) (odd crossing total : Bool) (ring : List Point) (begin : ℕ) (part : List Point) (p : Point) →
-    part ≡ take (size + 1) (drop begin ring) → crossing ≡ odd_along part p →
+pub walk_more : (size : ℕ) (odd crossing total : Bool) (ring : List Point) (begin : ℕ) (p : Point) →
+    crossing ≡ odd_along (take (size + 1) (drop begin ring)) p →
     is_just_one odd (odd_along (drop begin ring) p) ≡ total → is_just_one (not (beq odd crossing)) (odd_along (drop (begin + size) ring) p) ≡ total
-walk_more size odd crossing total ring begin part p is_part was before =
-    let counted : crossing ≡ odd_along (take (size + 1) (drop begin ring)) p = was ∙ ap (λ (ps : List Point). odd_along ps p) is_part in
+walk_more size odd crossing total ring begin p counted before =
     just_one_left (just_one-beq odd crossing) (odd_along (drop (begin + size) ring) p)
     ∙ ap (λ (b : Bool). is_just_one (is_just_one odd b) (odd_along (drop (begin + size) ring) p)) counted
     ∙ ap (λ (ps : List Point). is_just_one (is_just_one odd (odd_along (take (size + 1) (drop begin ring)) p)) (odd_along ps p)) (sym (drop-drop size begin ring))

@@ -11,12 +11,18 @@ use crate::edge;
 use crate::point::GeoPoint;
 use std::alloc::{AllocError, Global};
 
-/// Whether an odd number of the edges between the positions of a run, which has these bounds, cross at the place. No edge
-/// to the left of the place crosses there. One to the right does just where it spans the place's latitude.
-fn run_has_odd_crossings(run: &Bounds, positions: &[GeoPoint], place: &GeoPoint) -> bool
-    requires some { 0 < length positions.now }
-    requires run { run.now ≡ bounds_of positions.now }
-    ensures { result ≡ is_odd (crossings (edges positions.now) place.now) }
+/// Whether an odd number of the edges of a run cross at the place. The run begins with the position at `begin` of the
+/// list and has these bounds. No edge to the left of the place crosses there. One to the right does just where it spans
+/// the place's latitude. Of most runs no position is looked at.
+fn run_has_odd_crossings(
+    run: &Bounds,
+    positions: &[GeoPoint],
+    begin: usize,
+    place: &GeoPoint,
+) -> bool
+    requires some { begin < length positions.now }
+    requires run { run.now ≡ bounds_of (take (edges_of_a_run + 1) (drop begin positions.now)) }
+    ensures { result ≡ is_odd (crossings (edges (take (edges_of_a_run + 1) (drop begin positions.now))) place.now) }
 {
     if !spans(run, place) {
         return false;
@@ -24,6 +30,7 @@ fn run_has_odd_crossings(run: &Bounds, positions: &[GeoPoint], place: &GeoPoint)
     if is_left(run, place) {
         return false;
     }
+    let positions = run_at(positions, begin);
     if is_right(run, place) {
         return is_spanned_oddly(positions, place);
     }
@@ -107,7 +114,7 @@ pub(crate) fn has_odd_crossings(
     let mut rest = corners;
     while rest.len() > 1 {
         let run = Bounds::between(&rest[0], &rest[1]);
-        odd ^= run_has_odd_crossings(&run, run_at(positions, begin), place);
+        odd ^= run_has_odd_crossings(&run, positions, begin, place);
         begin += run_len();
         rest = behind_corners(rest);
     }

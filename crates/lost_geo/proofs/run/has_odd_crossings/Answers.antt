@@ -10,7 +10,7 @@ loop-rest-preserved c = record {
   crossed =
       rw c.run_len-begin.ensures.value
       (walk_more edges_of_a_run c.loop-rest.odd c.run_has_odd_crossings-odd.result (odd_along c.args.positions.now c.args.place.now) c.args.positions.now c.loop-rest.begin
-      c.run_at.result.now c.args.place.now c.run_at.ensures.value c.run_has_odd_crossings-odd.ensures c.loop-rest.invariant.crossed);
+      c.args.place.now c.run_has_odd_crossings-odd.ensures c.loop-rest.invariant.crossed);
   left =
       rw c.run_len-begin.ensures.value
       rw c.behind_corners-rest.ensures.value
