@@ -1,5 +1,6 @@
-//! Tables from a mapping's identity, key and service to its number, a long list in chunks of one size, mappings under their
-//! numbers in such a list, and the picking of mappings by their numbers. A number is the one under which an indexed book holds a mapping.
+//! Tables from a mapping's identity, key and service to its number, a long list in chunks of one size, mappings under
+//! their numbers in such a list, and the picking of mappings by their numbers. A number is the one under which an indexed
+//! book holds a mapping.
 #![tactic(auto)]
 
 mod cell;

@@ -21,14 +21,14 @@ pub const SPREAD: u64 = 64;
 const REACHES: [usize; 5] = [1, 8, 64, 512, 4_096];
 
 /// The position of a number among rising numbers. It takes no memory.
-pub fn position_of(things: &NumberedMappings, number: u64) -> Option<usize>
-    requires rising { IsStrictlySortedBy nat_cmp things.now.numbers }
-    ensures { result ≡ position (nat_eq number) things.now.numbers }
+pub fn position_of(rows: &NumberedMappings, number: u64) -> Option<usize>
+    requires rising { IsStrictlySortedBy nat_cmp rows.now.numbers }
+    ensures { result ≡ position (nat_eq number) rows.now.numbers }
 {
-    let likely = likely_position(things, number);
-    match things.number(likely) {
+    let likely = likely_position(rows, number);
+    match rows.number(likely) {
         Some(there) if there == number => Some(likely),
-        _ => searched_position(things, number),
+        _ => searched_position(rows, number),
     }
 }
 
@@ -36,43 +36,49 @@ pub fn position_of(things: &NumberedMappings, number: u64) -> Option<usize>
 /// SPREAD`. Where the numbers were put one after another, the position is at most that, lower by the count of numbers
 /// left out below it: mostly few. So the search begins there and reaches down, which reads fewer far parts of a long
 /// list than halving does.
-fn likely_position(things: &NumberedMappings, number: u64) -> usize
-    requires rising { IsStrictlySortedBy nat_cmp things.now.numbers }
+fn likely_position(rows: &NumberedMappings, number: u64) -> usize
+    requires rising { IsStrictlySortedBy nat_cmp rows.now.numbers }
 {
     let place = (number / SPREAD) as usize;
-    let end = things.len().min(place.saturating_add(1));
+    let end = rows.len().min(place.saturating_add(1));
     for reach in REACHES {
         let start = end.saturating_sub(reach);
-        if things.number(start).is_some_and(|first| first <= number) {
-            return halved(things, number, start, end);
+        let Some(first) = rows.number(start) else {
+            return end;
+        };
+        if first == number {
+            return start;
+        }
+        if first < number {
+            return halved(rows, number, start, end);
         }
     }
     end
 }
 
 /// The position of a number among rising numbers, by a search of all of them.
-fn searched_position(things: &NumberedMappings, number: u64) -> Option<usize>
-    requires rising { IsStrictlySortedBy nat_cmp things.now.numbers }
-    ensures { result ≡ position (nat_eq number) things.now.numbers }
+fn searched_position(rows: &NumberedMappings, number: u64) -> Option<usize>
+    requires rising { IsStrictlySortedBy nat_cmp rows.now.numbers }
+    ensures { result ≡ position (nat_eq number) rows.now.numbers }
 {
-    let found = halved(things, number, 0, things.len());
-    match things.number(found) {
+    let found = halved(rows, number, 0, rows.len());
+    match rows.number(found) {
         Some(there) if there == number => Some(found),
         _ => None,
     }
 }
 
 /// The end of the numbers below a number, among rising numbers from `start` to `end`.
-fn halved(things: &NumberedMappings, number: u64, start: usize, end: usize) -> usize
-    requires rising { IsStrictlySortedBy nat_cmp things.now.numbers }
-    ensures below { AreBelow number things.now.numbers start → AreBelow number things.now.numbers result }
-    ensures above { AreAbove number things.now.numbers end → AreAbove number things.now.numbers result }
+fn halved(rows: &NumberedMappings, number: u64, start: usize, end: usize) -> usize
+    requires rising { IsStrictlySortedBy nat_cmp rows.now.numbers }
+    ensures below { AreBelow number rows.now.numbers start → AreBelow number rows.now.numbers result }
+    ensures above { AreAbove number rows.now.numbers end → AreAbove number rows.now.numbers result }
 {
     let mut low = start;
     let mut high = end;
     while low < high {
         let middle = low + (high - low) / 2;
-        match things.number(middle) {
+        match rows.number(middle) {
             Some(there) if there < number => low = middle + 1,
             _ => high = middle,
         }
@@ -80,24 +86,24 @@ fn halved(things: &NumberedMappings, number: u64, start: usize, end: usize) -> u
     low
 }
 
-/// The positions, rising, of the things that pass a test. The numbers of the things rise. The candidates contain the
-/// number of each thing that passes, in any order, and may contain others. Up to two positions take no memory.
+/// The positions, rising, of the mappings that pass a test. The numbers rise. The candidates contain the
+/// number of each mapping that passes, in any order, and may contain others. Up to two positions take no memory.
 pub fn select<F: Fn(&Mapping) -> bool>(
     alloc: Global,
-    things: &NumberedMappings,
+    rows: &NumberedMappings,
     candidates: &[u64],
     passes: F,
 ) -> Result<SmallVec<usize, 2>, AllocError>
     requires callable { F.IsAlwaysCallable passes }
-    requires rising { IsStrictlySortedBy nat_cmp things.now.numbers }
-    requires paired { length things.now.numbers ≡ length things.now.mappings }
+    requires rising { IsStrictlySortedBy nat_cmp rows.now.numbers }
     ensures { (test : spec.Mapping → Bool) → ((m : spec.Mapping) (r : Bool) → FnReturnsAt F.Fn passes m r → r ≡ test m)
-        → Covers test things.now.numbers things.now.mappings candidates.now
-        → IfOk result (λ found. found.items ≡ positions test things.now.mappings) }
+        → Covers test rows.now.numbers rows.now.mappings candidates.now
+        → IfOk result (λ found. found.items ≡ positions test rows.now.mappings) }
 {
+    are_paired(rows);
     let mut found = SmallVec::new(alloc);
     for candidate in candidates {
-        if let Some(position) = passing_position(things, *candidate, &passes) {
+        if let Some(position) = passing_position(rows, *candidate, &passes) {
             found.push(position)?;
         }
     }
@@ -106,42 +112,41 @@ pub fn select<F: Fn(&Mapping) -> bool>(
     Ok(found)
 }
 
-/// The position of the first thing that passes a test. The numbers of the things rise. The candidates contain the
-/// number of each thing that passes, in any order, and may contain others. It takes no memory.
+/// The position of the first mapping that passes a test. The numbers rise. The candidates contain the
+/// number of each mapping that passes, in any order, and may contain others. It takes no memory.
 pub fn first<F: Fn(&Mapping) -> bool>(
-    things: &NumberedMappings,
+    rows: &NumberedMappings,
     candidates: &[u64],
     passes: F,
 ) -> Option<usize>
     requires callable { F.IsAlwaysCallable passes }
-    requires rising { IsStrictlySortedBy nat_cmp things.now.numbers }
-    requires paired { length things.now.numbers ≡ length things.now.mappings }
+    requires rising { IsStrictlySortedBy nat_cmp rows.now.numbers }
     ensures { (test : spec.Mapping → Bool) → ((m : spec.Mapping) (r : Bool) → FnReturnsAt F.Fn passes m r → r ≡ test m)
-        → Covers test things.now.numbers things.now.mappings candidates.now
-        → result ≡ position test things.now.mappings }
+        → Covers test rows.now.numbers rows.now.mappings candidates.now
+        → result ≡ position test rows.now.mappings }
 {
+    are_paired(rows);
     let mut least = None;
     for candidate in candidates {
-        least = lesser(least, passing_position(things, *candidate, &passes));
+        least = lesser(least, passing_position(rows, *candidate, &passes));
     }
     least
 }
 
-/// The position of a thing that passes a test, the first by the order of the candidates. The numbers of the things
+/// The position of a mapping that passes a test, the first by the order of the candidates. The numbers of the rows
 /// rise. It takes no memory.
 pub fn one<F: Fn(&Mapping) -> bool>(
-    things: &NumberedMappings,
+    rows: &NumberedMappings,
     candidates: &[u64],
     passes: F,
 ) -> Option<usize>
     requires callable { F.IsAlwaysCallable passes }
-    requires rising { IsStrictlySortedBy nat_cmp things.now.numbers }
-    requires paired { length things.now.numbers ≡ length things.now.mappings }
+    requires rising { IsStrictlySortedBy nat_cmp rows.now.numbers }
     ensures { (test : spec.Mapping → Bool) → ((m : spec.Mapping) (r : Bool) → FnReturnsAt F.Fn passes m r → r ≡ test m)
-        → result ≡ slice_get (filter_map (passing test things.now.numbers things.now.mappings) candidates.now) 0 }
+        → result ≡ slice_get (filter_map (passing test rows.now.numbers rows.now.mappings) candidates.now) 0 }
 {
     for candidate in candidates {
-        let position = passing_position(things, *candidate, &passes);
+        let position = passing_position(rows, *candidate, &passes);
         if position.is_some() {
             return position;
         }
@@ -149,46 +154,49 @@ pub fn one<F: Fn(&Mapping) -> bool>(
     None
 }
 
-/// Whether some thing passes a test. The numbers of the things rise. The candidates contain the number of each thing
+/// Whether some mapping passes a test. The numbers rise. The candidates contain the number of each mapping
 /// that passes, in any order, and may contain others. It takes no memory.
-pub fn any<F: Fn(&Mapping) -> bool>(
-    things: &NumberedMappings,
-    candidates: &[u64],
-    passes: F,
-) -> bool
+pub fn any<F: Fn(&Mapping) -> bool>(rows: &NumberedMappings, candidates: &[u64], passes: F) -> bool
     requires callable { F.IsAlwaysCallable passes }
-    requires rising { IsStrictlySortedBy nat_cmp things.now.numbers }
-    requires paired { length things.now.numbers ≡ length things.now.mappings }
+    requires rising { IsStrictlySortedBy nat_cmp rows.now.numbers }
     ensures { (test : spec.Mapping → Bool) → ((m : spec.Mapping) (r : Bool) → FnReturnsAt F.Fn passes m r → r ≡ test m)
-        → Covers test things.now.numbers things.now.mappings candidates.now
-        → result ≡ list_any test things.now.mappings }
+        → Covers test rows.now.numbers rows.now.mappings candidates.now
+        → result ≡ list_any test rows.now.mappings }
 {
+    are_paired(rows);
     for candidate in candidates {
-        if passing_position(things, *candidate, &passes).is_some() {
+        if passing_position(rows, *candidate, &passes).is_some() {
             return true;
         }
     }
     false
 }
 
-/// The position of the thing with a number, if it passes a test.
+/// The position of the mapping with a number, if it passes a test.
 fn passing_position<F: Fn(&Mapping) -> bool>(
-    things: &NumberedMappings,
+    rows: &NumberedMappings,
     number: u64,
     passes: &F,
 ) -> Option<usize>
     requires callable { F.IsAlwaysCallable passes.now }
-    requires rising { IsStrictlySortedBy nat_cmp things.now.numbers }
-    requires paired { length things.now.numbers ≡ length things.now.mappings }
+    requires rising { IsStrictlySortedBy nat_cmp rows.now.numbers }
     ensures { (test : spec.Mapping → Bool) → ((m : spec.Mapping) (r : Bool) → FnReturnsAt F.Fn passes.now m r → r ≡ test m)
-        → result ≡ passing test things.now.numbers things.now.mappings number }
+        → result ≡ passing test rows.now.numbers rows.now.mappings number }
 {
-    let position = position_of(things, number)?;
-    if passes(things.at(position)) {
+    are_paired(rows);
+    let position = position_of(rows, number)?;
+    if passes(rows.at(position)) {
         Some(position)
     } else {
         None
     }
+}
+
+/// There are as many numbers as mappings.
+fn are_paired(rows: &NumberedMappings)
+    ensures { length rows.now.numbers ≡ length rows.now.mappings }
+{
+    let _len = rows.len();
 }
 
 /// The lesser of two positions, if there are any.

@@ -8,6 +8,7 @@ mod fields;
 mod geo_cases;
 mod line_cases;
 mod mapping_cases;
+mod numbered_cases;
 mod place_cases;
 mod spelling;
 mod stamp_cases;

@@ -3,8 +3,8 @@ use super::book_cases::Shelf;
 use super::fields::Fields;
 use super::trouble::Trouble;
 use super::{
-    civic_cases, geo_cases, line_cases, mapping_cases, place_cases, stamp_cases, token_cases,
-    tokens_cases, urn_cases,
+    civic_cases, geo_cases, line_cases, mapping_cases, numbered_cases, place_cases, stamp_cases,
+    token_cases, tokens_cases, urn_cases,
 };
 use std::alloc::Global;
 
@@ -29,6 +29,7 @@ fn said(alloc: Global, shelf: &mut Shelf, fields: &Fields) -> Result<String, Tro
         "civic" => civic_cases::said(alloc, call, fields),
         "place" => place_cases::said(alloc, call, fields),
         "mapping" => mapping_cases::said(alloc, call, fields),
+        "numbered" => numbered_cases::said(alloc, call, fields),
         "book" => shelf.said(alloc, call, fields),
         "reply" => line_cases::reply(alloc, shelf.book()?, fields.bytes(1)?),
         "line" => line_cases::said(alloc, call, fields),

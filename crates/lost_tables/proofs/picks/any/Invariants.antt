@@ -8,4 +8,4 @@ use Rattle.lost_tables.proofs.picks.any.Given as goal
 abbrev pub invariant-loop-candidate : goal.invariant-loop-candidate
 invariant-loop-candidate g l =
     (test : spec.Mapping → Bool) → ((m : spec.Mapping) (r : Bool) → FnReturnsAt g.F.Fn l.passes m r → r ≡ test m)
-    → filter_map (passing test l.things.numbers l.things.mappings) (take l.candidate-index l.candidates) ≡ []
+    → filter_map (passing test l.rows.numbers l.rows.mappings) (take l.candidate-index l.candidates) ≡ []

@@ -4,8 +4,8 @@ use Rattle.lost_tables.proofs.picks.halved.Given as goal
 
 abbrev pub invariant-loop-low : goal.invariant-loop-low
 invariant-loop-low l =
-    (AreBelow l.number l.things.numbers l.start → AreBelow l.number l.things.numbers l.low)
-    × (AreAbove l.number l.things.numbers l.end → AreAbove l.number l.things.numbers l.high)
+    (AreBelow l.number l.rows.numbers l.start → AreBelow l.number l.rows.numbers l.low)
+    × (AreAbove l.number l.rows.numbers l.end → AreAbove l.number l.rows.numbers l.high)
 
 abbrev pub decreases-loop-low : goal.decreases-loop-low
 decreases-loop-low l = l.high - l.low

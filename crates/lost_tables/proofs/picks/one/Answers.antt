@@ -6,18 +6,18 @@ use Rattle.lost_tables.proofs.picks.one.Goals as goal
 
 pub returns-then-is_some : goal.returns-then-is_some
 returns-then-is_some g c = λ test is.
-    given_here (passing test c.args.things.now.numbers c.args.things.now.mappings) c.args.candidates.now c.loop-candidate.candidate-index
+    given_here (passing test c.args.rows.now.numbers c.args.rows.now.mappings) c.args.candidates.now c.loop-candidate.candidate-index
     c.passing_position-position.result c.loop-candidate-test.true (c.passing_position-position.ensures test is) (sym c.is_some.ensures ∙ c.if-is_some.true)
     (c.loop-candidate.invariant test is)
 
 pub loop-candidate-preserved : goal.loop-candidate-preserved
 loop-candidate-preserved g c = λ test is.
-    still_none (passing test c.args.things.now.numbers c.args.things.now.mappings) c.args.candidates.now c.loop-candidate.candidate-index
+    still_none (passing test c.args.rows.now.numbers c.args.rows.now.mappings) c.args.candidates.now c.loop-candidate.candidate-index
     c.passing_position-position.result c.loop-candidate-test.true (c.passing_position-position.ensures test is) (sym c.is_some.ensures ∙ c.if-is_some.false)
     (c.loop-candidate.invariant test is)
 
 pub returns : goal.returns
 returns g c = λ test is.
     let past : length c.args.candidates.now ≤ c.loop-candidate.candidate-index = omega arith in
-    given_nowhere (passing test c.args.things.now.numbers c.args.things.now.mappings) c.args.candidates.now c.loop-candidate.candidate-index past
+    given_nowhere (passing test c.args.rows.now.numbers c.args.rows.now.mappings) c.args.candidates.now c.loop-candidate.candidate-index past
     (c.loop-candidate.invariant test is)

@@ -10,7 +10,7 @@ use Rattle.lost_tables.proofs.picks.select.Goals.{in-Some+in_ok-push, in_default
 
 pub loop-candidate-preserved : goal.loop-candidate-preserved
 loop-candidate-preserved g c = λ test is.
-    let give = passing test c.args.things.now.numbers c.args.things.now.mappings in
+    let give = passing test c.args.rows.now.numbers c.args.rows.now.mappings in
     let so_far = c.loop-candidate.invariant test is in
     elim c.match-passing_position.branch [
       | in-Some+in_ok-push w ↦ rw w.found-is (w.in_ok-push.ensures.ok ∙ more_given give c.args.candidates.now c.loop-candidate.candidate-index
@@ -26,9 +26,9 @@ returns g c = λ test is covers.
     subst (λ l. IsPermutation l c.sort_unstable.new.self) c.as_mut_slice.ensures.value c.sort_unstable.ensures.permutation in
     let as_many : length c.sort_unstable.new.self ≡ length c.loop-candidate.found.items =
     c.sort_unstable.ensures.len ∙ ap length c.as_mut_slice.ensures.value in
-    given_are test c.args.things.now.numbers c.args.things.now.mappings c.requires.rising c.requires.paired c.args.candidates.now covers
+    given_are test c.args.rows.now.numbers c.args.rows.now.mappings c.requires.rising c.are_paired.ensures c.args.candidates.now covers
     c.loop-candidate.found.items c.sort_unstable.new.self c.dedup.new.self.items
     (c.loop-candidate.invariant test is
-    ∙ all_given (passing test c.args.things.now.numbers c.args.things.now.mappings) c.args.candidates.now c.loop-candidate.candidate-index past)
+    ∙ all_given (passing test c.args.rows.now.numbers c.args.rows.now.mappings) c.args.candidates.now c.loop-candidate.candidate-index past)
     moved c.sort_unstable.ensures.sorted
     (c.dedup.ensures.items ∙ ap (dedup nat_eq) (items-with_items c.loop-candidate.found c.sort_unstable.new.self as_many))
