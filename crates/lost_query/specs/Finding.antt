@@ -21,7 +21,7 @@ of_chain s ms = filter (λ m. list_any (λ u. same_service m.service u) (chain s
 -- a service of a chain
 abbrev pub chain_service : ChainService → Service
 chain_service (Asked service) = service.now
-chain_service (Above service) = service
+chain_service (Above service) = service.value
 
 -- the mappings that were found
 abbrev pub mappings_of : Found → List Mapping

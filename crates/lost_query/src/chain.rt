@@ -3,21 +3,22 @@ ghost use Rattle.std.specs.Prelude.{◌≡◌, ◌≤◌, IfOk, length, take};
 ghost use Rattle.lost_query.specs.Finding.{chain_service};
 
 use lost_urn::ServiceUrn;
-use std::alloc::AllocError;
+use std::alloc::{AllocError, Global};
 
 /// A service of the chain of the service asked for (RFC 5222, section 8; policy own).
 #[derive(Drop)]
 pub(crate) enum ChainService<'a> {
     /// The service itself.
     Asked(&'a ServiceUrn),
-    /// A service above it.
-    Above(ServiceUrn),
+    /// A service above it. It lies in a box, since most finds are of the service itself, and they move little then.
+    Above(Box<ServiceUrn>),
 }
 
 impl<'a> ChainService<'a> {
     /// The service of the first `depth` labels of the service asked for. `depth` is from 1 to the number of its labels.
     /// The service itself takes no memory.
     pub(crate) fn of_depth(
+        alloc: Global,
         asked: &'a ServiceUrn,
         depth: usize,
     ) -> Result<ChainService<'a>, AllocError>
@@ -28,7 +29,7 @@ impl<'a> ChainService<'a> {
         if depth == asked.depth() {
             return Ok(ChainService::Asked(asked));
         }
-        Ok(ChainService::Above(asked.cut(depth)?))
+        Ok(ChainService::Above(Box::new(alloc, asked.cut(depth)?)?))
     }
 
     /// The service.

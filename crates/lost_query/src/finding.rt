@@ -62,7 +62,7 @@ fn first_holders<'a, H: Holdings>(
     let positions = holdings.of_chain(moment, place, service)?;
     let mut depth = service.depth();
     while depth > 0 {
-        let candidate = ChainService::of_depth(service, depth)?;
+        let candidate = ChainService::of_depth(alloc, service, depth)?;
         if let Some(found) = of_service_at(alloc, holdings, &positions, candidate.service())? {
             return Ok(Some((candidate, found)));
         }
@@ -83,7 +83,7 @@ fn first_defaults<'a, H: Holdings>(
 {
     let mut depth = service.depth();
     while depth > 0 {
-        let candidate = ChainService::of_depth(service, depth)?;
+        let candidate = ChainService::of_depth(alloc, service, depth)?;
         if let Some(found) = defaults(alloc, holdings, moment, candidate.service())? {
             return Ok(Some((candidate, found)));
         }
