@@ -14,7 +14,7 @@ use std::alloc::Global;
 use std::io::{Read, Write};
 
 /// The most bytes of one read.
-const MAX_READ: usize = 32_768;
+const MAX_READ: usize = 16_384;
 
 /// Reads lines from `input` to its end, has `answerer` answer each, and writes the replies to `output` in order. A line
 /// ends at byte 10 or at the end of the input; a last piece without byte 10 is a line where it has a byte. A line over

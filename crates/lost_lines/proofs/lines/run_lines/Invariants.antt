@@ -8,7 +8,7 @@ use Rattle.lost_lines.proofs.lines.run_lines.Given as goal
 abbrev pub invariant-loop-turn : goal.invariant-loop-turn
 invariant-loop-turn g l = record {
   start : IsStart (point_of l.initial.answerer (g.W.Write.contents (inner_of l.initial.output)) l.initial.server);
-  chunk : length l.chunk ≡ 32768;
+  chunk : length l.chunk ≡ 16384;
   reads : Reads (Through (g.G.Gate.says l.gate) g.A.Answerer.step) (point_of l.initial.answerer (g.W.Write.contents (inner_of l.initial.output)) l.initial.server) (point_of l.answerer (g.W.Write.contents (inner_of l.output)) l.server) (g.R.Read.remaining (inner_of l.initial.input)) (g.R.Read.remaining (inner_of l.input));
   may_end : MayEnd l.server;
   most : server_most l.server ≡ l.fn.turns.lines;
