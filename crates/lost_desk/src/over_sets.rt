@@ -8,7 +8,7 @@ ghost use Rattle.lost_desk.specs.Copies.{IsBookOfItsList};
 ghost use Rattle.lost_desk.specs.Sets.{AreRightFor};
 
 use crate::answering::reply_over_sets;
-use crate::reader::Reader;
+use crate::reader::{Reader, put_seat, take_seat};
 use crate::rule::Entering;
 use crate::sets::PlaceSets;
 use crate::version::Version;
@@ -45,9 +45,7 @@ impl Reader {
         ensures same { (self.new.opening ≡ self.old.opening) × (self.new.limits ≡ self.old.limits) }
         ensures right { AreRightFor (S.keeps sets.new) self.new.limits self.new.seen }
     {
-        let Some(seat) = self.seat.take() else {
-            unreachable!()
-        };
+        let seat = take_seat(&mut self.seat);
         match seat.enter_as::<Entering>() {
             Ok(reading) => {
                 let reply = reply_from_over(
@@ -60,11 +58,11 @@ impl Reader {
                     line,
                     &mut self.scratch,
                 );
-                self.seat = Some(reading.leave());
+                put_seat(&mut self.seat, reading.leave());
                 reply
             }
             Err(seat) => {
-                self.seat = Some(seat);
+                put_seat(&mut self.seat, seat);
                 Err(AllocError)
             }
         }

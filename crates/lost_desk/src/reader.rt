@@ -1,5 +1,5 @@
 //! A reader, which answers from the copy published last.
-ghost use Rattle.std.specs.Prelude.{◌≡◌, ◌+◌, Some, IsTrue, length, IfOk, OnOk};
+ghost use Rattle.std.specs.Prelude.{◌≡◌, ◌+◌, Some, None, IsSome, IsTrue, length, IfOk, OnOk};
 ghost use Rattle.lost_spec.specs.Laws.{BeginsWith};
 ghost use Rattle.lost_spec.specs.Book.{is_accepted};
 ghost use Rattle.lost_history.specs.History.{longer};
@@ -88,9 +88,7 @@ impl Reader {
         ensures one_list { OnOk result (IsTrue (is_accepted self.new.limits self.new.seen)) }
         ensures same { (self.new.opening ≡ self.old.opening) × (self.new.limits ≡ self.old.limits) }
     {
-        let Some(seat) = self.seat.take() else {
-            unreachable!()
-        };
+        let seat = take_seat(&mut self.seat);
         match seat.enter_as::<Entering>() {
             Ok(reading) => {
                 let reply = reply_from(
@@ -102,11 +100,11 @@ impl Reader {
                     line,
                     &mut self.scratch,
                 );
-                self.seat = Some(reading.leave());
+                put_seat(&mut self.seat, reading.leave());
                 reply
             }
             Err(seat) => {
-                self.seat = Some(seat);
+                put_seat(&mut self.seat, seat);
                 Err(AllocError)
             }
         }
@@ -129,6 +127,25 @@ impl Reader {
     {
         self.latest.len()
     }
+}
+
+/// Takes the seat, which is there, out of its place.
+pub(crate) fn take_seat(place: &mut Option<Seat>) -> Seat
+    requires { IsSome place.old }
+    ensures taken { place.old ≡ Some result }
+    ensures left { place.new ≡ None }
+{
+    match place.take() {
+        Some(seat) => seat,
+        None => unreachable!(),
+    }
+}
+
+/// Puts a seat in its place.
+pub(crate) fn put_seat(place: &mut Option<Seat>, seat: Seat)
+    ensures { place.new ≡ Some seat }
+{
+    *place = Some(seat);
 }
 
 #[tactic(auto, using(crate::proofs::ListLemmas::begins_whole))]

@@ -14,5 +14,5 @@ begins_seen at (Some seat) latest new begins = begins
 
 pub returns-in-Ok-clause-begins : goal.returns-in-Ok-clause-begins
 returns-in-Ok-clause-begins c =
-    rw (← c.self.view_is)
+    rw (c.put_seat.ensures, ← c.self.view_is)
     (begins_seen (λ s. view s.place) c.self.inside.seat c.self.inside.latest c.reply_from-reply.new.latest.list c.reply_from-reply.ensures.begins)
