@@ -9,5 +9,5 @@ pub mod PositionLemmas
 pub mod TreeLemmas
 pub mod TurnLemmas
 pub mod WalkLemmas
-pub mod KeptLemmas
+pub mod KnownMembersLemmas
 pub mod ServiceLemmas

@@ -12,7 +12,7 @@ use Rattle.serde_json.specs.Find.{as_object}
 use Rattle.serde_json.specs.Read.{number_of, of_json, of_items, of_members, converted}
 use Rattle.serde_json.specs.View.{view, items_view}
 use Rattle.serde_json.specs.declared.value.Value.{Value}
-use Rattle.lost_reading.specs.Kept.{of_tokens}
+use Rattle.lost_reading.specs.KnownMembers.{of_tokens}
 
 abbrev pick : {A : Type 0} → A → Option A → A
 pick d None = d

@@ -6,7 +6,7 @@ use Rattle.json.specs.Json.{parse_map}
 use Rattle.json.proofs.Grammar.{left, left_some, left_none, left-parse_map}
 use Rattle.serde_json.specs.Data.{Data, array, object, no_members}
 use Rattle.serde_json.specs.Read.{of_json, of_items, of_members, converted}
-use Rattle.lost_reading.specs.Kept.{passed}
+use Rattle.lost_reading.specs.KnownMembers.{passed}
 use Rattle.lost_reading.proofs.TurnLemmas.{converted-array, converted-object}
 
 abbrev pub passed_members : Option (json.Members × List Token) → Option (List Token)

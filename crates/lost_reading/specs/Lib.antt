@@ -5,4 +5,4 @@ pub mod Desk
 pub mod DeskLines
 pub mod Lines
 pub mod TreeParts
-pub mod Kept
+pub mod KnownMembers

@@ -11,7 +11,7 @@ ghost use Rattle.lost_reading.specs.Desk.{Stage, parts_of_members, mapping_order
 ghost use Rattle.lost_reading.specs.DeskLines.{order_of, fault_of, GivesOrder, GivesLine};
 
 use crate::checks::check_members;
-use crate::kept::read_tree;
+use crate::known_members::read_tree;
 use crate::parts::read_parts;
 use crate::reading::{only_member, text_member};
 use crate::request::ReadError;

@@ -5,7 +5,7 @@ ghost use Rattle.lost_reading.specs.Requests.{request_of_member, request_in, lin
 ghost use Rattle.lost_reading.specs.Lines.{GivesWhole};
 
 use crate::desk::{DeskFault, DeskLine, is_desk_name, read_order};
-use crate::kept::read_tree;
+use crate::known_members::read_tree;
 use crate::reading::only_member;
 use crate::request::{ReadError, read_member_request};
 use lost_mapping::Request;

@@ -7,7 +7,7 @@ ghost use Rattle.lost_reading.specs.Gives.{Gives};
 ghost use Rattle.lost_reading.specs.Members as kinds;
 ghost use Rattle.lost_reading.specs.Requests.{find_service_of, services_at_of, services_of, boundary_of, request_named, request_in, line_request};
 
-use crate::kept::read_tree;
+use crate::known_members::read_tree;
 use crate::options::{ByValue, read_path};
 use crate::reading::{defaulting, only_member, required};
 use crate::services::{optional_service, required_service};

@@ -4,7 +4,7 @@ ghost use Rattle.json.specs.Json.{value, items, members};
 ghost use Rattle.json.specs.Reads.{token_of};
 ghost use Rattle.serde_json.specs.Data.{no_members};
 ghost use Rattle.serde_json.specs.Read.{of_json, of_items, of_members};
-ghost use Rattle.lost_reading.specs.Kept.{passed};
+ghost use Rattle.lost_reading.specs.KnownMembers.{passed};
 
 use crate::numbers::number;
 use json::{Invalid, Reader, Token};

@@ -30,7 +30,7 @@ use Rattle.lost_tape.specs.declared.locations.Content.TheVariants.{Pair, Decimal
 use Rattle.lost_tape.specs.declared.compact.PlaceLine.{PlaceLine}
 use Rattle.lost_tape.proofs.CompactParts.{content_then}
 use Rattle.lost_tape.proofs.NumberLemmas.{Spells, spells}
-use Rattle.lost_reading.proofs.KeptLemmas.{line_request-read, desk_line-read}
+use Rattle.lost_reading.proofs.KnownMembersLemmas.{line_request-read, desk_line-read}
 use Rattle.lost_tape.proofs.TreeLemmas.{read_printed}
 
 -- ---- the value of such a line, as JSON and as a tree

@@ -28,7 +28,7 @@ use Rattle.lost_tape.specs.declared.compact_desk.Tail.{Tail}
 use Rattle.lost_tape.proofs.NumberLemmas.{Spells, spells}
 use Rattle.lost_tape.proofs.PartsLemmas.{parts_made}
 use Rattle.lost_tape.proofs.PrintLemmas.{first_of, later_of, member_first, commas, json_items, items_text, text_value, pair_text, pair_commas, named_text}
-use Rattle.lost_reading.proofs.KeptLemmas.{desk_line-read}
+use Rattle.lost_reading.proofs.KnownMembersLemmas.{desk_line-read}
 use Rattle.lost_tape.proofs.TreeLemmas.{read_printed}
 
 -- ---- a text

@@ -4,7 +4,7 @@ use Rattle.json.specs.Json.{after_end_array, items, members, value}
 use Rattle.json.specs.Reads.{token_of}
 use Rattle.json.proofs.Grammar.{left, value_is, value-begin_array, value-begin_object}
 use Rattle.serde_json.specs.Read.{of_json, of_items}
-use Rattle.lost_reading.specs.Kept.{passed}
+use Rattle.lost_reading.specs.KnownMembers.{passed}
 use Rattle.lost_reading.proofs.TurnLemmas.{items_begun, items_more_read, items_stopped, items_done, members_begun, members_more_read, members_stopped, keys_stopped, members_done}
 use Rattle.lost_reading.proofs.WalkLemmas.{passed_members, passed-array, passed-object, some_passed, none_passed}
 use Rattle.lost_reading.proofs.walk.+walk.Goals as goal

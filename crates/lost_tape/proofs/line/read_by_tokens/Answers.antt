@@ -3,7 +3,7 @@ use Rattle.serde_json.specs.Read.{read}
 use Rattle.lost_reading.specs.Desk.{order_in}
 use Rattle.lost_reading.specs.Lines.{GivesWhole}
 use Rattle.lost_reading.specs.Requests.{line_request}
-use Rattle.lost_reading.proofs.KeptLemmas.{line_request-read, desk_line-read}
+use Rattle.lost_reading.proofs.KnownMembersLemmas.{line_request-read, desk_line-read}
 use Rattle.lost_tape.proofs.line.read_by_tokens.Goals as goal
 
 pub returns-in-Ok : goal.returns-in-Ok

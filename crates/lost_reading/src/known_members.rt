@@ -7,7 +7,7 @@ ghost use Rattle.serde_json.specs.Find.{as_object};
 ghost use Rattle.serde_json.specs.Read.{of_json, of_members, converted, read as tree_of_text};
 ghost use Rattle.serde_json.specs.View.{view, members_view};
 ghost use Rattle.lost_reading.specs.Desk.{order_in};
-ghost use Rattle.lost_reading.specs.Kept.{is_request_member, is_desk_member, is_known, of_tokens, HaveSameKnown, AreObjects, HaveSameNames, Tells, IsNeither};
+ghost use Rattle.lost_reading.specs.KnownMembers.{is_request_member, is_desk_member, is_known, of_tokens, HaveSameKnown, AreObjects, HaveSameNames, Tells, IsNeither};
 ghost use Rattle.lost_reading.specs.Requests.{request_in};
 
 use crate::budget::Budget;

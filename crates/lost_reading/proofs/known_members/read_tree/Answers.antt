@@ -1,6 +1,6 @@
 use Rattle.std.proofs.Common.{sym, ◌∙◌}
-use Rattle.lost_reading.proofs.KeptLemmas.{line_request-read, desk_line-read, no_utf8, tells_line}
-use Rattle.lost_reading.proofs.kept.read_tree.Goals as goal
+use Rattle.lost_reading.proofs.KnownMembersLemmas.{line_request-read, desk_line-read, no_utf8, tells_line}
+use Rattle.lost_reading.proofs.known_members.read_tree.Goals as goal
 
 pub returns-in-Ok-clause-tells : goal.returns-in-Ok-clause-tells
 returns-in-Ok-clause-tells c =

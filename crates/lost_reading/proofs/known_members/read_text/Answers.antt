@@ -5,10 +5,10 @@ use Rattle.serde_json.specs.Read.{read as tree_of_text}
 use Rattle.serde_json.specs.View.{members_view}
 use Rattle.serde_json.proofs.Views.{view-Object}
 use Rattle.lost_reading.specs.Desk.{order_in}
-use Rattle.lost_reading.specs.Kept.{of_tokens}
+use Rattle.lost_reading.specs.KnownMembers.{of_tokens}
 use Rattle.lost_reading.specs.Requests.{request_in}
-use Rattle.lost_reading.proofs.KeptLemmas.{request_names, order_names, no_request, no_order}
-use Rattle.lost_reading.proofs.kept.read_text.Goals as goal
+use Rattle.lost_reading.proofs.KnownMembersLemmas.{request_names, order_names, no_request, no_order}
+use Rattle.lost_reading.proofs.known_members.read_text.Goals as goal
 
 pub returns-clause-tells : goal.returns-clause-tells
 returns-clause-tells c =

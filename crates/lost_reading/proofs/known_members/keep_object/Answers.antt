@@ -2,8 +2,8 @@ use Rattle.std.proofs.Common.{◌≡◌, string_bytes, ap, ◌∙◌, rules}
 use Rattle.serde_json.specs.Data.{put}
 use Rattle.serde_json.specs.View.{view, members_view}
 use Rattle.serde_json.proofs.Views.{members_view-insert_entry}
-use Rattle.lost_reading.proofs.KeptLemmas.{kept_named}
-use Rattle.lost_reading.proofs.kept.keep_object.Goals as goal
+use Rattle.lost_reading.proofs.KnownMembersLemmas.{kept_named}
+use Rattle.lost_reading.proofs.known_members.keep_object.Goals as goal
 
 pub returns-clause-ok : goal.returns-clause-ok
 returns-clause-ok c =

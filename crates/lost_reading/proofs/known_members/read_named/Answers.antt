@@ -1,9 +1,9 @@
 use Rattle.std.proofs.Common.{sym, subst, arith}
 use Rattle.serde_json.specs.Data.{no_members}
 use Rattle.serde_json.specs.View.{members_view}
-use Rattle.lost_reading.specs.Kept.{HaveSameNames}
+use Rattle.lost_reading.specs.KnownMembers.{HaveSameNames}
 use Rattle.lost_reading.proofs.TurnLemmas.{members_begun, members_more_read, members_stopped, keys_stopped, members_done}
-use Rattle.lost_reading.proofs.kept.read_named.Goals as goal
+use Rattle.lost_reading.proofs.known_members.read_named.Goals as goal
 
 pub members-init : goal.members-init
 members-init c = members_begun c.args.depth c.args.reader.now (subst (λ es. HaveSameNames no_members (members_view es)) (sym c.new-found.ensures.empty) tt)

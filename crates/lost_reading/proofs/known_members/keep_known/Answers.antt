@@ -1,10 +1,10 @@
 use Rattle.std.proofs.Common.{◌≡◌, false, sym}
 use Rattle.json.specs.Json.{value}
 use Rattle.serde_json.specs.View.{members_view}
-use Rattle.lost_reading.specs.Kept.{is_known}
-use Rattle.lost_reading.proofs.KeptLemmas.{kept_member, unknown_put}
+use Rattle.lost_reading.specs.KnownMembers.{is_known}
+use Rattle.lost_reading.proofs.KnownMembersLemmas.{kept_member, unknown_put}
 use Rattle.lost_reading.proofs.WalkLemmas.{some_passed, none_passed}
-use Rattle.lost_reading.proofs.kept.keep_known.Goals as goal
+use Rattle.lost_reading.proofs.known_members.keep_known.Goals as goal
 
 pub returns-then-is_known-clause-ok : goal.returns-then-is_known-clause-ok
 returns-then-is_known-clause-ok c = kept_member c.keep.result c.args.name.now (value c.args.depth c.args.reader.now) c.keep.new.reader (members_view c.args.found.now.entries) (members_view c.keep.new.found.entries) c.keep.ensures.ok

@@ -18,7 +18,7 @@ use Rattle.lost_reading.specs.declared.desk.DeskFault.TheVariants.{BadLine}
 use Rattle.lost_reading.specs.Members.{tree_of, one_of}
 use Rattle.lost_reading.specs.Requests.{request_named, request_of_member, request_in, line_request}
 use Rattle.lost_reading.specs.Desk.{Order, is_desk_name, order_named, order_of_member, order_in, desk_line}
-use Rattle.lost_reading.specs.Kept.{is_known, HaveSameKnown, AreObjects, HaveSameNames, IsNeither, Tells}
+use Rattle.lost_reading.specs.KnownMembers.{is_known, HaveSameKnown, AreObjects, HaveSameNames, IsNeither, Tells}
 use Rattle.lost_reading.specs.Gives.{Gives}
 use Rattle.lost_reading.specs.Lines.{GivesWhole}
 use Rattle.lost_reading.specs.declared.line.Line.{Line}

@@ -2,7 +2,7 @@ use Rattle.std.proofs.Common.{sym, ap, arith}
 use Rattle.serde_json.specs.Find.{get_member}
 use Rattle.serde_json.specs.View.{members_view}
 use Rattle.lost_reading.proofs.TurnLemmas.{members_begun, members_more_read, members_stopped, keys_stopped, members_done}
-use Rattle.lost_reading.proofs.kept.read_known.Goals as goal
+use Rattle.lost_reading.proofs.known_members.read_known.Goals as goal
 
 pub members-init : goal.members-init
 members-init c = members_begun c.args.depth c.args.reader.now (λ name known. ap (λ es. get_member name (members_view es)) (sym c.new-found.ensures.empty))

@@ -9,11 +9,11 @@ use Rattle.serde_json.specs.Read.{of_json, converted}
 use Rattle.serde_json.specs.View.{view}
 use Rattle.serde_json.specs.declared.value.Value.{Null, the_lemmas}
 use Rattle.serde_json.proofs.Views.{view-Object}
-use Rattle.lost_reading.specs.Kept.{AreObjects, HaveSameKnown}
-use Rattle.lost_reading.proofs.KeptLemmas.{no_objects}
+use Rattle.lost_reading.specs.KnownMembers.{AreObjects, HaveSameKnown}
+use Rattle.lost_reading.proofs.KnownMembersLemmas.{no_objects}
 use Rattle.lost_reading.proofs.TurnLemmas.{converted-object, no_object, no_begin}
 use Rattle.lost_reading.proofs.WalkLemmas.{some_passed, none_passed}
-use Rattle.lost_reading.proofs.kept.read_object.Goals as goal
+use Rattle.lost_reading.proofs.known_members.read_object.Goals as goal
 
 pub returns-in_err-token-clause-err : goal.returns-in_err-token-clause-err
 returns-in_err-token-clause-err c refused =

@@ -1,9 +1,9 @@
 use Rattle.std.proofs.Common.{◌≡◌, [], ◌∷◌, None, IfSome, sym, ap, ◌∙◌, subst, arith}
 use Rattle.json.specs.Reads.{token_of}
 use Rattle.serde_json.specs.Find.{as_object}
-use Rattle.lost_reading.specs.Kept.{of_tokens}
+use Rattle.lost_reading.specs.KnownMembers.{of_tokens}
 use Rattle.lost_reading.proofs.TurnLemmas.{no_line, no_line_object, line_object, line_and_more, line_refused, no_begin}
-use Rattle.lost_reading.proofs.kept.read_whole.Goals as goal
+use Rattle.lost_reading.proofs.known_members.read_whole.Goals as goal
 
 pub returns-in_err-token-clause-err : goal.returns-in_err-token-clause-err
 returns-in_err-token-clause-err c refused =
