@@ -53,7 +53,7 @@ impl Classes {
     }
 
     /// Marks the class of the mapping's service, unless the number tells it. What was marked stays so.
-    pub(crate) fn note(&mut self, number: u64, mapping: &Mapping)
+    pub(crate) fn mark_untold(&mut self, number: u64, mapping: &Mapping)
         ensures told { is_told self.new number mapping.now ≡ true }
         ensures keeps { KeepsClasses self.old self.new }
     {

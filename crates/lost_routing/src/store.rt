@@ -76,7 +76,7 @@ impl Store {
             self.rows.remove(position);
             return Err(AllocError);
         }
-        self.strays.note(number, mapping);
+        self.strays.mark_untold(number, mapping);
         Ok(())
     }
 
@@ -94,7 +94,7 @@ impl Store {
             &mapping,
             number,
         )?;
-        self.strays.note(number, &mapping);
+        self.strays.mark_untold(number, &mapping);
         self.rows.set(position, mapping);
         Ok(())
     }

@@ -36,10 +36,10 @@ invariant_of-self-2 c =
           c.args.mapping c.exchange.new.tables c.exchange.new.regions c.in_ok-exchange.ensures.listed c.exchange.ensures.others
           c.in_ok-exchange.ensures.changed));
       told =
-          subst (λ l. AreTold c.note.new.self (zip l c.set.new.self.mappings)) (sym c.set.ensures.numbers)
-          (subst (λ l. AreTold c.note.new.self (zip c.self.inside.rows.numbers l)) (sym c.set.ensures.mappings)
-          (told_changed c.self.inside.strays c.note.new.self c.self.inside.rows.numbers c.self.inside.rows.mappings c.args.position c.number_at-number.result
+          subst (λ l. AreTold c.mark_untold.new.self (zip l c.set.new.self.mappings)) (sym c.set.ensures.numbers)
+          (subst (λ l. AreTold c.mark_untold.new.self (zip c.self.inside.rows.numbers l)) (sym c.set.ensures.mappings)
+          (told_changed c.self.inside.strays c.mark_untold.new.self c.self.inside.rows.numbers c.self.inside.rows.mappings c.args.position c.number_at-number.result
           c.args.mapping c.self.invariant.store.paired
           (subst (λ l. c.args.position < length l) (sym (ap (λ k. k.mappings) c.self.view_is)) c.requires) c.number_at-number.ensures
-          c.note.ensures.keeps c.note.ensures.told c.self.invariant.told));
+          c.mark_untold.ensures.keeps c.mark_untold.ensures.told c.self.invariant.told));
     }

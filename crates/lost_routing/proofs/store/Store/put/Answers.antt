@@ -58,8 +58,8 @@ invariant_of-self-2 c =
           (subst (IsNew c.args.number) (sym (ap (λ k. k.numbers) c.self.view_is)) c.requires)
           noted c.enter.ensures.others put));
       told =
-          subst (λ l. AreTold c.note.new.self (zip l c.push.new.self.mappings)) (sym c.in_ok-push.ensures.numbers)
-          (subst (λ l. AreTold c.note.new.self (zip (c.self.inside.rows.numbers ++ c.args.number ∷ []) l)) (sym there_too)
-          (told_put c.self.inside.strays c.note.new.self c.self.inside.rows.numbers c.self.inside.rows.mappings c.args.number c.at-mapping.result.now
-          c.self.invariant.store.paired c.note.ensures.keeps c.note.ensures.told c.self.invariant.told));
+          subst (λ l. AreTold c.mark_untold.new.self (zip l c.push.new.self.mappings)) (sym c.in_ok-push.ensures.numbers)
+          (subst (λ l. AreTold c.mark_untold.new.self (zip (c.self.inside.rows.numbers ++ c.args.number ∷ []) l)) (sym there_too)
+          (told_put c.self.inside.strays c.mark_untold.new.self c.self.inside.rows.numbers c.self.inside.rows.mappings c.args.number c.at-mapping.result.now
+          c.self.invariant.store.paired c.mark_untold.ensures.keeps c.mark_untold.ensures.told c.self.invariant.told));
     }
