@@ -10,16 +10,16 @@ use slab::Slab;
 use std::alloc::{AllocError, Global};
 use std::io::{Read, Write};
 
-/// A connection, and the worker's note on it.
+/// A connection, and what the worker keeps of it.
 #[derive(Drop)]
 pub struct Seat<I, O, T> {
     /// The connection.
     pub client: Client<I, O>,
-    /// The worker's note.
-    pub note: T,
+    /// What the worker keeps of it.
+    pub state: T,
 }
 
-/// The connections of one worker, each under a key, with the worker's note on it.
+/// The connections of one worker, each under a key, with what the worker keeps of it.
 #[derive(Drop)]
 pub struct Clients<I, O, T> {
     seats: Slab<Seat<I, O, T>>,
@@ -48,12 +48,12 @@ impl<I, O, T> Clients<I, O, T> {
         self.seats.capacity()
     }
 
-    /// The connection under a key, with its note.
+    /// The connection under a key, with its state.
     pub fn get(&self, key: usize) -> Option<&Seat<I, O, T>> {
         self.seats.get(key)
     }
 
-    /// The connection under a key, with its note, to be changed.
+    /// The connection under a key, with its state, to be changed.
     pub fn get_mut(&mut self, key: usize) -> Option<&mut Seat<I, O, T>> {
         self.seats.get_mut(key)
     }
@@ -63,8 +63,8 @@ impl<I: Read + Drop, O: Write + Drop, T: Drop> Clients<I, O, T> {
     ghost use Rattle.lost_connections.specs.Clients.{seats_of, IsServedAt};
 
     /// Takes a connection, and gives its key. If memory is refused, the connection is closed.
-    pub fn insert(&mut self, client: Client<I, O>, note: T) -> Result<usize, AllocError> {
-        match self.seats.insert(Seat { client, note }) {
+    pub fn insert(&mut self, client: Client<I, O>, state: T) -> Result<usize, AllocError> {
+        match self.seats.insert(Seat { client, state }) {
             Ok(key) => Ok(key),
             Err(_) => Err(AllocError),
         }

@@ -35,9 +35,9 @@ const SWEEP: u64 = 250;
 /// How long to pause if waiting for events fails, in milliseconds.
 const PAUSE: u64 = 20;
 
-/// A worker's note on a connection.
+/// What a worker keeps of a connection.
 #[derive(Drop)]
-struct Note {
+struct ConnectionState {
     /// Its number, from 1.
     number: u64,
     peer: Peer,
@@ -50,10 +50,10 @@ struct Note {
     times: Times,
 }
 
-impl Note {
-    /// The note on a connection that begins now.
-    fn new(number: u64, peer: Peer, now: Duration) -> Note {
-        Note {
+impl ConnectionState {
+    /// The state of a connection that begins now.
+    fn new(number: u64, peer: Peer, now: Duration) -> ConnectionState {
+        ConnectionState {
             number,
             peer,
             is_queued: false,
@@ -71,7 +71,7 @@ pub(crate) struct Watcher {
     arrivals: Receiver<Arrival>,
     poll: Poll,
     events: Events,
-    clients: Clients<InHalf, OutHalf, Note>,
+    clients: Clients<InHalf, OutHalf, ConnectionState>,
     queue: VecDeque<usize>,
     chunk: Vec<u8>,
     /// The time of this round, by the monotonic clock.
@@ -204,7 +204,11 @@ impl Watcher {
             peer,
         } = arrival;
         shared.status.count_taken();
-        if !self.seat(shared.alloc, stream, Note::new(number, peer, self.now)) {
+        if !self.seat(
+            shared.alloc,
+            stream,
+            ConnectionState::new(number, peer, self.now),
+        ) {
             hall.leave(shared.rt, peer.address());
             self.count_ended(
                 shared,
@@ -216,7 +220,7 @@ impl Watcher {
     }
 
     /// Watches a connection from here on. Says whether that succeeded; if not, it is closed.
-    fn seat(&mut self, alloc: Global, stream: Stream, note: Note) -> bool {
+    fn seat(&mut self, alloc: Global, stream: Stream, state: ConnectionState) -> bool {
         let fd = stream.raw_fd();
         if stream.set_nonblocking(true).is_err() {
             return false;
@@ -232,7 +236,10 @@ impl Watcher {
         {
             return false;
         }
-        let Ok(key) = self.clients.insert(Client::new(alloc, input, output), note) else {
+        let Ok(key) = self
+            .clients
+            .insert(Client::new(alloc, input, output), state)
+        else {
             return false;
         };
         let interest = Interest::READABLE | Interest::WRITABLE;
@@ -274,7 +281,7 @@ impl Watcher {
         moments: &mut M,
     ) {
         if let Some(seat) = self.clients.get_mut(key) {
-            seat.note.is_queued = false;
+            seat.state.is_queued = false;
         }
         let served = self.clients.serve(
             key,
@@ -302,10 +309,10 @@ impl Watcher {
         let now = self.now;
         if let Some(seat) = self.clients.get_mut(key) {
             let shown = shown_of(seat);
-            seat.note.times = seat.note.times.after(&shown, now);
-            seat.note.reads = seat.client.input().reads();
-            seat.note.ends = seat.client.input().ends();
-            seat.note.taken = seat.client.output().taken();
+            seat.state.times = seat.state.times.after(&shown, now);
+            seat.state.reads = seat.client.input().reads();
+            seat.state.ends = seat.client.input().ends();
+            seat.state.taken = seat.client.output().taken();
         }
     }
 
@@ -329,7 +336,7 @@ impl Watcher {
     /// The limit that the connection under a key has passed, if any.
     fn passed_at(&self, hall: &Hall, key: usize) -> Option<Passed> {
         let seat = self.clients.get(key)?;
-        seat.note.times.passed(&hall.limits, self.now)
+        seat.state.times.passed(&hall.limits, self.now)
     }
 
     /// Closes a connection, and reports the cause if it is a fault.
@@ -345,8 +352,8 @@ impl Watcher {
         };
         let lines = seat.client.output().lines();
         self.counts.lines = self.counts.lines.saturating_add(lines);
-        hall.leave(shared.rt, seat.note.peer.address());
-        self.count_ended(shared, seat.note.number, &seat.note.peer, cause);
+        hall.leave(shared.rt, seat.state.peer.address());
+        self.count_ended(shared, seat.state.number, &seat.state.peer, cause);
     }
 
     /// Counts that a connection has ended, and reports the cause if it is a fault.
@@ -367,26 +374,26 @@ impl Watcher {
 
 /// Queues a connection to be served at once, unless it is queued already.
 fn queue_once(
-    clients: &mut Clients<InHalf, OutHalf, Note>,
+    clients: &mut Clients<InHalf, OutHalf, ConnectionState>,
     queue: &mut VecDeque<usize>,
     key: usize,
 ) {
     if let Some(seat) = clients.get_mut(key)
-        && !seat.note.is_queued
+        && !seat.state.is_queued
         && queue.push_back(key).is_ok()
     {
-        seat.note.is_queued = true;
+        seat.state.is_queued = true;
     }
 }
 
 /// What a connection shows since the last look.
-fn shown_of(seat: &Seat<InHalf, OutHalf, Note>) -> Shown {
+fn shown_of(seat: &Seat<InHalf, OutHalf, ConnectionState>) -> Shown {
     let (input, output) = (seat.client.input(), seat.client.output());
-    let has_taken = output.taken() != seat.note.taken;
+    let has_taken = output.taken() != seat.state.taken;
     Shown {
-        has_moved: has_taken || input.reads() != seat.note.reads,
+        has_moved: has_taken || input.reads() != seat.state.reads,
         has_taken,
-        has_ended_line: input.ends() != seat.note.ends,
+        has_ended_line: input.ends() != seat.state.ends,
         has_begun: seat.client.has_begun(),
         has_unsent: seat.client.has_unsent(),
         is_held: seat.client.is_held(),
