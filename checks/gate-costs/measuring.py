@@ -9,7 +9,7 @@ import time
 
 from costs import Costs, sum_of
 from crates import TOP, below, copied, edits_in, has_tests, lines_of_code, lowest_first
-from watching import watched
+from watching import seconds_below, watched
 
 SHOWN, WIDTH = 20, 150
 ONE_JOB = {**os.environ, "RT_JOBS": "1"}
@@ -90,12 +90,11 @@ def sums(took, all, verdict):
 
 
 def steps(folder):
-    """How long each line of a check's progress took to come, and what it says, as the check of a crate goes on."""
-    words = ["rt", "check", "--jobs", "1"]
+    """The seconds of processor time from each line of a check's progress to the next, and what it says, as the check goes on."""
+    words, spent, before = ["rt", "check", "--jobs", "1"], {}, 0.0
     with subprocess.Popen(words, cwd=folder, stdout=subprocess.PIPE, stderr=subprocess.STDOUT, text=True, errors="replace") as child:
-        before = time.monotonic()
         for line in child.stdout:
-            now = time.monotonic()
+            now = seconds_below(child.pid, spent)
             yield now - before, line.rstrip()
             before = now
 

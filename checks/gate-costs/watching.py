@@ -35,6 +35,13 @@ def below(root, found):
             yield number, top
 
 
+def seconds_below(root, spent):
+    """The seconds of processor time below a process so far; `spent` keeps those of each process, since some have ended."""
+    found = processes()
+    spent.update({(number, found[number][1]): found[number][2] for number, _ in below(root, found)})
+    return sum(spent.values())
+
+
 def work_of(number):
     """The crate that a process works on, and what it does: `code`, `tests`, `edits` or `runs`. Nothing of any other process."""
     try:
