@@ -4,6 +4,7 @@ use lost_mapping::{Moment, Stamp};
 use lost_query::{Holdings, Place};
 use lost_urn::ServiceUrn;
 use std::alloc::{AllocError, Global};
+use std::fmt::Write;
 
 /// The keys of the questions.
 const KEYS: [&str; 5] = ["A-1", "A-2", "A-3", "B-1", "D-1"];
@@ -14,7 +15,6 @@ const MIDDLE: i64 = 5_000_000;
 /// A book that is asked, at a moment.
 #[derive(Drop)]
 struct Asked<'a, H: Holdings> {
-    alloc: Global,
     holdings: &'a H,
     moment: Moment,
 }
@@ -24,7 +24,6 @@ struct Asked<'a, H: Holdings> {
 /// all its mappings; last, the services below `sos`.
 pub(crate) fn answers<H: Holdings>(alloc: Global, holdings: &H) -> Result<String, AllocError> {
     let asked = Asked {
-        alloc,
         holdings,
         moment: moment(alloc, "2026-01-01T00:00:00Z")?,
     };
@@ -41,7 +40,7 @@ impl<H: Holdings> Asked<'_, H> {
         text.push_str(", keys")?;
         for key in KEYS {
             match self.holdings.by_key(&self.moment, key) {
-                Some(position) => text.push_str(format!(in self.alloc; " {position}")?.as_str())?,
+                Some(position) => write!(text, " {position}")?,
                 None => text.push_str(" -")?,
             }
         }
@@ -50,26 +49,26 @@ impl<H: Holdings> Asked<'_, H> {
 
     /// Adds whether a service is implemented, and the positions for the point and for the service.
     fn add_positions(&self, text: &mut String, service: &ServiceUrn) -> Result<(), AllocError> {
-        let (alloc, holdings, moment) = (self.alloc, self.holdings, &self.moment);
+        let (holdings, moment) = (self.holdings, &self.moment);
         text.push_str(if holdings.implemented(moment, service) {
             ", implemented"
         } else {
             ", not implemented"
         })?;
         let place = place(MIDDLE)?;
-        list(alloc, text, "holding", &holdings.holding(moment, &place)?)?;
-        list(alloc, text, "at", &holdings.at(moment, &place, service)?)?;
+        list(text, "holding", &holdings.holding(moment, &place)?)?;
+        list(text, "at", &holdings.at(moment, &place, service)?)?;
         let defaults = holdings.defaults(moment, service)?;
-        list(alloc, text, "defaults", &defaults)?;
+        list(text, "defaults", &defaults)?;
         let all = holdings.of_service(moment, service)?;
-        list(alloc, text, "of service", &all)
+        list(text, "of service", &all)
     }
 
     /// Adds the services below one.
     fn add_below(&self, text: &mut String, above: &ServiceUrn) -> Result<(), AllocError> {
         text.push_str(", below")?;
         for found in &self.holdings.services_below(&self.moment, Some(above))? {
-            text.push_str(format!(in self.alloc; " {}", found.text())?.as_str())?;
+            write!(text, " {}", found.text())?;
         }
         Ok(())
     }
@@ -100,15 +99,10 @@ fn service(alloc: Global, text: &str) -> Result<ServiceUrn, AllocError> {
 }
 
 /// Adds a name and its list of positions.
-fn list(
-    alloc: Global,
-    text: &mut String,
-    name: &str,
-    positions: &[usize],
-) -> Result<(), AllocError> {
-    text.push_str(format!(in alloc; ", {name}")?.as_str())?;
+fn list(text: &mut String, name: &str, positions: &[usize]) -> Result<(), AllocError> {
+    write!(text, ", {name}")?;
     for position in positions {
-        text.push_str(format!(in alloc; " {position}")?.as_str())?;
+        write!(text, " {position}")?;
     }
     Ok(())
 }

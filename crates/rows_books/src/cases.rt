@@ -2,6 +2,7 @@
 //! arguments and its result, with `|` between each two. Empty lines and lines that begin with `#` are skipped.
 mod book_cases;
 mod case;
+mod case_error;
 mod civic_cases;
 mod descriptions;
 mod fields;
@@ -14,7 +15,6 @@ mod spelling;
 mod stamp_cases;
 mod token_cases;
 mod tokens_cases;
-mod trouble;
 mod urn_cases;
 mod words;
 
@@ -49,8 +49,8 @@ fn judge_lines<R: Print + AllocGlobal>(
                 println!(rt; "{name}, line {line_number}, gives {said}")?;
                 all = false;
             }
-            Err(trouble) => {
-                println!(rt; "{name}, line {line_number}: {trouble}")?;
+            Err(error) => {
+                println!(rt; "{name}, line {line_number}: {error}")?;
                 return Ok(false);
             }
         }

@@ -105,7 +105,7 @@ fn all_answers<K: Kind>(
     publishes: &Publishes,
 ) -> Result<String, AllocError> {
     let mut text = answers(alloc, book)?;
-    publishes.add_last_refused(alloc, &mut text, book)?;
+    publishes.add_last_refused(&mut text, book)?;
     Ok(text)
 }
 

@@ -64,7 +64,7 @@ const WORDS: [&str; 20] = [
 fn main(rt: HostRuntime) -> io::Result<ExitCode> {
     let (words, mut end) = given(&rt, "rows_books", &WORDS)?;
     for word in &words {
-        end.note(run(&rt, word.as_str())?);
+        end.add(run(&rt, word.as_str())?);
     }
     end.status(&rt)
 }

@@ -3,6 +3,7 @@ use crate::kinds::Kind;
 use lost_book::{Edit, EditError};
 use lost_mapping::{Mapping, Parts};
 use std::alloc::{AllocError, Global};
+use std::fmt::Write;
 
 /// The identities that are looked for: two mappings of the rows, and for the first one its sourceId with another source
 /// and its source with another sourceId.
@@ -35,7 +36,6 @@ impl Publishes {
     /// Adds for each identity the last day whose publish a book refuses as withdrawn, or a dash.
     pub(crate) fn add_last_refused<K: Kind>(
         &self,
-        alloc: Global,
         text: &mut String,
         book: &K,
     ) -> Result<(), AllocError> {
@@ -47,7 +47,7 @@ impl Publishes {
                 .count();
             match days {
                 0 => text.push_str(" -")?,
-                _ => text.push_str(format!(in alloc; " {days}")?.as_str())?,
+                _ => write!(text, " {days}")?,
             }
         }
         Ok(())

@@ -7,7 +7,7 @@ use lost_spec::faults::{
     CivicError, EditError, GeoError, MappingError, RingError, SourceError, StampError, UrnError,
 };
 use std::alloc::{AllocError, Global};
-use std::fmt::Display;
+use std::fmt::{Display, Write};
 use std::io;
 
 /// Prints a line for each fault, from the lowest crate on, and the variants of each enum in their order.
@@ -36,13 +36,9 @@ fn tell_answer<R: Print>(rt: &R, answer: &Answer) -> io::Result<()> {
 }
 
 /// Adds a line for each fault of a list.
-fn add<F: Display + Copy>(
-    alloc: Global,
-    text: &mut String,
-    faults: &[F],
-) -> Result<(), AllocError> {
+fn add<F: Display + Copy>(text: &mut String, faults: &[F]) -> Result<(), AllocError> {
     for fault in faults {
-        text.push_str(format!(in alloc; "{}\n", *fault)?.as_str())?;
+        write!(text, "{}\n", *fault)?;
     }
     Ok(())
 }
@@ -51,7 +47,6 @@ fn add<F: Display + Copy>(
 fn value_texts(alloc: Global) -> Result<String, AllocError> {
     let mut text = String::new(alloc);
     add(
-        alloc,
         &mut text,
         &[
             UrnError::Prefix,
@@ -63,9 +58,8 @@ fn value_texts(alloc: Global) -> Result<String, AllocError> {
             UrnError::Memory,
         ],
     )?;
-    add(alloc, &mut text, &[GeoError::Latitude, GeoError::Longitude])?;
+    add(&mut text, &[GeoError::Latitude, GeoError::Longitude])?;
     add(
-        alloc,
         &mut text,
         &[
             RingError::TooShort,
@@ -74,7 +68,6 @@ fn value_texts(alloc: Global) -> Result<String, AllocError> {
         ],
     )?;
     add(
-        alloc,
         &mut text,
         &[
             CivicError::NoKnownElement,
@@ -84,8 +77,8 @@ fn value_texts(alloc: Global) -> Result<String, AllocError> {
             CivicError::UnknownElement,
         ],
     )?;
-    add(alloc, &mut text, &[SourceError::Bad, SourceError::Memory])?;
-    add(alloc, &mut text, &[StampError::Bad, StampError::Memory])?;
+    add(&mut text, &[SourceError::Bad, SourceError::Memory])?;
+    add(&mut text, &[StampError::Bad, StampError::Memory])?;
     Ok(text)
 }
 
@@ -93,7 +86,6 @@ fn value_texts(alloc: Global) -> Result<String, AllocError> {
 fn edit_texts(alloc: Global) -> Result<String, AllocError> {
     let mut text = String::new(alloc);
     add(
-        alloc,
         &mut text,
         &[
             MappingError::BadSource,
@@ -111,7 +103,6 @@ fn edit_texts(alloc: Global) -> Result<String, AllocError> {
         ],
     )?;
     add(
-        alloc,
         &mut text,
         &[
             EditError::IdentityHeld,
@@ -132,15 +123,10 @@ fn edit_texts(alloc: Global) -> Result<String, AllocError> {
 /// The texts of the faults of lines and streams.
 fn line_texts(alloc: Global) -> Result<String, AllocError> {
     let mut text = String::new(alloc);
-    add(
-        alloc,
-        &mut text,
-        &[ReadError::BadRequest, ReadError::Memory],
-    )?;
+    add(&mut text, &[ReadError::BadRequest, ReadError::Memory])?;
     let refused = DeskFault::Mapping(MappingError::BadKey);
-    add(alloc, &mut text, &[DeskFault::BadLine, refused])?;
+    add(&mut text, &[DeskFault::BadLine, refused])?;
     add(
-        alloc,
         &mut text,
         &[
             ServeError::Read,

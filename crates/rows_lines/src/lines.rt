@@ -11,8 +11,8 @@
 //! - `refuse=N`, for a gate that refuses a line and all after it, and `gate`, for one that refuses none;
 //! - `spaces`: spaces that come for ever are served in place of the stream.
 use crate::lengths::Lengths;
-use crate::noting::Noting;
 use crate::plan::Plan;
+use crate::recording_gate::RecordingGate;
 use crate::spelled::add_spelled;
 use crate::stream::no_command;
 use crate::telling::{tell_events, tell_folded};
@@ -21,7 +21,7 @@ use lost_spec::Coded;
 use std::alloc::{AllocError, Global};
 use std::io;
 use std::io::Read;
-use test_parts::{Diary, Noted, Sink, Spaces};
+use test_parts::{Diary, Recorded, Sink, Spaces};
 
 /// How a stream was served, what was written, how many reads were made, and the flags that were left.
 #[derive(Drop)]
@@ -90,7 +90,7 @@ fn served(alloc: Global, bytes: &[u8], plan: Plan, diary: &Diary) -> Result<Outc
     let feed = plan.feed(bytes);
     Ok(match plan.refused {
         Some(refused) => {
-            let gate = Noting { diary, refused };
+            let gate = RecordingGate { diary, refused };
             run_through(alloc, feed, sink, diary, &gate, plan.turns)
         }
         None => run_through(alloc, feed, sink, diary, &NoGate, plan.turns),
@@ -106,8 +106,8 @@ fn run_through<R: Read + Drop, G: Gate>(
     gate: &G,
     turns: Turns,
 ) -> Outcome {
-    let mut input = Watched::new(Noted::new(source, diary));
-    let mut output = Watched::new(Noted::new(sink, diary));
+    let mut input = Watched::new(Recorded::new(source, diary));
+    let mut output = Watched::new(Recorded::new(sink, diary));
     let result = run_lines(alloc, &mut input, &mut output, &mut Lengths, gate, turns);
     let is_output_failed = output.failed();
     Outcome {

@@ -51,9 +51,9 @@ mod in_turn;
 mod lengths;
 mod limits;
 mod lines;
-mod noting;
 mod orders;
 mod plan;
+mod recording_gate;
 mod rows;
 mod sessions;
 mod sipping;
@@ -85,7 +85,7 @@ const WORDS: [&str; 11] = [
 fn main(rt: HostRuntime) -> io::Result<ExitCode> {
     let (words, mut end) = given(&rt, "rows_lines", &WORDS)?;
     for word in &words {
-        end.note(run(&rt, word.as_str())?);
+        end.add(run(&rt, word.as_str())?);
     }
     end.status(&rt)
 }

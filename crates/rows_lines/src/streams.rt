@@ -2,7 +2,7 @@
 use crate::always::moments_of;
 use crate::bursts::{cut_everywhere, cut_once};
 use crate::in_turn::take_turns;
-use crate::noting::Noting;
+use crate::recording_gate::RecordingGate;
 use crate::stream::{Stream, no_command};
 use crate::telling::tell;
 use crate::workers::serve_two;
@@ -126,7 +126,7 @@ fn serve_queries<R: Print + AllocGlobal, P: Replier>(
     match stream.refused {
         Some(refused) => {
             let diary = Diary::new(rt.alloc());
-            let gate = Noting {
+            let gate = RecordingGate {
                 diary: &diary,
                 refused,
             };

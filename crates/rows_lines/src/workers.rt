@@ -21,7 +21,7 @@ type InMemory = Connection<VecDeque<u8>, Vec<u8>>;
 
 /// The values of a worker's thread.
 #[derive(Drop)]
-struct Working<'a, R: Clock> {
+struct WorkerThread<'a, R: Clock> {
     alloc: Global,
     reader: &'a mut Reader,
     setting: &'a Setting,
@@ -41,7 +41,7 @@ pub(crate) fn serve_two<R: Threads + Wait + Clock + Sync + Print + AllocGlobal>(
 ) -> io::Result<()> {
     let connections = twice(rt, stream)?;
     let gate = Meeting::new(rt);
-    let mut one = Working {
+    let mut one = WorkerThread {
         alloc: rt.alloc(),
         reader: first,
         setting,
@@ -49,7 +49,7 @@ pub(crate) fn serve_two<R: Threads + Wait + Clock + Sync + Print + AllocGlobal>(
         gate: &gate,
         stream,
     };
-    let mut other = Working {
+    let mut other = WorkerThread {
         alloc: rt.alloc(),
         reader: second,
         setting,
@@ -87,8 +87,8 @@ fn connection(alloc: Global, stream: &Stream) -> io::Result<InMemory> {
 /// Has both work, each in a thread of its own.
 fn in_two_threads<R: Threads + Wait + Clock + Sync>(
     rt: &R,
-    one: &mut Working<R>,
-    other: &mut Working<R>,
+    one: &mut WorkerThread<R>,
+    other: &mut WorkerThread<R>,
 ) -> (Counts, Counts) {
     join_mut(
         rt,
@@ -102,16 +102,16 @@ fn in_two_threads<R: Threads + Wait + Clock + Sync>(
 }
 
 /// Serves connections until there are no more.
-fn work<R: Wait + Clock>(rt: &R, working: &mut Working<R>) -> Counts {
-    let mut moments = moments_of(working.setting);
+fn work<R: Wait + Clock>(rt: &R, thread: &mut WorkerThread<R>) -> Counts {
+    let mut moments = moments_of(thread.setting);
     worker_loop(
         rt,
-        working.alloc,
-        &working.connections,
-        working.reader,
-        &working.setting.name,
+        thread.alloc,
+        &thread.connections,
+        thread.reader,
+        &thread.setting.name,
         &mut moments,
-        working.gate,
-        working.stream.turns,
+        thread.gate,
+        thread.stream.turns,
     )
 }

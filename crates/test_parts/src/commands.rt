@@ -43,8 +43,8 @@ pub fn given<'a, R: Env + AllocGlobal>(
 }
 
 impl End<'_> {
-    /// Notes whether all rows of a command are right.
-    pub fn note(&mut self, is_right: bool) {
+    /// Says whether all rows of a command are right.
+    pub fn add(&mut self, is_right: bool) {
         self.is_right = self.is_right && is_right;
     }
 

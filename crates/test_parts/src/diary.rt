@@ -17,46 +17,46 @@ pub enum Event {
     Told(u64),
 }
 
-/// What happened, in order. A reader, a writer and a gate may note in one diary.
+/// What happened, in order. A reader, a writer and a gate may record in one diary.
 #[derive(Drop)]
 pub struct Diary {
     events: RefCell<Vec<Event>>,
 }
 
 impl Diary {
-    /// A diary in which nothing is noted.
+    /// A diary in which nothing is recorded.
     pub fn new(alloc: Global) -> Diary {
         Diary {
             events: RefCell::new(Vec::new(alloc)),
         }
     }
 
-    /// Notes an event. If memory is refused, the event is missing.
-    pub fn note(&self, event: Event) {
+    /// Records an event. If memory is refused, the event is missing.
+    pub fn record(&self, event: Event) {
         if let Ok(mut events) = self.events.try_borrow_mut() {
             let _ = events.push(event);
         }
     }
 
-    /// Gives back what was noted.
+    /// Gives back what was recorded.
     pub fn into_events(self) -> Vec<Event> {
         self.events.into_inner()
     }
 }
 
-/// A reader or a writer that notes its reads, and its flushes after a write.
+/// A reader or a writer that records its reads, and its flushes after a write.
 #[derive(Drop)]
-pub struct Noted<'d, T> {
+pub struct Recorded<'d, T> {
     inner: T,
     diary: &'d Diary,
     written: usize,
     sent: usize,
 }
 
-impl<'d, T> Noted<'d, T> {
-    /// Notes in a diary from here on.
-    pub fn new(inner: T, diary: &'d Diary) -> Noted<'d, T> {
-        Noted {
+impl<'d, T> Recorded<'d, T> {
+    /// Records in a diary from here on.
+    pub fn new(inner: T, diary: &'d Diary) -> Recorded<'d, T> {
+        Recorded {
             inner,
             diary,
             written: 0,
@@ -66,7 +66,7 @@ impl<'d, T> Noted<'d, T> {
 
     /// Gives back the reader or the writer.
     pub fn into_inner(self) -> T {
-        let Noted {
+        let Recorded {
             inner,
             diary: _,
             written: _,
@@ -76,14 +76,14 @@ impl<'d, T> Noted<'d, T> {
     }
 }
 
-impl<T: Read> Read for Noted<'_, T> {
+impl<T: Read> Read for Recorded<'_, T> {
     fn read(&mut self, buf: &mut [u8]) -> io::Result<usize> {
-        self.diary.note(Event::Read);
+        self.diary.record(Event::Read);
         self.inner.read(buf)
     }
 }
 
-impl<T: Write> Write for Noted<'_, T> {
+impl<T: Write> Write for Recorded<'_, T> {
     fn write(&mut self, buf: &[u8]) -> io::Result<usize> {
         let count = self.inner.write(buf)?;
         self.written = self.written.saturating_add(count);
@@ -94,7 +94,7 @@ impl<T: Write> Write for Noted<'_, T> {
         self.inner.flush()?;
         if self.written > self.sent {
             self.sent = self.written;
-            self.diary.note(Event::Sent(self.sent));
+            self.diary.record(Event::Sent(self.sent));
         }
         Ok(())
     }

@@ -14,7 +14,7 @@ mod spaces;
 
 pub use commands::{End, given};
 pub use desk_limits::{limits, limits_of};
-pub use diary::{Diary, Event, Noted};
+pub use diary::{Diary, Event, Recorded};
 pub use feed::Feed;
 pub use meeting::Meeting;
 pub use setting::Setting;

@@ -1,7 +1,7 @@
 //! One case.
 use super::book_cases::Shelf;
+use super::case_error::CaseError;
 use super::fields::Fields;
-use super::trouble::Trouble;
 use super::{
     civic_cases, geo_cases, line_cases, mapping_cases, numbered_cases, place_cases, stamp_cases,
     token_cases, tokens_cases, urn_cases,
@@ -13,7 +13,7 @@ pub(crate) fn judge(
     alloc: Global,
     shelf: &mut Shelf,
     line: &str,
-) -> Result<Option<String>, Trouble> {
+) -> Result<Option<String>, CaseError> {
     let fields = Fields::read(alloc, line)?;
     let said = said(alloc, shelf, &fields)?;
     let is_wanted = said.as_bytes() == fields.wanted()?;
@@ -21,7 +21,7 @@ pub(crate) fn judge(
 }
 
 /// The result of a case's call. The first word of a call chooses the file of its crate.
-fn said(alloc: Global, shelf: &mut Shelf, fields: &Fields) -> Result<String, Trouble> {
+fn said(alloc: Global, shelf: &mut Shelf, fields: &Fields) -> Result<String, CaseError> {
     let call = fields.text(0)?;
     match call.split_once(' ').unwrap_or((call, "")).0 {
         "urn" => urn_cases::said(alloc, call, fields),

@@ -1,13 +1,13 @@
 //! Calls of lost_civic.
+use super::case_error::CaseError;
 use super::fields::Fields;
-use super::trouble::Trouble;
 use super::words::{checked, compared, owned, push_pairs, refused, text_pairs, yes_or_no};
 use lost_civic::{CivicAddress, CivicError, CivicPattern, Element};
 use lost_spec::Coded;
 use std::alloc::Global;
 
 /// The result of a call.
-pub(crate) fn said(alloc: Global, call: &str, fields: &Fields) -> Result<String, Trouble> {
+pub(crate) fn said(alloc: Global, call: &str, fields: &Fields) -> Result<String, CaseError> {
     let text = fields.text(1)?;
     match call {
         "civic elements" => elements(alloc),
@@ -23,33 +23,33 @@ pub(crate) fn said(alloc: Global, call: &str, fields: &Fields) -> Result<String,
         "civic same addresses" => same_addresses(alloc, text, fields.text(2)?),
         "civic same patterns" => same_patterns(alloc, text, fields.text(2)?),
         "civic matches" => matches(alloc, text, fields.text(2)?),
-        _ => Err(Trouble::NoCase),
+        _ => Err(CaseError::NoCase),
     }
 }
 
-fn check_address(alloc: Global, text: &str) -> Result<String, Trouble> {
+fn check_address(alloc: Global, text: &str) -> Result<String, CaseError> {
     let pairs = text_pairs(alloc, text, ';')?;
     let fault = CivicAddress::check(pairs.as_slice()).err();
     checked(alloc, fault.map(CivicError::code))
 }
 
-fn check_pattern(alloc: Global, text: &str) -> Result<String, Trouble> {
+fn check_pattern(alloc: Global, text: &str) -> Result<String, CaseError> {
     let pairs = text_pairs(alloc, text, ';')?;
     let fault = CivicPattern::check(pairs.as_slice()).err();
     checked(alloc, fault.map(CivicError::code))
 }
 
-fn same_addresses(alloc: Global, text: &str, other: &str) -> Result<String, Trouble> {
+fn same_addresses(alloc: Global, text: &str, other: &str) -> Result<String, CaseError> {
     let one = address(alloc, text)?;
     owned(alloc, compared(&one, &address(alloc, other)?))
 }
 
-fn same_patterns(alloc: Global, text: &str, other: &str) -> Result<String, Trouble> {
+fn same_patterns(alloc: Global, text: &str, other: &str) -> Result<String, CaseError> {
     let one = pattern(alloc, text)?;
     owned(alloc, yes_or_no(one == pattern(alloc, other)?))
 }
 
-fn matches(alloc: Global, text: &str, address_text: &str) -> Result<String, Trouble> {
+fn matches(alloc: Global, text: &str, address_text: &str) -> Result<String, CaseError> {
     let pattern = pattern(alloc, text)?;
     owned(
         alloc,
@@ -58,25 +58,25 @@ fn matches(alloc: Global, text: &str, address_text: &str) -> Result<String, Trou
 }
 
 /// The address that pairs make.
-pub(crate) fn address(alloc: Global, text: &str) -> Result<CivicAddress, Trouble> {
+pub(crate) fn address(alloc: Global, text: &str) -> Result<CivicAddress, CaseError> {
     match CivicAddress::from_pairs(alloc, text_pairs(alloc, text, ';')?) {
         Ok(address) => Ok(address),
-        Err(CivicError::Memory) => Err(Trouble::Memory),
-        Err(_) => Err(Trouble::NoCase),
+        Err(CivicError::Memory) => Err(CaseError::Memory),
+        Err(_) => Err(CaseError::NoCase),
     }
 }
 
 /// The pattern that pairs make.
-fn pattern(alloc: Global, text: &str) -> Result<CivicPattern, Trouble> {
+fn pattern(alloc: Global, text: &str) -> Result<CivicPattern, CaseError> {
     match CivicPattern::from_pairs(alloc, text_pairs(alloc, text, ';')?) {
         Ok(pattern) => Ok(pattern),
-        Err(CivicError::Memory) => Err(Trouble::Memory),
-        Err(_) => Err(Trouble::NoCase),
+        Err(CivicError::Memory) => Err(CaseError::Memory),
+        Err(_) => Err(CaseError::NoCase),
     }
 }
 
 /// The names of all elements that stand at their index, each behind a space.
-fn elements(alloc: Global) -> Result<String, Trouble> {
+fn elements(alloc: Global) -> Result<String, CaseError> {
     let mut text = String::new(alloc);
     for (position, element) in Element::ALL.iter().enumerate() {
         if element.index() == position {
@@ -87,7 +87,7 @@ fn elements(alloc: Global) -> Result<String, Trouble> {
     Ok(text)
 }
 
-fn by_name(alloc: Global, name: &str) -> Result<String, Trouble> {
+fn by_name(alloc: Global, name: &str) -> Result<String, CaseError> {
     match Element::by_name(name) {
         Some(element) => {
             let (index, name) = (element.index(), element.name());
@@ -97,8 +97,8 @@ fn by_name(alloc: Global, name: &str) -> Result<String, Trouble> {
     }
 }
 
-fn element(name: &str) -> Result<Element, Trouble> {
-    Element::by_name(name).ok_or(Trouble::NoCase)
+fn element(name: &str) -> Result<Element, CaseError> {
+    Element::by_name(name).ok_or(CaseError::NoCase)
 }
 
 /// How one element compares with another.
@@ -112,15 +112,15 @@ fn order(one: Element, other: Element) -> &'static str {
 }
 
 /// The pairs of a copy of an address, and its comparison texts.
-fn new_address(alloc: Global, text: &str) -> Result<String, Trouble> {
+fn new_address(alloc: Global, text: &str) -> Result<String, CaseError> {
     match CivicAddress::from_pairs(alloc, text_pairs(alloc, text, ';')?) {
         Ok(address) => shown_address(alloc, &address),
-        Err(CivicError::Memory) => Err(Trouble::Memory),
+        Err(CivicError::Memory) => Err(CaseError::Memory),
         Err(refusal) => refused(alloc, refusal.code()),
     }
 }
 
-fn shown_address(alloc: Global, address: &CivicAddress) -> Result<String, Trouble> {
+fn shown_address(alloc: Global, address: &CivicAddress) -> Result<String, CaseError> {
     let copy = address.clone()?;
     let mut said = owned(alloc, compared(&copy, address))?;
     said.push_str(" ")?;
@@ -133,15 +133,15 @@ fn shown_address(alloc: Global, address: &CivicAddress) -> Result<String, Troubl
 }
 
 /// The pairs of a copy of a pattern, and its comparison texts.
-fn new_pattern(alloc: Global, text: &str) -> Result<String, Trouble> {
+fn new_pattern(alloc: Global, text: &str) -> Result<String, CaseError> {
     match CivicPattern::from_pairs(alloc, text_pairs(alloc, text, ';')?) {
         Ok(pattern) => shown_pattern(alloc, &pattern),
-        Err(CivicError::Memory) => Err(Trouble::Memory),
+        Err(CivicError::Memory) => Err(CaseError::Memory),
         Err(refusal) => refused(alloc, refusal.code()),
     }
 }
 
-fn shown_pattern(alloc: Global, pattern: &CivicPattern) -> Result<String, Trouble> {
+fn shown_pattern(alloc: Global, pattern: &CivicPattern) -> Result<String, CaseError> {
     let copy = pattern.clone()?;
     let mut said = owned(alloc, if copy == *pattern { "same " } else { "other " })?;
     push_pairs(&mut said, copy.pairs())?;
@@ -153,7 +153,7 @@ fn shown_pattern(alloc: Global, pattern: &CivicPattern) -> Result<String, Troubl
 }
 
 /// Appends an element's comparison text, where it has one.
-fn push_text(said: &mut String, element: Element, text: Option<&str>) -> Result<(), Trouble> {
+fn push_text(said: &mut String, element: Element, text: Option<&str>) -> Result<(), CaseError> {
     if let Some(text) = text {
         said.push_str(element.name())?;
         said.push_str("=")?;

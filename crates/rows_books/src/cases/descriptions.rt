@@ -1,24 +1,24 @@
 //! Mappings as cases describe them: a sourceId, and then changes, each after a `;`. Without changes, a mapping is the
 //! police of `map.example`, of 2025-12-01, without end and without a region. Its URI and key come from the sourceId.
-use super::trouble::Trouble;
+use super::case_error::CaseError;
 use super::words::{number_pair, number_pairs, owned, text_pairs, texts};
 use lost_mapping::{DisplayName, Mapping, MappingError, Parts, Region};
 use std::alloc::Global;
 
 /// The mapping that a description makes.
-pub(crate) fn mapping(alloc: Global, description: &str) -> Result<Mapping, Trouble> {
+pub(crate) fn mapping(alloc: Global, description: &str) -> Result<Mapping, CaseError> {
     match Mapping::build(alloc, parts(alloc, description)?) {
         Ok(mapping) => Ok(mapping),
-        Err(MappingError::Memory) => Err(Trouble::Memory),
-        Err(_) => Err(Trouble::NoCase),
+        Err(MappingError::Memory) => Err(CaseError::Memory),
+        Err(_) => Err(CaseError::NoCase),
     }
 }
 
 /// The parts of a description.
-pub(crate) fn parts(alloc: Global, description: &str) -> Result<Parts, Trouble> {
+pub(crate) fn parts(alloc: Global, description: &str) -> Result<Parts, CaseError> {
     let mut changes = description.split(';');
     let Some(source_id) = changes.next() else {
-        return Err(Trouble::NoCase);
+        return Err(CaseError::NoCase);
     };
     let mut parts = police(alloc, source_id)?;
     for change in changes {
@@ -29,7 +29,7 @@ pub(crate) fn parts(alloc: Global, description: &str) -> Result<Parts, Trouble> 
     Ok(parts)
 }
 
-fn police(alloc: Global, source_id: &str) -> Result<Parts, Trouble> {
+fn police(alloc: Global, source_id: &str) -> Result<Parts, CaseError> {
     let mut uris = Vec::new(alloc);
     uris.push(format!(in alloc; "sip:{source_id}@map.example")?)?;
     Ok(Parts {
@@ -48,7 +48,7 @@ fn police(alloc: Global, source_id: &str) -> Result<Parts, Trouble> {
 }
 
 /// Makes a change `NAME=VALUE` or `NAME`.
-fn make_change(alloc: Global, parts: &mut Parts, change: &str) -> Result<(), Trouble> {
+fn make_change(alloc: Global, parts: &mut Parts, change: &str) -> Result<(), CaseError> {
     let (name, value) = change.split_once('=').unwrap_or((change, ""));
     match name {
         "source" => parts.source = owned(alloc, value)?,
@@ -65,7 +65,7 @@ fn make_change(alloc: Global, parts: &mut Parts, change: &str) -> Result<(), Tro
 }
 
 /// Makes a change of a list.
-fn add_to_list(alloc: Global, parts: &mut Parts, name: &str, value: &str) -> Result<(), Trouble> {
+fn add_to_list(alloc: Global, parts: &mut Parts, name: &str, value: &str) -> Result<(), CaseError> {
     match name {
         "no uri" => parts.uris = Vec::new(alloc),
         "uri" => parts.uris.push(owned(alloc, value)?)?,
@@ -79,14 +79,14 @@ fn add_to_list(alloc: Global, parts: &mut Parts, name: &str, value: &str) -> Res
             .push(Region::Pattern(text_pairs(alloc, value, ',')?))?,
         "tokens" => parts.regions.push(Region::Tokens(texts(alloc, value)?))?,
         "unreadable" => parts.regions.push(Region::Unreadable)?,
-        _ => return Err(Trouble::NoCase),
+        _ => return Err(CaseError::NoCase),
     }
     Ok(())
 }
 
 /// The name of `LANGUAGE:TEXT`.
-fn display_name(alloc: Global, value: &str) -> Result<DisplayName, Trouble> {
-    let (lang, text) = value.split_once(':').ok_or(Trouble::NoCase)?;
+fn display_name(alloc: Global, value: &str) -> Result<DisplayName, CaseError> {
+    let (lang, text) = value.split_once(':').ok_or(CaseError::NoCase)?;
     Ok(DisplayName {
         lang: owned(alloc, lang)?,
         text: owned(alloc, text)?,
@@ -94,8 +94,8 @@ fn display_name(alloc: Global, value: &str) -> Result<DisplayName, Trouble> {
 }
 
 /// The ring from a south-west corner to a north-east one.
-fn square(alloc: Global, value: &str) -> Result<Region, Trouble> {
-    let (low, high) = value.split_once(' ').ok_or(Trouble::NoCase)?;
+fn square(alloc: Global, value: &str) -> Result<Region, CaseError> {
+    let (low, high) = value.split_once(' ').ok_or(CaseError::NoCase)?;
     let ((south, west), (north, east)) = (number_pair(low)?, number_pair(high)?);
     let positions = [
         (south, west),

@@ -1,6 +1,6 @@
 //! The fields of a case: the texts between its bars, without the spaces around them.
+use super::case_error::CaseError;
 use super::spelling::spelled;
-use super::trouble::Trouble;
 use std::alloc::Global;
 
 /// The fields of a case as they are spelled, the call first.
@@ -11,7 +11,7 @@ pub(crate) struct Fields {
 
 impl Fields {
     /// The fields of a line.
-    pub(crate) fn read(alloc: Global, line: &str) -> Result<Fields, Trouble> {
+    pub(crate) fn read(alloc: Global, line: &str) -> Result<Fields, CaseError> {
         let mut fields = Vec::new(alloc);
         for field in line.split('|') {
             fields.push(spelled(alloc, field.trim())?)?;
@@ -20,33 +20,33 @@ impl Fields {
     }
 
     /// The wanted result: the last field.
-    pub(crate) fn wanted(&self) -> Result<&[u8], Trouble> {
+    pub(crate) fn wanted(&self) -> Result<&[u8], CaseError> {
         match self.fields.last() {
             Some(field) => Ok(field.as_slice()),
-            None => Err(Trouble::NoCase),
+            None => Err(CaseError::NoCase),
         }
     }
 
     /// The field at a position, from 0, where the call stands.
-    pub(crate) fn bytes(&self, position: usize) -> Result<&[u8], Trouble> {
+    pub(crate) fn bytes(&self, position: usize) -> Result<&[u8], CaseError> {
         match self.fields.get(position) {
             Some(field) => Ok(field.as_slice()),
-            None => Err(Trouble::NoCase),
+            None => Err(CaseError::NoCase),
         }
     }
 
     /// The field at a position as text.
-    pub(crate) fn text(&self, position: usize) -> Result<&str, Trouble> {
-        str::from_utf8(self.bytes(position)?).map_err(|_| Trouble::NoCase)
+    pub(crate) fn text(&self, position: usize) -> Result<&str, CaseError> {
+        str::from_utf8(self.bytes(position)?).map_err(|_| CaseError::NoCase)
     }
 
     /// The field at a position as a number.
-    pub(crate) fn number(&self, position: usize) -> Result<i64, Trouble> {
-        self.text(position)?.parse().map_err(|_| Trouble::NoCase)
+    pub(crate) fn number(&self, position: usize) -> Result<i64, CaseError> {
+        self.text(position)?.parse().map_err(|_| CaseError::NoCase)
     }
 
     /// The field at a position as a number that is not negative.
-    pub(crate) fn count(&self, position: usize) -> Result<u64, Trouble> {
-        self.text(position)?.parse().map_err(|_| Trouble::NoCase)
+    pub(crate) fn count(&self, position: usize) -> Result<u64, CaseError> {
+        self.text(position)?.parse().map_err(|_| CaseError::NoCase)
     }
 }

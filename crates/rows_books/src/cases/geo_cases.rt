@@ -1,13 +1,14 @@
 //! Calls of lost_geo.
+use super::case_error::CaseError;
 use super::fields::Fields;
-use super::trouble::Trouble;
 use super::words::{compared, number_pair, number_pairs, owned, refused, yes_or_no};
 use lost_geo::{GeoPoint, Polygon, is_ring};
 use lost_spec::Coded;
 use std::alloc::Global;
+use std::fmt::Write;
 
 /// The result of a call.
-pub(crate) fn said(alloc: Global, call: &str, fields: &Fields) -> Result<String, Trouble> {
+pub(crate) fn said(alloc: Global, call: &str, fields: &Fields) -> Result<String, CaseError> {
     let text = fields.text(1)?;
     match call {
         "geo point" => new_point(alloc, number_pair(text)?),
@@ -24,40 +25,40 @@ pub(crate) fn said(alloc: Global, call: &str, fields: &Fields) -> Result<String,
             let point = point(fields.text(2)?)?;
             owned(alloc, yes_or_no(polygon(alloc, text)?.inside(&point)))
         }
-        _ => Err(Trouble::NoCase),
+        _ => Err(CaseError::NoCase),
     }
 }
 
 /// The point that two numbers make.
-pub(crate) fn point(text: &str) -> Result<GeoPoint, Trouble> {
+pub(crate) fn point(text: &str) -> Result<GeoPoint, CaseError> {
     let (lat, lon) = number_pair(text)?;
     match GeoPoint::new(lat, lon) {
         Ok(point) => Ok(point),
-        Err(_) => Err(Trouble::NoCase),
+        Err(_) => Err(CaseError::NoCase),
     }
 }
 
 /// The polygon that a ring makes.
-fn polygon(alloc: Global, text: &str) -> Result<Polygon, Trouble> {
+fn polygon(alloc: Global, text: &str) -> Result<Polygon, CaseError> {
     match Polygon::new(points(alloc, text)?) {
         Ok(polygon) => Ok(polygon),
-        Err(_) => Err(Trouble::NoCase),
+        Err(_) => Err(CaseError::NoCase),
     }
 }
 
-fn points(alloc: Global, text: &str) -> Result<Vec<GeoPoint>, Trouble> {
+fn points(alloc: Global, text: &str) -> Result<Vec<GeoPoint>, CaseError> {
     let mut points = Vec::new(alloc);
     for (lat, lon) in number_pairs(alloc, text)? {
         match GeoPoint::new(lat, lon) {
             Ok(point) => points.push(point)?,
-            Err(_) => return Err(Trouble::NoCase),
+            Err(_) => return Err(CaseError::NoCase),
         }
     }
     Ok(points)
 }
 
 /// The numbers of a point, and those of its normal form.
-fn new_point(alloc: Global, numbers: (i64, i64)) -> Result<String, Trouble> {
+fn new_point(alloc: Global, numbers: (i64, i64)) -> Result<String, CaseError> {
     match GeoPoint::new(numbers.0, numbers.1) {
         Ok(point) => {
             let (lat, lon) = (point.lat(), point.lon());
@@ -70,7 +71,7 @@ fn new_point(alloc: Global, numbers: (i64, i64)) -> Result<String, Trouble> {
 }
 
 /// The numbers that a text of degrees spells, or `none`.
-fn decimal(alloc: Global, text: &[u8]) -> Result<String, Trouble> {
+fn decimal(alloc: Global, text: &[u8]) -> Result<String, CaseError> {
     match GeoPoint::decimal(text) {
         Some((lat, lon)) => Ok(format!(in alloc; "{lat},{lon}")?),
         None => owned(alloc, "none"),
@@ -78,7 +79,7 @@ fn decimal(alloc: Global, text: &[u8]) -> Result<String, Trouble> {
 }
 
 /// The number of positions of a ring.
-fn new_ring(alloc: Global, text: &str) -> Result<String, Trouble> {
+fn new_ring(alloc: Global, text: &str) -> Result<String, CaseError> {
     match Polygon::new(points(alloc, text)?) {
         Ok(polygon) => {
             let count = polygon.positions().len();
@@ -89,19 +90,19 @@ fn new_ring(alloc: Global, text: &str) -> Result<String, Trouble> {
 }
 
 /// The numbers of positions, with a space between each two.
-pub(crate) fn shown_positions(alloc: Global, points: &[GeoPoint]) -> Result<String, Trouble> {
+pub(crate) fn shown_positions(alloc: Global, points: &[GeoPoint]) -> Result<String, CaseError> {
     let mut text = String::new(alloc);
     for point in points {
         if !text.is_empty() {
             text.push_str(" ")?;
         }
         let (lat, lon) = (point.lat(), point.lon());
-        text.push_str(format!(in alloc; "{lat},{lon}")?.as_str())?;
+        write!(text, "{lat},{lon}")?;
     }
     Ok(text)
 }
 
-fn shown_bounds(alloc: Global, polygon: &Polygon) -> Result<String, Trouble> {
+fn shown_bounds(alloc: Global, polygon: &Polygon) -> Result<String, CaseError> {
     let bounds = polygon.bounds();
     let (south, north) = (bounds.lat_min, bounds.lat_max);
     let (west, east) = (bounds.lon_min, bounds.lon_max);

@@ -1,17 +1,17 @@
 //! Calls of lost_mapping on mappings.
+use super::case_error::CaseError;
 use super::descriptions::{mapping, parts};
 use super::fields::Fields;
 use super::geo_cases::shown_positions;
 use super::stamp_cases::stamp;
 use super::token_cases::shown_tokens;
-use super::trouble::Trouble;
 use super::words::{checked, owned, push_pairs, refused, yes_or_no};
 use lost_mapping::{Expires, Mapping, MappingError, Moment, Parts};
 use lost_spec::Coded;
 use std::alloc::Global;
 
 /// The result of a call.
-pub(crate) fn said(alloc: Global, call: &str, fields: &Fields) -> Result<String, Trouble> {
+pub(crate) fn said(alloc: Global, call: &str, fields: &Fields) -> Result<String, CaseError> {
     let text = fields.text(1)?;
     match call {
         "mapping build" => build(alloc, text),
@@ -27,15 +27,15 @@ pub(crate) fn said(alloc: Global, call: &str, fields: &Fields) -> Result<String,
             let moment = stamp(alloc, fields.bytes(2)?)?.moment();
             owned(alloc, is_live(&mapping(alloc, text)?, &moment)?)
         }
-        _ => Err(Trouble::NoCase),
+        _ => Err(CaseError::NoCase),
     }
 }
 
 /// Whether parts make a mapping.
-fn build(alloc: Global, text: &str) -> Result<String, Trouble> {
+fn build(alloc: Global, text: &str) -> Result<String, CaseError> {
     match Mapping::build(alloc, parts(alloc, text)?) {
         Ok(_) => owned(alloc, "built"),
-        Err(MappingError::Memory) => Err(Trouble::Memory),
+        Err(MappingError::Memory) => Err(CaseError::Memory),
         Err(refusal) => refused(alloc, refusal.code()),
     }
 }
@@ -46,7 +46,7 @@ fn parts_fault(parts: &Parts) -> Option<MappingError> {
 }
 
 /// Whether a mapping is live at an instant; `at odds` where a copy of its end says otherwise.
-fn is_live(mapping: &Mapping, moment: &Moment) -> Result<&'static str, Trouble> {
+fn is_live(mapping: &Mapping, moment: &Moment) -> Result<&'static str, CaseError> {
     let end = mapping.expires().clone()?;
     let live = mapping.is_live(moment);
     Ok(if end.is_live_at(moment) == live {
@@ -57,7 +57,7 @@ fn is_live(mapping: &Mapping, moment: &Moment) -> Result<&'static str, Trouble> 
 }
 
 /// The result of each reader of a mapping.
-pub(crate) fn shown(alloc: Global, mapping: &Mapping) -> Result<String, Trouble> {
+pub(crate) fn shown(alloc: Global, mapping: &Mapping) -> Result<String, CaseError> {
     let mut text = shown_head(alloc, mapping)?;
     for uri in mapping.uris() {
         text.push_str(" at ")?;
@@ -85,7 +85,7 @@ pub(crate) fn shown(alloc: Global, mapping: &Mapping) -> Result<String, Trouble>
 }
 
 /// The identity, the stamp, the end and the service.
-fn shown_head(alloc: Global, mapping: &Mapping) -> Result<String, Trouble> {
+fn shown_head(alloc: Global, mapping: &Mapping) -> Result<String, CaseError> {
     let (source, id) = (
         mapping.identity().source().text(),
         mapping.identity().source_id(),
@@ -100,7 +100,7 @@ fn shown_head(alloc: Global, mapping: &Mapping) -> Result<String, Trouble> {
 }
 
 /// Appends the polygons, then the patterns, and then the token sets.
-fn push_regions(alloc: Global, text: &mut String, mapping: &Mapping) -> Result<(), Trouble> {
+fn push_regions(alloc: Global, text: &mut String, mapping: &Mapping) -> Result<(), CaseError> {
     for polygon in mapping.polygons() {
         text.push_str(" in ")?;
         text.push_str(shown_positions(alloc, polygon.positions())?.as_str())?;

@@ -1,20 +1,21 @@
 //! Calls of lost_location: kinds of places, the places of locations, and regions.
+use super::case_error::CaseError;
 use super::civic_cases::address;
 use super::descriptions::{mapping, parts};
 use super::fields::Fields;
 use super::geo_cases::point;
 use super::token_cases::token;
-use super::trouble::Trouble;
 use super::words::{compared, number_pair, owned, push_pairs, text_pairs, yes_or_no};
 use lost_location::{Body, Counts, Place, PlaceKind, has_system, kind_of, place_in, profile_of};
 use std::alloc::Global;
 use std::borrow::CowStr;
+use std::fmt::Write;
 
 /// What stands before the text of a token.
 const TOKEN: &str = "token ";
 
 /// The result of a call.
-pub(crate) fn said(alloc: Global, call: &str, fields: &Fields) -> Result<String, Trouble> {
+pub(crate) fn said(alloc: Global, call: &str, fields: &Fields) -> Result<String, CaseError> {
     let text = fields.text(1)?;
     match call {
         "place kind" => owned(alloc, named(kind_of(text))),
@@ -38,12 +39,12 @@ pub(crate) fn said(alloc: Global, call: &str, fields: &Fields) -> Result<String,
             owned(alloc, yes_or_no(one.regions().is_same(other.regions())))
         }
         "place over" => owned(alloc, yes_or_no(counts(fields)?.are_over())),
-        _ => Err(Trouble::NoCase),
+        _ => Err(CaseError::NoCase),
     }
 }
 
 /// The place of a text: a token behind its word, an address where there is a `=`, or else a point.
-pub(crate) fn place(alloc: Global, text: &str) -> Result<Place, Trouble> {
+pub(crate) fn place(alloc: Global, text: &str) -> Result<Place, CaseError> {
     if let Some(text) = text.strip_prefix(TOKEN) {
         Ok(Place::Token(Box::new(alloc, token(alloc, text.as_bytes())?)?))
     } else if text.contains('=') {
@@ -54,7 +55,7 @@ pub(crate) fn place(alloc: Global, text: &str) -> Result<Place, Trouble> {
 }
 
 /// What a location holds, as a place is written, in range or not; or `unreadable`.
-fn body(alloc: Global, text: &str) -> Result<Body<'_>, Trouble> {
+fn body(alloc: Global, text: &str) -> Result<Body<'_>, CaseError> {
     if let Some(text) = text.strip_prefix(TOKEN) {
         Ok(Body::Token(CowStr::Borrowed(text)))
     } else if text.contains('=') {
@@ -76,20 +77,20 @@ fn named(kind: Option<PlaceKind>) -> &'static str {
 }
 
 /// The profile and the content of a place, or `none`.
-fn found(alloc: Global, place: Option<Place>) -> Result<String, Trouble> {
+fn found(alloc: Global, place: Option<Place>) -> Result<String, CaseError> {
     match place {
         Some(place) => shown(alloc, &place),
         None => owned(alloc, "none"),
     }
 }
 
-fn shown(alloc: Global, place: &Place) -> Result<String, Trouble> {
+fn shown(alloc: Global, place: &Place) -> Result<String, CaseError> {
     let mut text = owned(alloc, named(Some(place.kind())))?;
     text.push_str(" ")?;
     match place {
         Place::Point(point) => {
             let (lat, lon) = (point.lat(), point.lon());
-            text.push_str(format!(in alloc; "{lat},{lon}")?.as_str())?;
+            write!(text, "{lat},{lon}")?;
         }
         Place::Address(address) => push_pairs(&mut text, address.pairs())?,
         Place::Token(token) => text.push_str(token.text())?,
@@ -101,7 +102,7 @@ fn shown(alloc: Global, place: &Place) -> Result<String, Trouble> {
 }
 
 /// The profile of each region of a description, or `none` for one that is refused; each behind a space.
-fn region_kind(alloc: Global, text: &str) -> Result<String, Trouble> {
+fn region_kind(alloc: Global, text: &str) -> Result<String, CaseError> {
     let mut said = String::new(alloc);
     for region in &parts(alloc, text)?.regions {
         said.push_str(" ")?;
@@ -111,7 +112,7 @@ fn region_kind(alloc: Global, text: &str) -> Result<String, Trouble> {
 }
 
 /// The counts of the first three fields.
-fn counts(fields: &Fields) -> Result<Counts, Trouble> {
+fn counts(fields: &Fields) -> Result<Counts, CaseError> {
     Ok(Counts {
         polygons: number(fields, 1)?,
         patterns: number(fields, 2)?,
@@ -119,6 +120,6 @@ fn counts(fields: &Fields) -> Result<Counts, Trouble> {
     })
 }
 
-fn number(fields: &Fields, position: usize) -> Result<usize, Trouble> {
-    usize::try_from(fields.count(position)?).map_err(|_| Trouble::NoCase)
+fn number(fields: &Fields, position: usize) -> Result<usize, CaseError> {
+    usize::try_from(fields.count(position)?).map_err(|_| CaseError::NoCase)
 }

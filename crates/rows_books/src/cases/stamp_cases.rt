@@ -1,13 +1,13 @@
 //! Calls of lost_mapping that need no mapping: stamps, instants, sources and identities.
+use super::case_error::CaseError;
 use super::fields::Fields;
-use super::trouble::Trouble;
 use super::words::{checked, compared, owned, refused, yes_or_no};
 use lost_mapping::{Identity, MappingError, Moment, Source, SourceError, Stamp, StampError};
 use lost_spec::Coded;
 use std::alloc::Global;
 
 /// The result of a call.
-pub(crate) fn said(alloc: Global, call: &str, fields: &Fields) -> Result<String, Trouble> {
+pub(crate) fn said(alloc: Global, call: &str, fields: &Fields) -> Result<String, CaseError> {
     match call {
         "stamp" => new_stamp(alloc, fields.bytes(1)?),
         "stamp check" => owned(alloc, yes_or_no(Stamp::is_stamp(fields.bytes(1)?))),
@@ -18,69 +18,69 @@ pub(crate) fn said(alloc: Global, call: &str, fields: &Fields) -> Result<String,
         "same identities" => same_identities(alloc, fields),
         "moment" => new_moment(alloc, fields),
         "moments" => two_moments(alloc, fields),
-        _ => Err(Trouble::NoCase),
+        _ => Err(CaseError::NoCase),
     }
 }
 
-fn same_sources(alloc: Global, text: &[u8], other: &[u8]) -> Result<String, Trouble> {
+fn same_sources(alloc: Global, text: &[u8], other: &[u8]) -> Result<String, CaseError> {
     let one = source(alloc, text)?;
     owned(alloc, compared(&one, &source(alloc, other)?))
 }
 
-fn check_identity(alloc: Global, source: &str, id: &str) -> Result<String, Trouble> {
+fn check_identity(alloc: Global, source: &str, id: &str) -> Result<String, CaseError> {
     let fault = Identity::check(source, id).err();
     checked(alloc, fault.map(MappingError::code))
 }
 
-fn same_identities(alloc: Global, fields: &Fields) -> Result<String, Trouble> {
+fn same_identities(alloc: Global, fields: &Fields) -> Result<String, CaseError> {
     let one = identity(alloc, fields.text(1)?, fields.text(2)?)?;
     let other = identity(alloc, fields.text(3)?, fields.text(4)?)?;
     owned(alloc, compared(&one, &other))
 }
 
-fn new_moment(alloc: Global, fields: &Fields) -> Result<String, Trouble> {
+fn new_moment(alloc: Global, fields: &Fields) -> Result<String, CaseError> {
     match moment(fields, 1)? {
         Some(_) => owned(alloc, "kept"),
         None => owned(alloc, "none"),
     }
 }
 
-fn two_moments(alloc: Global, fields: &Fields) -> Result<String, Trouble> {
+fn two_moments(alloc: Global, fields: &Fields) -> Result<String, CaseError> {
     match (moment(fields, 1)?, moment(fields, 3)?) {
         (Some(one), Some(other)) => owned(alloc, order(&one, &other)),
-        _ => Err(Trouble::NoCase),
+        _ => Err(CaseError::NoCase),
     }
 }
 
 /// The stamp that a text spells.
-pub(crate) fn stamp(alloc: Global, text: &[u8]) -> Result<Stamp, Trouble> {
+pub(crate) fn stamp(alloc: Global, text: &[u8]) -> Result<Stamp, CaseError> {
     match Stamp::parse(alloc, text) {
         Ok(stamp) => Ok(stamp),
-        Err(StampError::Memory) => Err(Trouble::Memory),
-        Err(StampError::Bad) => Err(Trouble::NoCase),
+        Err(StampError::Memory) => Err(CaseError::Memory),
+        Err(StampError::Bad) => Err(CaseError::NoCase),
     }
 }
 
 /// The source that a text spells.
-pub(crate) fn source(alloc: Global, text: &[u8]) -> Result<Source, Trouble> {
+pub(crate) fn source(alloc: Global, text: &[u8]) -> Result<Source, CaseError> {
     match Source::parse(alloc, text) {
         Ok(source) => Ok(source),
-        Err(SourceError::Memory) => Err(Trouble::Memory),
-        Err(SourceError::Bad) => Err(Trouble::NoCase),
+        Err(SourceError::Memory) => Err(CaseError::Memory),
+        Err(SourceError::Bad) => Err(CaseError::NoCase),
     }
 }
 
 /// The identity that two texts make.
-pub(crate) fn identity(alloc: Global, source: &str, id: &str) -> Result<Identity, Trouble> {
+pub(crate) fn identity(alloc: Global, source: &str, id: &str) -> Result<Identity, CaseError> {
     match Identity::parse(alloc, source, id) {
         Ok(identity) => Ok(identity),
-        Err(MappingError::Memory) => Err(Trouble::Memory),
-        Err(_) => Err(Trouble::NoCase),
+        Err(MappingError::Memory) => Err(CaseError::Memory),
+        Err(_) => Err(CaseError::NoCase),
     }
 }
 
 /// The text and the instant of a copy of a stamp.
-fn new_stamp(alloc: Global, text: &[u8]) -> Result<String, Trouble> {
+fn new_stamp(alloc: Global, text: &[u8]) -> Result<String, CaseError> {
     match Stamp::parse(alloc, text) {
         Ok(stamp) => {
             let copy = stamp.clone()?;
@@ -88,13 +88,13 @@ fn new_stamp(alloc: Global, text: &[u8]) -> Result<String, Trouble> {
             let (day, nanosecond) = (moment.day(), moment.nanosecond());
             Ok(format!(in alloc; "{text} day {day}, {nanosecond}")?)
         }
-        Err(StampError::Memory) => Err(Trouble::Memory),
+        Err(StampError::Memory) => Err(CaseError::Memory),
         Err(refusal) => refused(alloc, refusal.code()),
     }
 }
 
 /// The text of a copy of a source.
-fn new_source(alloc: Global, text: &[u8]) -> Result<String, Trouble> {
+fn new_source(alloc: Global, text: &[u8]) -> Result<String, CaseError> {
     match Source::parse(alloc, text) {
         Ok(source) => {
             let copy = source.clone()?;
@@ -102,21 +102,21 @@ fn new_source(alloc: Global, text: &[u8]) -> Result<String, Trouble> {
             let text = copy.text();
             Ok(format!(in alloc; "{text} {same}")?)
         }
-        Err(SourceError::Memory) => Err(Trouble::Memory),
+        Err(SourceError::Memory) => Err(CaseError::Memory),
         Err(refusal) => refused(alloc, refusal.code()),
     }
 }
 
 /// The texts of a copy of an identity.
-fn new_identity(alloc: Global, source: &str, id: &str) -> Result<String, Trouble> {
+fn new_identity(alloc: Global, source: &str, id: &str) -> Result<String, CaseError> {
     match Identity::parse(alloc, source, id) {
         Ok(identity) => shown_identity(alloc, &identity),
-        Err(MappingError::Memory) => Err(Trouble::Memory),
+        Err(MappingError::Memory) => Err(CaseError::Memory),
         Err(refusal) => refused(alloc, refusal.code()),
     }
 }
 
-fn shown_identity(alloc: Global, identity: &Identity) -> Result<String, Trouble> {
+fn shown_identity(alloc: Global, identity: &Identity) -> Result<String, CaseError> {
     let copy = identity.clone()?;
     let same = compared(&copy, identity);
     let (source, id) = (copy.source().text(), copy.source_id());
@@ -124,8 +124,8 @@ fn shown_identity(alloc: Global, identity: &Identity) -> Result<String, Trouble>
 }
 
 /// The instant of the day and the nanosecond in the fields from a position on.
-fn moment(fields: &Fields, position: usize) -> Result<Option<Moment>, Trouble> {
-    let day = i32::try_from(fields.number(position)?).map_err(|_| Trouble::NoCase)?;
+fn moment(fields: &Fields, position: usize) -> Result<Option<Moment>, CaseError> {
+    let day = i32::try_from(fields.number(position)?).map_err(|_| CaseError::NoCase)?;
     let nanosecond = fields.count(position.saturating_add(1))?;
     Ok(Moment::new(day, nanosecond))
 }

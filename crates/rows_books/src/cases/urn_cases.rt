@@ -1,15 +1,15 @@
 //! Calls of lost_urn.
 ghost use Rattle.std.specs.Prelude.{◌≤◌, IfOk, length};
 
+use super::case_error::CaseError;
 use super::fields::Fields;
-use super::trouble::Trouble;
 use super::words::{checked, compared, copy_of, order, owned, refused, yes_or_no};
 use lost_spec::Coded;
 use lost_urn::{ServiceUrn, UrnError};
 use std::alloc::Global;
 
 /// The result of a call.
-pub(crate) fn said(alloc: Global, call: &str, fields: &Fields) -> Result<String, Trouble> {
+pub(crate) fn said(alloc: Global, call: &str, fields: &Fields) -> Result<String, CaseError> {
     let text = fields.bytes(1)?;
     match call {
         "urn parse" => parse(alloc, text),
@@ -18,11 +18,11 @@ pub(crate) fn said(alloc: Global, call: &str, fields: &Fields) -> Result<String,
         "urn front" => front(alloc, &service(alloc, text)?, fields.count(2)?),
         "urn at or below" => at_or_below(alloc, text, fields.bytes(2)?),
         "urn order" => two_services(alloc, text, fields.bytes(2)?),
-        _ => Err(Trouble::NoCase),
+        _ => Err(CaseError::NoCase),
     }
 }
 
-fn at_or_below(alloc: Global, text: &[u8], other: &[u8]) -> Result<String, Trouble> {
+fn at_or_below(alloc: Global, text: &[u8], other: &[u8]) -> Result<String, CaseError> {
     let one = service(alloc, text)?;
     owned(
         alloc,
@@ -30,30 +30,30 @@ fn at_or_below(alloc: Global, text: &[u8], other: &[u8]) -> Result<String, Troub
     )
 }
 
-fn two_services(alloc: Global, text: &[u8], other: &[u8]) -> Result<String, Trouble> {
+fn two_services(alloc: Global, text: &[u8], other: &[u8]) -> Result<String, CaseError> {
     let one = service(alloc, text)?;
     owned(alloc, order(&one, &service(alloc, other)?))
 }
 
 /// The service that a text spells.
-pub(crate) fn service(alloc: Global, text: &[u8]) -> Result<ServiceUrn, Trouble> {
+pub(crate) fn service(alloc: Global, text: &[u8]) -> Result<ServiceUrn, CaseError> {
     match ServiceUrn::parse(alloc, text) {
         Ok(service) => Ok(service),
-        Err(UrnError::Memory) => Err(Trouble::Memory),
-        Err(_) => Err(Trouble::NoCase),
+        Err(UrnError::Memory) => Err(CaseError::Memory),
+        Err(_) => Err(CaseError::NoCase),
     }
 }
 
-fn parse(alloc: Global, text: &[u8]) -> Result<String, Trouble> {
+fn parse(alloc: Global, text: &[u8]) -> Result<String, CaseError> {
     match ServiceUrn::parse(alloc, text) {
         Ok(service) => shown(alloc, &service),
-        Err(UrnError::Memory) => Err(Trouble::Memory),
+        Err(UrnError::Memory) => Err(CaseError::Memory),
         Err(refusal) => refused(alloc, refusal.code()),
     }
 }
 
 /// The text and the depth of a copy of a copy, by the method and by the trait.
-fn shown(alloc: Global, service: &ServiceUrn) -> Result<String, Trouble> {
+fn shown(alloc: Global, service: &ServiceUrn) -> Result<String, CaseError> {
     let copy = copy_of(&service.clone()?)?;
     let same = compared(&copy, service);
     let (text, depth) = (copy.text(), copy.depth());
@@ -61,21 +61,21 @@ fn shown(alloc: Global, service: &ServiceUrn) -> Result<String, Trouble> {
 }
 
 /// A number of labels: at least 1, and at most those of the service.
-fn some_labels(service: &ServiceUrn, labels: u64) -> Result<usize, Trouble>
+fn some_labels(service: &ServiceUrn, labels: u64) -> Result<usize, CaseError>
     ensures { IfOk result (λ n. (1 ≤ n) × (n ≤ length service.now)) }
 {
-    let labels = usize::try_from(labels).map_err(|_| Trouble::NoCase)?;
+    let labels = usize::try_from(labels).map_err(|_| CaseError::NoCase)?;
     if labels < 1 || labels > service.depth() {
-        return Err(Trouble::NoCase);
+        return Err(CaseError::NoCase);
     }
     Ok(labels)
 }
 
-fn front(alloc: Global, service: &ServiceUrn, labels: u64) -> Result<String, Trouble> {
+fn front(alloc: Global, service: &ServiceUrn, labels: u64) -> Result<String, CaseError> {
     owned(alloc, service.front(some_labels(service, labels)?))
 }
 
-fn cut(alloc: Global, service: &ServiceUrn, labels: u64) -> Result<String, Trouble> {
+fn cut(alloc: Global, service: &ServiceUrn, labels: u64) -> Result<String, CaseError> {
     let labels = some_labels(service, labels)?;
     let front = service.cut(labels)?;
     let (text, depth) = (front.text(), front.depth());

@@ -1,11 +1,12 @@
 //! Words and lists in the fields of cases, and words for the results of calls.
-use super::trouble::Trouble;
+use super::case_error::CaseError;
 use std::alloc::Global;
 use std::cmp::Ordering;
+use std::fmt::Write;
 use std::hash::{DefaultHasher, Hash, Hasher};
 
 /// `passes`, or the number of a refusal.
-pub(crate) fn checked(alloc: Global, refusal: Option<u8>) -> Result<String, Trouble> {
+pub(crate) fn checked(alloc: Global, refusal: Option<u8>) -> Result<String, CaseError> {
     match refusal {
         Some(code) => refused(alloc, code),
         None => owned(alloc, "passes"),
@@ -13,12 +14,12 @@ pub(crate) fn checked(alloc: Global, refusal: Option<u8>) -> Result<String, Trou
 }
 
 /// An owned copy of a text.
-pub(crate) fn owned(alloc: Global, text: &str) -> Result<String, Trouble> {
+pub(crate) fn owned(alloc: Global, text: &str) -> Result<String, CaseError> {
     Ok(String::from_str(alloc, text)?)
 }
 
 /// The text of a refusal.
-pub(crate) fn refused(alloc: Global, code: u8) -> Result<String, Trouble> {
+pub(crate) fn refused(alloc: Global, code: u8) -> Result<String, CaseError> {
     Ok(format!(in alloc; "refused {code}")?)
 }
 
@@ -52,7 +53,7 @@ pub(crate) fn order<T: Ord + Hash>(one: &T, other: &T) -> &'static str {
 }
 
 /// A copy by the trait.
-pub(crate) fn copy_of<T: Clone>(value: &T) -> Result<T, Trouble> {
+pub(crate) fn copy_of<T: Clone>(value: &T) -> Result<T, CaseError> {
     Ok(value.clone()?)
 }
 
@@ -63,15 +64,15 @@ fn hash_of<T: Hash>(value: &T) -> u64 {
 }
 
 /// Two numbers with a comma between them.
-pub(crate) fn number_pair(text: &str) -> Result<(i64, i64), Trouble> {
-    let (first, second) = text.split_once(',').ok_or(Trouble::NoCase)?;
-    let first = first.parse().map_err(|_| Trouble::NoCase)?;
-    let second = second.parse().map_err(|_| Trouble::NoCase)?;
+pub(crate) fn number_pair(text: &str) -> Result<(i64, i64), CaseError> {
+    let (first, second) = text.split_once(',').ok_or(CaseError::NoCase)?;
+    let first = first.parse().map_err(|_| CaseError::NoCase)?;
+    let second = second.parse().map_err(|_| CaseError::NoCase)?;
     Ok((first, second))
 }
 
 /// Pairs of numbers with white space between each two.
-pub(crate) fn number_pairs(alloc: Global, text: &str) -> Result<Vec<(i64, i64)>, Trouble> {
+pub(crate) fn number_pairs(alloc: Global, text: &str) -> Result<Vec<(i64, i64)>, CaseError> {
     let mut pairs = Vec::new(alloc);
     for pair in text.split_whitespace() {
         pairs.push(number_pair(pair)?)?;
@@ -84,7 +85,7 @@ pub(crate) fn text_pairs(
     alloc: Global,
     text: &str,
     mark: char,
-) -> Result<Vec<(String, String)>, Trouble> {
+) -> Result<Vec<(String, String)>, CaseError> {
     let mut pairs = Vec::new(alloc);
     for pair in text.split(mark) {
         if let Some((name, value)) = pair.split_once('=') {
@@ -98,7 +99,7 @@ pub(crate) fn text_pairs(
 pub(crate) const MARK: char = ',';
 
 /// The texts of a list; none of an empty one.
-pub(crate) fn texts(alloc: Global, text: &str) -> Result<Vec<String>, Trouble> {
+pub(crate) fn texts(alloc: Global, text: &str) -> Result<Vec<String>, CaseError> {
     let mut texts = Vec::new(alloc);
     if !text.is_empty() {
         for part in text.split(MARK) {
@@ -109,12 +110,9 @@ pub(crate) fn texts(alloc: Global, text: &str) -> Result<Vec<String>, Trouble> {
 }
 
 /// Appends pairs, each as `NAME=VALUE;`.
-pub(crate) fn push_pairs(text: &mut String, pairs: &[(String, String)]) -> Result<(), Trouble> {
+pub(crate) fn push_pairs(text: &mut String, pairs: &[(String, String)]) -> Result<(), CaseError> {
     for pair in pairs {
-        text.push_str(pair.0.as_str())?;
-        text.push_str("=")?;
-        text.push_str(pair.1.as_str())?;
-        text.push_str(";")?;
+        write!(text, "{}={};", pair.0.as_str(), pair.1.as_str())?;
     }
     Ok(())
 }

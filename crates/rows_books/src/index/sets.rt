@@ -4,6 +4,7 @@ ghost use Rattle.std.specs.Prelude.{◌≡◌, IfOk, length};
 use lost_index::Index;
 use lost_profile::{Token, TokenError, TokenSet, Tokens};
 use std::alloc::{AllocError, Global};
+use std::fmt::Write;
 use std::io;
 
 /// The tokens that are asked for where three numbers are held.
@@ -109,7 +110,7 @@ fn refused(fault: TokenError) -> io::Error {
 fn sixty_four(alloc: Global) -> io::Result<String> {
     let mut text = String::from_str(alloc, "t2")?;
     for number in 2..65 {
-        text.push_str(format!(in alloc; " n{number}")?.as_str())?;
+        write!(text, " n{number}")?;
     }
     Ok(text)
 }

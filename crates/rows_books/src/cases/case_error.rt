@@ -4,7 +4,7 @@ use thiserror::Error;
 
 /// Why a case was not judged.
 #[derive(Clone, Copy, PartialEq, Eq, Debug, Error)]
-pub(crate) enum Trouble {
+pub(crate) enum CaseError {
     /// Memory ran out.
     #[error("memory ran out")]
     Memory,
@@ -13,14 +13,14 @@ pub(crate) enum Trouble {
     NoCase,
 }
 
-impl From<AllocError> for Trouble {
-    fn from(_refused: AllocError) -> Trouble {
-        Trouble::Memory
+impl From<AllocError> for CaseError {
+    fn from(_refused: AllocError) -> CaseError {
+        CaseError::Memory
     }
 }
 
-impl<T: Drop> From<AllocFailed<T>> for Trouble {
-    fn from(_refused: AllocFailed<T>) -> Trouble {
-        Trouble::Memory
+impl<T: Drop> From<AllocFailed<T>> for CaseError {
+    fn from(_refused: AllocFailed<T>) -> CaseError {
+        CaseError::Memory
     }
 }
