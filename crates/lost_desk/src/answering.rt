@@ -2,11 +2,8 @@
 ghost use Rattle.std.specs.Prelude.{◌≡◌, Some, IfOk};
 ghost use Rattle.lost_json.specs.Line.{line_reply};
 ghost use Rattle.lost_spec.specs.Text.{Text};
-ghost use Rattle.lost_spec.specs.Moment.{Instant};
-ghost use Rattle.lost_spec.specs.Book.{Book};
 ghost use Rattle.lost_mapping.specs.Request.{request_of};
 ghost use Rattle.lost_location.specs.Place.{place_of};
-ghost use Rattle.lost_reading.specs.Gives.{Refuses};
 ghost use Rattle.lost_reading.specs.Requests.{line_request};
 ghost use Rattle.lost_spec.specs.Holders.{holders_of};
 ghost use Rattle.lost_writing.specs.Replies.{reply_text};
@@ -15,9 +12,9 @@ ghost use Rattle.lost_desk.specs.Sets.{AreRightIn, KeepsOnly};
 
 use crate::sets::PlaceSets;
 use crate::with_holders::WithHolders;
-use lost_json::{ReadError, reply_asked, reply_request, write_reply};
+use lost_json::{reply_asked, reply_request, reply_to_unread};
 use lost_mapping::{Moment, Source};
-use lost_query::{Asked, Holdings, Place, Reply, Request};
+use lost_query::{Asked, Holdings, Place, Request};
 use lost_routing::Routing;
 use lost_tape::{Scratch, read_request};
 use std::alloc::{AllocError, Global};
@@ -38,18 +35,6 @@ pub(crate) fn reply_over<H: Holdings>(
     match &read_request(alloc, line, scratch) {
         Ok(request) => reply_request(alloc, holdings, name, moment, request),
         Err(error) => reply_to_unread(alloc, *error),
-    }
-}
-
-/// The reply to a line that was not read as a request, for this reason. If memory was refused, it is refused too.
-#[tactic(auto, unfolding(lost_json::specs::Line::line_reply))]
-fn reply_to_unread(alloc: Global, error: ReadError) -> Result<Vec<u8>, AllocError>
-    ensures { IfOk result (λ reply. (b : Book) (name line : Text) (t : Instant) → Refuses error (line_request line)
-        → reply.items ≡ line_reply b name t line) }
-{
-    match error {
-        ReadError::BadRequest => write_reply(alloc, &Reply::BadRequest),
-        ReadError::Memory => Err(AllocError),
     }
 }
 

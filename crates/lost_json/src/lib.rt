@@ -5,7 +5,7 @@
 mod line;
 mod replies;
 
-pub use line::{reply_asked, reply_line, reply_request};
+pub use line::{reply_asked, reply_line, reply_request, reply_to_unread};
 pub use lost_reading::{DeskFault, DeskLine, ReadError, read_desk, read_request};
 pub use lost_writing::{
     BAD_REQUEST, DeskReply, DeskText, INTERNAL_ERROR, is_code, law_constant_lines, write_desk,

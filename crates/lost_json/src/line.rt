@@ -1,7 +1,11 @@
 //! The line that answers a line.
-ghost use Rattle.std.specs.Prelude.{◌≡◌, Some, IfOk};
+ghost use Rattle.std.specs.Prelude.{◌≡◌, Some, IfOk, IsOkAnd};
+ghost use Rattle.lost_spec.specs.Book.{Book};
+ghost use Rattle.lost_spec.specs.Moment.{Instant};
 ghost use Rattle.lost_spec.specs.Text.{Text};
+ghost use Rattle.lost_mapping.specs.Reply.{reply_of};
 ghost use Rattle.lost_mapping.specs.Request.{request_of};
+ghost use Rattle.lost_reading.specs.Gives.{Refuses};
 ghost use Rattle.lost_reading.specs.Requests.{line_request};
 ghost use Rattle.lost_writing.specs.Replies.{reply_text};
 ghost use Rattle.lost_query.specs.Asked.{reply_asked};
@@ -25,13 +29,21 @@ pub fn reply_line<H: Holdings>(
 ) -> Result<Vec<u8>, AllocError>
     ensures { IfOk result (λ reply. reply.items ≡ line_reply (H.book holdings.now) name.now moment.now line.now) }
 {
-    match read_request(alloc, line) {
-        Ok(request) => {
-            let reply = answer(alloc, holdings, name, moment, &request)?;
-            write_reply(alloc, &reply)
-        }
-        Err(ReadError::BadRequest) => write_reply(alloc, &Reply::BadRequest),
-        Err(ReadError::Memory) => Err(AllocError),
+    match &read_request(alloc, line) {
+        Ok(request) => reply_request(alloc, holdings, name, moment, request),
+        Err(error) => reply_to_unread(alloc, *error),
+    }
+}
+
+/// The reply to a line that was not read as a request, for this reason. If memory was refused, it is refused too.
+#[tactic(auto, unfolding(crate::specs::Line::line_reply))]
+pub fn reply_to_unread(alloc: Global, error: ReadError) -> Result<Vec<u8>, AllocError>
+    ensures { IfOk result (λ reply. (b : Book) (name line : Text) (t : Instant) → Refuses error (line_request line)
+        → reply.items ≡ line_reply b name t line) }
+{
+    match error {
+        ReadError::BadRequest => write_reply(alloc, &Reply::BadRequest),
+        ReadError::Memory => Err(AllocError),
     }
 }
 
@@ -47,10 +59,7 @@ pub fn reply_request<H: Holdings>(
     ensures { IfOk result (λ reply. (line : Text) → line_request line ≡ Some (request_of request.now)
         → reply.items ≡ line_reply (H.book holdings.now) name.now moment.now line) }
 {
-    match &answer(alloc, holdings, name, moment, request) {
-        Ok(reply) => write_reply(alloc, reply),
-        Err(error) => Err(*error),
-    }
+    write_answer(alloc, &answer(alloc, holdings, name, moment, request))
 }
 
 /// Answers what was asked over these holdings at an instant, and writes the reply's line.
@@ -62,7 +71,17 @@ pub fn reply_asked<H: Holdings>(
 ) -> Result<Vec<u8>, AllocError>
     ensures { IfOk result (λ reply. reply.items ≡ reply_text (reply_asked (H.book holdings.now) moment.now asked.now)) }
 {
-    match &answer_asked(alloc, holdings, moment, asked) {
+    write_answer(alloc, &answer_asked(alloc, holdings, moment, asked))
+}
+
+/// The line of a reply, if memory was not refused for it.
+fn write_answer(
+    alloc: Global,
+    answer: &Result<Reply<'_>, AllocError>,
+) -> Result<Vec<u8>, AllocError>
+    ensures { IfOk result (λ line. IsOkAnd answer.now (λ reply. line.items ≡ reply_text (reply_of reply))) }
+{
+    match answer {
         Ok(reply) => write_reply(alloc, reply),
         Err(error) => Err(*error),
     }

@@ -64,13 +64,9 @@ display_name_in value = option_and_then display_name_of_members (as_object value
 -- ---- mappings (RFC 5222, section 5)
 
 -- the parts of a mapping; nothing where a required member is missing or a member is of another kind
-abbrev pub parts_of_members : Members → Option Parts
-parts_of_members members =
-    option_and_then (λ source.
-    option_and_then (λ source_id.
-    option_and_then (λ last_updated.
-    option_and_then (λ expires.
-    option_and_then (λ service.
+-- the parts of a mapping whose five required texts are known
+abbrev pub parts_with_texts : Text → Text → Text → Text → Text → Members → Option Parts
+parts_with_texts source source_id last_updated expires service members =
     option_and_then (λ uris.
     option_and_then (λ number.
     option_and_then (λ regions.
@@ -94,7 +90,15 @@ parts_of_members members =
     (defaulting as_bool false (codes "default") members))
     (defaulting regions_kind [] (codes "serviceBoundary") members))
     (optional as_str (codes "serviceNumber") members))
-    (required (list_in as_str) (codes "uri") members))
+    (required (list_in as_str) (codes "uri") members)
+
+abbrev pub parts_of_members : Members → Option Parts
+parts_of_members members =
+    option_and_then (λ source.
+    option_and_then (λ source_id.
+    option_and_then (λ last_updated.
+    option_and_then (λ expires.
+    option_and_then (λ service. parts_with_texts source source_id last_updated expires service members)
     (required as_str (codes "service") members))
     (required as_str (codes "expires") members))
     (required as_str (codes "lastUpdated") members))

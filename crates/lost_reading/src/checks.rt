@@ -7,7 +7,7 @@ ghost use Rattle.serde_json.specs.View.{view, members_view};
 ghost use Rattle.lost_spec.specs.Book as book;
 ghost use Rattle.lost_spec.specs.Mapping as spec;
 ghost use Rattle.lost_reading.specs.Members.{required, optional, defaulting, list_in};
-ghost use Rattle.lost_reading.specs.Desk.{parts_of_members, mapping_order};
+ghost use Rattle.lost_reading.specs.Desk.{parts_with_texts, parts_of_members, mapping_order};
 ghost use Rattle.lost_reading.specs.TreeParts.{tree_parts};
 
 use crate::desk::DeskFault;
@@ -37,12 +37,32 @@ pub(crate) fn check_members(members: &Map<String, Value>) -> Result<(), DeskFaul
 fn tell_parts(members: &Map<String, Value>) -> Option<BorrowedParts<'_, Value, Value, Value>>
     ensures { option_map tree_parts result ≡ parts_of_members (members_view members.now.entries) }
 {
+    let source = text_member(members, "source")?;
+    let source_id = text_member(members, "sourceId")?;
+    let last_updated = text_member(members, "lastUpdated")?;
+    let expires = text_member(members, "expires")?;
+    let service = text_member(members, "service")?;
+    tell_parts_with(members, source, source_id, last_updated, expires, service)
+}
+
+/// The parts of a mapping with these required texts, as they lie in the tree.
+fn tell_parts_with<'v>(
+    members: &'v Map<String, Value>,
+    source: &'v str,
+    source_id: &'v str,
+    last_updated: &'v str,
+    expires: &'v str,
+    service: &'v str,
+) -> Option<BorrowedParts<'v, Value, Value, Value>>
+    ensures { option_map tree_parts result
+        ≡ parts_with_texts source.now source_id.now last_updated.now expires.now service.now (members_view members.now.entries) }
+{
     Some(BorrowedParts {
-        source: text_member(members, "source")?,
-        source_id: text_member(members, "sourceId")?,
-        last_updated: text_member(members, "lastUpdated")?,
-        expires: text_member(members, "expires")?,
-        service: text_member(members, "service")?,
+        source,
+        source_id,
+        last_updated,
+        expires,
+        service,
         uris: list_member::<String>(members, "uri")?,
         number: text_if_any(members, "serviceNumber")?,
         regions: list_if_any::<Region>(members, "serviceBoundary")?,

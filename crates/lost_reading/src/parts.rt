@@ -1,9 +1,9 @@
 //! The parts of a mapping that a map desk hands in (RFC 5222, section 5).
-ghost use Rattle.std.specs.Prelude.{◌≡◌};
+ghost use Rattle.std.specs.Prelude.{◌≡◌, string_bytes};
 ghost use Rattle.serde_json.specs.View.{view, members_view};
 ghost use Rattle.lost_mapping.specs.Parts.{display_name_of, parts_of};
 ghost use Rattle.lost_reading.specs.Gives.{Gives};
-ghost use Rattle.lost_reading.specs.Desk.{display_name_of_members, display_name_in, parts_of_members};
+ghost use Rattle.lost_reading.specs.Desk.{display_name_of_members, display_name_in, parts_with_texts, parts_of_members};
 
 use crate::reading::{Kind, defaulting, optional, required};
 use crate::request::ReadError;
@@ -15,12 +15,42 @@ use std::alloc::Global;
 pub(crate) fn read_parts(alloc: Global, members: &Map<String, Value>) -> Result<Parts, ReadError>
     ensures { Gives parts_of result (parts_of_members (members_view members.now.entries)) }
 {
+    let source = required::<String>(alloc, members, "source")?;
+    let source_id = required::<String>(alloc, members, "sourceId")?;
+    let last_updated = required::<String>(alloc, members, "lastUpdated")?;
+    let expires = required::<String>(alloc, members, "expires")?;
+    let service = required::<String>(alloc, members, "service")?;
+    read_parts_with(
+        alloc,
+        members,
+        source,
+        source_id,
+        last_updated,
+        expires,
+        service,
+    )
+}
+
+/// The parts of a mapping whose required texts were read.
+fn read_parts_with(
+    alloc: Global,
+    members: &Map<String, Value>,
+    source: String,
+    source_id: String,
+    last_updated: String,
+    expires: String,
+    service: String,
+) -> Result<Parts, ReadError>
+    ensures { Gives parts_of result
+        (parts_with_texts (string_bytes source) (string_bytes source_id) (string_bytes last_updated) (string_bytes expires)
+        (string_bytes service) (members_view members.now.entries)) }
+{
     Ok(Parts {
-        source: required::<String>(alloc, members, "source")?,
-        source_id: required::<String>(alloc, members, "sourceId")?,
-        last_updated: required::<String>(alloc, members, "lastUpdated")?,
-        expires: required::<String>(alloc, members, "expires")?,
-        service: required::<String>(alloc, members, "service")?,
+        source,
+        source_id,
+        last_updated,
+        expires,
+        service,
         uris: required::<Vec<String>>(alloc, members, "uri")?,
         number: optional::<String>(alloc, members, "serviceNumber")?,
         regions: defaulting(alloc, members, "serviceBoundary", Vec::<Region>::new(alloc))?,
