@@ -6,7 +6,7 @@ use crate::snapshot::Snapshot;
 use crate::status::VERSION;
 use crate::utc_text::utc_text;
 use lost_writing::refusal_name;
-use serde_json::{Map, Value, json, put};
+use serde_json::{Map, Value, put};
 use std::alloc::{AllocError, Global};
 
 /// The compact text of the object.
@@ -17,36 +17,75 @@ pub(crate) fn report_text(alloc: Global, now: &Snapshot) -> Result<String, Alloc
 
 /// The object.
 fn report_of(alloc: Global, now: &Snapshot) -> Result<Value, AllocError> {
-    let connections = connections_of(alloc, &now.connections)?;
+    let mut report = numbers(
+        alloc,
+        &[
+            ("cacheHits", now.cache_hits),
+            ("edition", now.desk.edition),
+            ("faults", now.connections.faults),
+            ("mappings", now.desk.mappings),
+            ("pending", now.desk.pending),
+            ("uptimeSeconds", now.uptime),
+        ],
+    )?;
+    add_states(alloc, &mut report, now)?;
+    add_counts(alloc, &mut report, now)?;
+    Ok(Value::Object(report))
+}
+
+/// An object of numbers by their names.
+fn numbers(alloc: Global, members: &[(&str, u64)]) -> Result<Map<String, Value>, AllocError> {
+    let mut object = Map::new(alloc);
+    for (name, number) in members {
+        put(&mut object, alloc, *name, Value::from(*number))?;
+    }
+    Ok(object)
+}
+
+/// Adds the version, and what the server and its desk are doing.
+fn add_states(
+    alloc: Global,
+    report: &mut Map<String, Value>,
+    now: &Snapshot,
+) -> Result<(), AllocError> {
+    let version = String::from_str(alloc, VERSION)?;
+    put(report, alloc, "version", Value::String(version))?;
+    put(report, alloc, "ready", Value::Bool(now.is_ready))?;
+    put(report, alloc, "desk", Value::Bool(now.desk.is_open))?;
     let last_commit = last_commit_of(alloc, now.desk.last_commit)?;
+    put(report, alloc, "lastCommit", last_commit)
+}
+
+/// Adds the counts that are objects of their own.
+fn add_counts(
+    alloc: Global,
+    report: &mut Map<String, Value>,
+    now: &Snapshot,
+) -> Result<(), AllocError> {
+    let connections = connections_of(alloc, &now.connections)?;
+    put(report, alloc, "connections", Value::Object(connections))?;
+    let workers = numbers(alloc, &[("busy", now.busy), ("count", now.workers)])?;
+    put(report, alloc, "workers", Value::Object(workers))?;
     let refusals = refusals_of(alloc, &now.desk)?;
+    put(report, alloc, "refusals", refusals)?;
     let replies = replies_of(alloc, &now.replies)?;
-    json!(in alloc; {
-        "cacheHits": now.cache_hits,
-        "connections": connections,
-        "desk": now.desk.is_open,
-        "edition": now.desk.edition,
-        "faults": now.connections.faults,
-        "lastCommit": last_commit,
-        "mappings": now.desk.mappings,
-        "pending": now.desk.pending,
-        "ready": now.is_ready,
-        "refusals": refusals,
-        "replies": replies,
-        "uptimeSeconds": now.uptime,
-        "version": VERSION,
-        "workers": {"busy": now.busy, "count": now.workers}
-    })
+    put(report, alloc, "replies", replies)
 }
 
 /// The counts of query connections.
-fn connections_of(alloc: Global, connections: &Connections) -> Result<Value, AllocError> {
-    json!(in alloc; {
-        "accepted": connections.accepted,
-        "open": connections.open,
-        "refused": connections.refused,
-        "waiting": connections.waiting
-    })
+fn connections_of(
+    alloc: Global,
+    connections: &Connections,
+) -> Result<Map<String, Value>, AllocError> {
+    numbers(
+        alloc,
+        &[
+            ("accepted", connections.accepted),
+            ("open", connections.open),
+            ("refused", connections.refused),
+            ("waiting", connections.waiting),
+        ],
+    )
 }
 
 /// When the desk last committed, in UTC; null if it never did.
