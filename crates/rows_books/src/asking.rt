@@ -1,7 +1,7 @@
 //! The questions that a book is asked after each edit.
 use lost_geo::GeoPoint;
 use lost_mapping::{Moment, Stamp};
-use lost_query::{Holdings, Place};
+use lost_query::{Holdings, Picked, Place};
 use lost_urn::ServiceUrn;
 use std::alloc::{AllocError, Global};
 use std::fmt::Write;
@@ -28,40 +28,59 @@ pub(crate) fn answers<H: Holdings>(alloc: Global, holdings: &H) -> Result<String
         moment: moment(alloc, "2026-01-01T00:00:00Z")?,
     };
     let mut text = format!(in alloc; "edition {}, held {}", holdings.edition(), holdings.len())?;
-    asked.add_keys(&mut text)?;
-    asked.add_positions(&mut text, &service(alloc, "urn:service:sos.police")?)?;
-    asked.add_below(&mut text, &service(alloc, "urn:service:sos")?)?;
+    asked.add_answers(alloc, &mut text)?;
     Ok(text)
 }
 
 impl<H: Holdings> Asked<'_, H> {
+    /// Adds what is asked for keys, for the point and for services.
+    fn add_answers(&self, alloc: Global, text: &mut String) -> Result<(), AllocError> {
+        self.add_keys(text)?;
+        self.add_positions(text, &service(alloc, "urn:service:sos.police")?)?;
+        self.add_below(text, &service(alloc, "urn:service:sos")?)
+    }
+
     /// Adds the positions for the keys.
     fn add_keys(&self, text: &mut String) -> Result<(), AllocError> {
         text.push_str(", keys")?;
         for key in KEYS {
-            match self.holdings.by_key(&self.moment, key) {
-                Some(position) => write!(text, " {position}")?,
-                None => text.push_str(" -")?,
-            }
+            push_position(text, self.holdings.by_key(&self.moment, key))?;
         }
         Ok(())
     }
 
     /// Adds whether a service is implemented, and the positions for the point and for the service.
     fn add_positions(&self, text: &mut String, service: &ServiceUrn) -> Result<(), AllocError> {
-        let (holdings, moment) = (self.holdings, &self.moment);
-        text.push_str(if holdings.implemented(moment, service) {
+        self.add_implemented(text, service)?;
+        self.add_those_at(text, service, &place(MIDDLE)?)?;
+        self.add_those_of(text, service)
+    }
+
+    fn add_implemented(&self, text: &mut String, service: &ServiceUrn) -> Result<(), AllocError> {
+        text.push_str(if self.holdings.implemented(&self.moment, service) {
             ", implemented"
         } else {
             ", not implemented"
-        })?;
-        let place = place(MIDDLE)?;
-        list(text, "holding", &holdings.holding(moment, &place)?)?;
-        list(text, "at", &holdings.at(moment, &place, service)?)?;
-        let defaults = holdings.defaults(moment, service)?;
-        list(text, "defaults", &defaults)?;
-        let all = holdings.of_service(moment, service)?;
-        list(text, "of service", &all)
+        })
+    }
+
+    /// Adds the positions of the mappings that hold a place, and of those that also have a service.
+    fn add_those_at(
+        &self,
+        text: &mut String,
+        service: &ServiceUrn,
+        place: &Place,
+    ) -> Result<(), AllocError> {
+        let (holdings, moment) = (self.holdings, &self.moment);
+        list(text, "holding", holdings.holding(moment, place))?;
+        list(text, "at", holdings.at(moment, place, service))
+    }
+
+    /// Adds the positions of a service's defaults, and of all its mappings.
+    fn add_those_of(&self, text: &mut String, service: &ServiceUrn) -> Result<(), AllocError> {
+        let (holdings, moment) = (self.holdings, &self.moment);
+        list(text, "defaults", holdings.defaults(moment, service))?;
+        list(text, "of service", holdings.of_service(moment, service))
     }
 
     /// Adds the services below one.
@@ -98,8 +117,23 @@ fn service(alloc: Global, text: &str) -> Result<ServiceUrn, AllocError> {
     }
 }
 
-/// Adds a name and its list of positions.
-fn list(text: &mut String, name: &str, positions: &[usize]) -> Result<(), AllocError> {
+/// Adds a position, or a dash where there is none.
+fn push_position(text: &mut String, position: Option<usize>) -> Result<(), AllocError> {
+    match position {
+        Some(position) => write!(text, " {position}"),
+        None => text.push_str(" -"),
+    }
+}
+
+/// Adds a name and the list of positions that a book gave.
+fn list(text: &mut String, name: &str, picked: Picked) -> Result<(), AllocError> {
+    match picked {
+        Ok(positions) => push_list(text, name, positions.as_slice()),
+        Err(refused) => Err(refused),
+    }
+}
+
+fn push_list(text: &mut String, name: &str, positions: &[usize]) -> Result<(), AllocError> {
     write!(text, ", {name}")?;
     for position in positions {
         write!(text, " {position}")?;

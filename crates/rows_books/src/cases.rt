@@ -6,6 +6,7 @@ mod case_error;
 mod civic_cases;
 mod descriptions;
 mod fields;
+mod gathered;
 mod geo_cases;
 mod line_cases;
 mod mapping_cases;
@@ -20,6 +21,7 @@ mod words;
 
 use book_cases::Shelf;
 use case::judge;
+use case_error::CaseError;
 use std::rt::Files;
 use std::{fs, io};
 
@@ -46,15 +48,28 @@ fn judge_lines<R: Print + AllocGlobal>(
         match judge(rt.alloc(), shelf, line) {
             Ok(None) => count = count.saturating_add(1),
             Ok(Some(said)) => {
-                println!(rt; "{name}, line {line_number}, gives {said}")?;
+                print_other(rt, name, line_number, said.as_str())?;
                 all = false;
             }
-            Err(error) => {
-                println!(rt; "{name}, line {line_number}: {error}")?;
-                return Ok(false);
-            }
+            Err(error) => return print_unjudged(rt, name, line_number, error),
         }
     }
     println!(rt; "{count} as wanted")?;
     Ok(all)
+}
+
+/// Prints what a case gives that should give something else.
+fn print_other<R: Print>(rt: &R, name: &str, line_number: usize, said: &str) -> io::Result<()> {
+    println!(rt; "{name}, line {line_number}, gives {said}")
+}
+
+/// Prints why a case was not judged. So not all are right.
+fn print_unjudged<R: Print>(
+    rt: &R,
+    name: &str,
+    line_number: usize,
+    error: CaseError,
+) -> io::Result<bool> {
+    println!(rt; "{name}, line {line_number}: {error}")?;
+    Ok(false)
 }

@@ -50,19 +50,39 @@ fn edit_both<R: Input + Print + AllocGlobal, A: Kind, B: Kind>(
             break;
         }
         let order = line.trim_end();
-        if let Some(numbers) = order.strip_prefix("limits ") {
-            if let Some(limits) = limits_of(numbers) {
-                println!(rt; "{order}")?;
-                return Ok(Some(limits));
+        match order.strip_prefix("limits ") {
+            Some(numbers) => {
+                if let Some(limits) = new_limits(rt, numbers)? {
+                    return Ok(Some(limits));
+                }
             }
-            println!(rt; "not allowed: {numbers}")?;
-        } else {
-            edit_one(rt, first, publishes, order.as_bytes())?;
-            edit_one(rt, second, publishes, order.as_bytes())?;
+            None => edit_each(rt, first, second, publishes, order.as_bytes())?,
         }
     }
     println!(rt; "{} and {} edits", first.edition(), second.edition())?;
     Ok(None)
+}
+
+/// The limits of a line, which it prints; or prints that they are not allowed.
+fn new_limits<R: Print>(rt: &R, numbers: &str) -> io::Result<Option<Limits>> {
+    let limits = limits_of(numbers);
+    match limits {
+        Some(_) => println!(rt; "limits {numbers}")?,
+        None => println!(rt; "not allowed: {numbers}")?,
+    }
+    Ok(limits)
+}
+
+/// Applies the edit of a desk line to each book.
+fn edit_each<R: Print + AllocGlobal, A: Kind, B: Kind>(
+    rt: &R,
+    first: &mut A,
+    second: &mut B,
+    publishes: &Publishes,
+    line: &[u8],
+) -> io::Result<()> {
+    edit_one(rt, first, publishes, line)?;
+    edit_one(rt, second, publishes, line)
 }
 
 /// Applies the edit of a desk line. Prints the outcome and the answers after it.
@@ -74,10 +94,29 @@ fn edit_one<R: Print + AllocGlobal, K: Kind>(
 ) -> io::Result<()> {
     let mut outcome = book.apply(edit_of(rt.alloc(), line)?);
     if outcome == Err(EditError::Memory) {
-        let answers = answered(rt, book, publishes)?;
-        println!(rt; "{} ran out of memory: {answers}", K::NAME)?;
+        print_refused(rt, book, publishes)?;
         outcome = book.apply(edit_of(rt.alloc(), line)?);
     }
+    print_outcome(rt, book, publishes, outcome)
+}
+
+/// Prints that memory was refused for an edit, and what the book then answers.
+fn print_refused<R: Print + AllocGlobal, K: Kind>(
+    rt: &R,
+    book: &K,
+    publishes: &Publishes,
+) -> io::Result<()> {
+    let answers = answered(rt, book, publishes)?;
+    println!(rt; "{} ran out of memory: {answers}", K::NAME)
+}
+
+/// Prints the outcome of an edit, and what the book then answers.
+fn print_outcome<R: Print + AllocGlobal, K: Kind>(
+    rt: &R,
+    book: &K,
+    publishes: &Publishes,
+    outcome: Result<(), EditError>,
+) -> io::Result<()> {
     let answers = answered(rt, book, publishes)?;
     match outcome {
         Ok(()) => println!(rt; "{} accepted: {answers}", K::NAME),

@@ -72,18 +72,26 @@ fn main(rt: HostRuntime) -> io::Result<ExitCode> {
 /// Runs a command. Says whether the cases give what they should.
 fn run<R: Files + Input + Print + AllocGlobal>(rt: &R, command: &str) -> io::Result<bool> {
     println!(rt; "== {command}")?;
-    match command {
-        "edits" => edits::edit_books::<R, Book, Routing>(rt)?,
-        "covers" => covers::print_all(rt)?,
-        "index" => row::print_all::<R, Geodetic2d>(rt)?,
-        "keys" => keys::print_answers(rt)?,
-        "chunks" => return chunks::print_edits(rt),
-        "sets" => print_sets(rt)?,
-        "calls" => print_calls(rt, true)?,
-        "prepared" => print_calls(rt, false)?,
-        table => return cases::print_table(rt, table),
+    if command.ends_with(".cases") {
+        return cases::print_table(rt, command);
     }
+    if command == "chunks" {
+        return chunks::print_edits(rt);
+    }
+    print_answers(rt, command)?;
     Ok(true)
+}
+
+/// Runs a command that judges nothing, and only prints answers.
+fn print_answers<R: Files + Input + Print + AllocGlobal>(rt: &R, command: &str) -> io::Result<()> {
+    match command {
+        "edits" => edits::edit_books::<R, Book, Routing>(rt),
+        "covers" => covers::print_all(rt),
+        "index" => row::print_all::<R, Geodetic2d>(rt),
+        "keys" => keys::print_answers(rt),
+        "sets" => print_sets(rt),
+        _ => print_calls(rt, command == "calls"),
+    }
 }
 
 /// The row of an index over token sets, and which numbers hold each of some tokens.

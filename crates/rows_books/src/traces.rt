@@ -41,17 +41,28 @@ impl Publishes {
     ) -> Result<(), AllocError> {
         text.push_str(", withdrawn")?;
         for edits in &self.of_identities {
-            let days = edits
-                .iter()
-                .take_while(|edit| book.check(*edit) == Err(EditError::Withdrawn))
-                .count();
-            match days {
-                0 => text.push_str(" -")?,
-                _ => write!(text, " {days}")?,
-            }
+            push_days(text, refused_days(book, edits.as_slice()))?;
         }
         Ok(())
     }
+}
+
+/// Adds a number of days, or a dash where it is 0.
+fn push_days(text: &mut String, days: usize) -> Result<(), AllocError> {
+    match days {
+        0 => text.push_str(" -"),
+        _ => write!(text, " {days}"),
+    }
+}
+
+/// How many of the first edits a book refuses as withdrawn.
+fn refused_days<K: Kind>(book: &K, edits: &[Edit]) -> usize {
+    for (day, edit) in edits.iter().enumerate() {
+        if book.check(edit) != Err(EditError::Withdrawn) {
+            return day;
+        }
+    }
+    edits.len()
 }
 
 /// Publishes of an identity, one with the stamp of each day.
@@ -65,15 +76,13 @@ fn by_days(alloc: Global, source: &str, source_id: &str) -> Result<Vec<Edit>, Al
 
 /// A default of this identity, stamped with a day.
 fn standby(alloc: Global, source: &str, source_id: &str, day: u64) -> Result<Mapping, AllocError> {
-    let mut uris = Vec::new(alloc);
-    uris.push(String::from_str(alloc, "sip:a")?)?;
     let parts = Parts {
         source: String::from_str(alloc, source)?,
         source_id: String::from_str(alloc, source_id)?,
         last_updated: format!(in alloc; "2025-12-0{day}T00:00:00Z")?,
         expires: String::from_str(alloc, "NO-CACHE")?,
         service: String::from_str(alloc, "urn:service:sos")?,
-        uris,
+        uris: uris(alloc)?,
         number: None,
         is_default: true,
         regions: Vec::new(alloc),
@@ -84,4 +93,11 @@ fn standby(alloc: Global, source: &str, source_id: &str, day: u64) -> Result<Map
         Ok(mapping) => Ok(mapping),
         Err(_) => Err(AllocError),
     }
+}
+
+/// One URI.
+fn uris(alloc: Global) -> Result<Vec<String>, AllocError> {
+    let mut uris = Vec::new(alloc);
+    uris.push(String::from_str(alloc, "sip:a")?)?;
+    Ok(uris)
 }

@@ -35,18 +35,14 @@ impl<K: Kind> Refusals<K> {
     /// The books of a table. A line `limits` begins a book with these limits. A line `accepted` has an edit that it
     /// accepts, and a line `refused` one that it refuses after them.
     pub(crate) fn read(alloc: Global, table: &str) -> io::Result<Refusals<K>> {
-        let mut books = Vec::new(alloc);
-        for part in table.split("limits ").skip(1) {
-            books.push(refusing_book(alloc, part)?)?;
-        }
-        let Ok(service) = ServiceUrn::parse(alloc, b"urn:service:sos.police") else {
-            return Err(unfit());
-        };
         let Some(moment) = Moment::new(DAY, 0) else {
             return Err(unfit());
         };
+        let Ok(service) = ServiceUrn::parse(alloc, b"urn:service:sos.police") else {
+            return Err(unfit());
+        };
         Ok(Refusals {
-            books,
+            books: refusing_books(alloc, table)?,
             service,
             moment,
         })
@@ -66,22 +62,44 @@ impl<K: Kind> Refusals<K> {
     }
 }
 
+/// The books of a table.
+fn refusing_books<K: Kind>(alloc: Global, table: &str) -> io::Result<Vec<Refusing<K>>> {
+    let mut books = Vec::new(alloc);
+    for part in table.split("limits ").skip(1) {
+        books.push(refusing_book(alloc, part)?)?;
+    }
+    Ok(books)
+}
+
 /// The book of a part of the table.
 fn refusing_book<K: Kind>(alloc: Global, part: &str) -> io::Result<Refusing<K>> {
     let (numbers, lines) = part.split_once('\n').unwrap_or((part, ""));
     let Some(limits) = limits_of(numbers) else {
         return Err(unfit());
     };
-    let mut book = K::empty(alloc, limits)?;
-    let mut refused = Vec::new(alloc);
+    let mut refusing = Refusing {
+        book: K::empty(alloc, limits)?,
+        refused: Vec::new(alloc),
+    };
+    add_edits(alloc, lines, &mut refusing.book, &mut refusing.refused)?;
+    Ok(refusing)
+}
+
+/// Applies the accepted edits of these lines to a book, and adds the refused ones to a list.
+fn add_edits<K: Kind>(
+    alloc: Global,
+    lines: &str,
+    book: &mut K,
+    refused: &mut Vec<Edit>,
+) -> io::Result<()> {
     for line in lines.lines() {
         match line.split_once(' ') {
-            Some(("accepted", edit)) => accept(alloc, &mut book, edit)?,
+            Some(("accepted", edit)) => accept(alloc, book, edit)?,
             Some(("refused", edit)) => refused.push(edit_of(alloc, edit.as_bytes())?)?,
             _ => return Err(unfit()),
         }
     }
-    Ok(Refusing { book, refused })
+    Ok(())
 }
 
 /// Applies an edit, which must be accepted.
@@ -102,11 +120,16 @@ fn print_book<R: Print, K: Kind>(
     let Refusing { mut book, refused } = refusing;
     print_held(rt, &book, service, moment)?;
     for edit in refused.into_iter() {
-        let checked = code_of(book.check(&edit));
-        let applied = code_of(book.apply(edit));
-        println!(rt; "checked {checked}, applied {applied}")?;
+        print_refusal(rt, &mut book, edit)?;
     }
     print_held(rt, &book, service, moment)
+}
+
+/// Prints how a book refuses an edit.
+fn print_refusal<R: Print, K: Kind>(rt: &R, book: &mut K, edit: Edit) -> io::Result<()> {
+    let checked = code_of(book.check(&edit));
+    let applied = code_of(book.apply(edit));
+    println!(rt; "checked {checked}, applied {applied}")
 }
 
 /// The code of a refusal; 0 where there is none.
@@ -124,18 +147,26 @@ fn print_held<R: Print, K: Kind>(
     service: &ServiceUrn,
     moment: &Moment,
 ) -> io::Result<()> {
-    print!(rt;
-        "{}: edition {}, held {}, implemented {}",
-        K::NAME,
-        book.edition(),
-        book.len(),
-        book.implemented(moment, service)
-    )?;
-    if book.len() > 0 {
-        print!(rt; ", first {}", book.mapping(0).identity().source_id())?;
-    }
+    print_counts(rt, book, book.implemented(moment, service))?;
+    print_first(rt, book)?;
     match book.by_key(moment, KEY) {
         Some(position) => println!(rt; ", {KEY} at {position}"),
         None => println!(rt; ", no {KEY}"),
     }
+}
+
+fn print_counts<R: Print, K: Kind>(rt: &R, book: &K, is_implemented: bool) -> io::Result<()> {
+    print!(rt;
+        "{}: edition {}, held {}, implemented {is_implemented}",
+        K::NAME,
+        book.edition(),
+        book.len()
+    )
+}
+
+fn print_first<R: Print, K: Kind>(rt: &R, book: &K) -> io::Result<()> {
+    if book.len() > 0 {
+        return print!(rt; ", first {}", book.mapping(0).identity().source_id());
+    }
+    Ok(())
 }

@@ -1,39 +1,22 @@
 //! Calls on services, points, rings, civic addresses, mappings, moments and limits.
-use crate::calls::unfit;
-use crate::edits::edit_of;
-use lost_book::{Edit, Limits};
+use crate::calls::making::{addresses, long_text, mapping, parts, rings, services};
+use lost_book::Limits;
 use lost_civic::{CivicAddress, CivicPattern, Element};
 use lost_geo::{GeoPoint, Polygon};
-use lost_mapping::{Expires, Mapping, Moment, Parts, Region};
+use lost_mapping::{Expires, Mapping, MappingError, Moment, Parts};
 use lost_spec::Coded;
 use lost_urn::ServiceUrn;
-use std::alloc::{AllocError, Global};
+use std::alloc::Global;
 use std::cmp::Ordering;
 use std::hash::{DefaultHasher, Hash, Hasher};
 use std::io;
 
-/// A mapping with every part that a mapping may have.
-const MAPPING: &[u8] =
-    br#"{"publish":{"displayName":[{"lang":"en","text":"Police"}],"expires":"2026-06-01T00:00:00Z","key":"A-1","lastUpdated":"2025-12-01T00:00:00.5Z","service":"urn:service:SOS.Police","serviceBoundary":[{"polygon":[[0,0],[0,10000000],[10000000,10000000],[10000000,0],[0,0]],"profile":"geodetic-2d"},{"pattern":{"A3":"Leonia","country":"US"},"profile":"civic"}],"serviceNumber":"112","source":"Map.Example","sourceId":"A","uri":["sip:A@map.example","tel:112"]}}"#;
-
-/// The positions of its ring.
-const RING: [(i64, i64); 5] = [
-    (0, 0),
-    (0, 10_000_000),
-    (10_000_000, 10_000_000),
-    (10_000_000, 0),
-    (0, 0),
-];
-
-/// The days of its stamp and of its end, from 1970-01-01, and the last nanosecond of a day.
+/// The days of the mapping's stamp and of its end, from 1970-01-01, and the last nanosecond of a day.
 const STAMPED: i32 = 20_423;
 
 const ENDED: i32 = 20_605;
 
 const LAST_NANOSECOND: u64 = 86_399_999_999_999;
-
-/// One byte more than a value of a pattern may have.
-const LONG: usize = 513;
 
 /// The values of the calls.
 #[derive(Drop)]
@@ -52,16 +35,13 @@ pub(crate) struct Values {
 impl Values {
     /// Makes all values.
     pub(crate) fn new(alloc: Global) -> io::Result<Values> {
-        let Edit::Publish(mapping) = edit_of(alloc, MAPPING)? else {
-            return Err(unfit());
-        };
         Ok(Values {
-            mapping,
             parts: parts(alloc)?,
             long: long_text(alloc)?,
             services: services(alloc)?,
             rings: rings(alloc)?,
             addresses: addresses(alloc)?,
+            mapping: mapping(alloc)?,
         })
     }
 
@@ -76,6 +56,16 @@ impl Values {
 
     /// Makes the calls that consume nothing, and prints the answers.
     fn print_calls<R: Print>(&self, rt: &R) -> io::Result<()> {
+        self.print_places(rt)?;
+        print_checks(rt, self.parts.as_slice())?;
+        print_mapping(rt, &self.mapping)?;
+        print_lists(rt, &self.mapping)?;
+        print_moments(rt, &self.mapping)?;
+        print_limits(rt)
+    }
+
+    /// Makes those on services, points, elements and addresses, and prints the answers.
+    fn print_places<R: Print>(&self, rt: &R) -> io::Result<()> {
         for service in &self.services {
             print_services(rt, self.mapping.service(), service)?;
         }
@@ -84,127 +74,8 @@ impl Values {
         for address in &self.addresses {
             print_matches(rt, &self.mapping, address)?;
         }
-        print_pairs(rt, self.long.as_str())?;
-        print_checks(rt, self.parts.as_slice())?;
-        print_mapping(rt, &self.mapping)?;
-        print_lists(rt, &self.mapping)?;
-        print_moments(rt, &self.mapping)?;
-        print_limits(rt)
+        print_pairs(rt, self.long.as_str())
     }
-}
-
-/// The service above that of the mapping, and the same one.
-fn services(alloc: Global) -> io::Result<Vec<ServiceUrn>> {
-    let mut services = Vec::new(alloc);
-    for text in ["urn:service:sos", "urn:service:sos.police"] {
-        match ServiceUrn::parse(alloc, text.as_bytes()) {
-            Ok(service) => services.push(service)?,
-            Err(_) => return Err(unfit()),
-        }
-    }
-    Ok(services)
-}
-
-/// The parts of a mapping, and of one whose number is invalid.
-fn parts(alloc: Global) -> Result<Vec<Parts>, AllocError> {
-    let mut parts = Vec::new(alloc);
-    for number in ["112", "11x"] {
-        parts.push(parts_with(alloc, number)?)?;
-    }
-    Ok(parts)
-}
-
-/// The parts of a mapping with a number.
-fn parts_with(alloc: Global, number: &str) -> Result<Parts, AllocError> {
-    Ok(Parts {
-        source: String::from_str(alloc, "map.example")?,
-        source_id: String::from_str(alloc, "A")?,
-        last_updated: String::from_str(alloc, "2025-12-01T00:00:00Z")?,
-        expires: String::from_str(alloc, "NO-EXPIRATION")?,
-        service: String::from_str(alloc, "urn:service:sos.police")?,
-        uris: uris(alloc)?,
-        number: Some(String::from_str(alloc, number)?),
-        regions: regions(alloc)?,
-        is_default: false,
-        display_names: Vec::new(alloc),
-        key: Some(String::from_str(alloc, "A-1")?),
-    })
-}
-
-/// A ring, and the pattern of a town.
-fn regions(alloc: Global) -> Result<Vec<Region>, AllocError> {
-    let mut regions = Vec::new(alloc);
-    regions.push(Region::Ring(Vec::from_slice(alloc, &RING)?))?;
-    let mut pairs = Vec::new(alloc);
-    pairs.push(pair(alloc, "A3", "Leonia")?)?;
-    regions.push(Region::Pattern(pairs))?;
-    Ok(regions)
-}
-
-/// One URI.
-fn uris(alloc: Global) -> Result<Vec<String>, AllocError> {
-    let mut uris = Vec::new(alloc);
-    uris.push(String::from_str(alloc, "sip:A@map.example")?)?;
-    Ok(uris)
-}
-
-/// A text that is too long for a pattern.
-fn long_text(alloc: Global) -> Result<String, AllocError> {
-    let mut text = String::new(alloc);
-    for _ in 0..LONG {
-        text.push('x')?;
-    }
-    Ok(text)
-}
-
-/// A ring, and too few points for one.
-fn rings(alloc: Global) -> io::Result<Vec<Vec<GeoPoint>>> {
-    let mut rings = Vec::new(alloc);
-    for count in [RING.len(), 3] {
-        rings.push(points(alloc, &RING[..count])?)?;
-    }
-    Ok(rings)
-}
-
-/// The points of positions.
-fn points(alloc: Global, positions: &[(i64, i64)]) -> io::Result<Vec<GeoPoint>> {
-    let mut points = Vec::new(alloc);
-    for (lat, lon) in positions {
-        match GeoPoint::new(*lat, *lon) {
-            Ok(point) => points.push(point)?,
-            Err(_) => return Err(unfit()),
-        }
-    }
-    Ok(points)
-}
-
-/// An address in the town of the mapping, and one in another town.
-fn addresses(alloc: Global) -> io::Result<Vec<CivicAddress>> {
-    let mut addresses = Vec::new(alloc);
-    for town in [" leonia", "Fort Lee"] {
-        addresses.push(address(alloc, town)?)?;
-    }
-    Ok(addresses)
-}
-
-/// An address in a town.
-fn address(alloc: Global, town: &str) -> io::Result<CivicAddress> {
-    let mut pairs = Vec::new(alloc);
-    for (name, value) in [("country", "US"), ("A3", town), ("FLR", "2")] {
-        pairs.push(pair(alloc, name, value)?)?;
-    }
-    match CivicAddress::from_pairs(alloc, pairs) {
-        Ok(address) => Ok(address),
-        Err(_) => Err(unfit()),
-    }
-}
-
-/// A name and a value.
-fn pair(alloc: Global, name: &str, value: &str) -> Result<(String, String), AllocError> {
-    Ok((
-        String::from_str(alloc, name)?,
-        String::from_str(alloc, value)?,
-    ))
 }
 
 /// Prints how a service and another one compare.
@@ -239,18 +110,22 @@ fn print_points<R: Print>(rt: &R) -> io::Result<()> {
         (900_000_001, 0),
         (0, 1_800_000_001),
     ] {
-        match GeoPoint::new(lat, lon) {
-            Ok(point) => println!(rt;
-                "point {} {}, normal {} {}",
-                point.lat(),
-                point.lon(),
-                point.normal().lat(),
-                point.normal().lon()
-            )?,
-            Err(error) => println!(rt; "point refused {}", error.code())?,
-        }
+        print_point(rt, lat, lon)?;
     }
     Ok(())
+}
+
+fn print_point<R: Print>(rt: &R, lat: i64, lon: i64) -> io::Result<()> {
+    match GeoPoint::new(lat, lon) {
+        Ok(point) => println!(rt;
+            "point {} {}, normal {} {}",
+            point.lat(),
+            point.lon(),
+            point.normal().lat(),
+            point.normal().lon()
+        ),
+        Err(error) => println!(rt; "point refused {}", error.code()),
+    }
 }
 
 /// Prints what ring these points make.
@@ -310,12 +185,16 @@ fn print_pairs<R: Print>(rt: &R, long: &str) -> io::Result<()> {
 /// Prints whether parts make a mapping.
 fn print_checks<R: Print>(rt: &R, parts: &[Parts]) -> io::Result<()> {
     for one in parts {
-        match Mapping::check::<Parts>(&one.borrowed()) {
-            Ok(()) => println!(rt; "parts allowed")?,
-            Err(error) => println!(rt; "parts refused {}", error.code())?,
-        }
+        print_check(rt, Mapping::check::<Parts>(&one.borrowed()))?;
     }
     Ok(())
+}
+
+fn print_check<R: Print>(rt: &R, checked: Result<(), MappingError>) -> io::Result<()> {
+    match checked {
+        Ok(()) => println!(rt; "parts allowed"),
+        Err(error) => println!(rt; "parts refused {}", error.code()),
+    }
 }
 
 /// Prints the texts of a mapping.
@@ -370,8 +249,15 @@ fn is_live(mapping: &Mapping, day: i32, nanosecond: u64) -> bool {
 /// Prints which limits are allowed.
 fn print_limits<R: Print>(rt: &R) -> io::Result<()> {
     for (mappings, edits, traces) in [(1, 1, 1), (0, 1, 1), (1, 0, 1), (1, 1, 0)] {
-        let limits = Limits::new(mappings, edits).and_then(|limits| limits.with_traces(traces));
-        println!(rt; "limits {mappings} {edits} {traces}: {}", limits.is_some())?;
+        let allowed = are_allowed(mappings, edits, traces);
+        println!(rt; "limits {mappings} {edits} {traces}: {allowed}")?;
     }
     Ok(())
+}
+
+fn are_allowed(mappings: u32, edits: u32, traces: u32) -> bool {
+    match Limits::new(mappings, edits) {
+        Some(limits) => limits.with_traces(traces).is_some(),
+        None => false,
+    }
 }

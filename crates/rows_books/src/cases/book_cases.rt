@@ -2,8 +2,9 @@
 use super::case_error::CaseError;
 use super::descriptions::mapping;
 use super::fields::Fields;
+use super::gathered::Gathered;
 use super::place_cases::place;
-use super::stamp_cases::{identity, stamp};
+use super::stamp_cases::{identity, identity_in, stamp};
 use super::urn_cases::service;
 use super::words::{owned, refused, yes_or_no};
 use lost_book::{Book, Edit, EditError, Limits, Register};
@@ -11,7 +12,6 @@ use lost_mapping::{Identity, Mapping, Moment};
 use lost_query::Holdings;
 use lost_spec::Coded;
 use std::alloc::Global;
-use std::fmt::Write;
 
 /// The book that the cases of a table change and ask, and its copy.
 #[derive(Drop)]
@@ -45,27 +45,24 @@ impl Shelf {
         fields: &Fields,
     ) -> Result<String, CaseError> {
         match call {
-            "book limits" => new_limits(alloc, limits(fields)?),
-            "book limits with traces" => new_limits(alloc, limits_with_traces(fields)?),
-            "book widest limits" => new_limits(alloc, Some(Limits::widest())),
-            "book new" => self.begin(alloc, limits(fields)?),
-            "book new with traces" => self.begin(alloc, limits_with_traces(fields)?),
+            "book limits" | "book limits with traces" | "book widest limits" => {
+                shown_limits(alloc, call, fields)
+            }
+            "book new" | "book new with traces" => self.begin(alloc, call, fields),
             "book copy" => self.keep_copy(alloc),
             "book turn to the copy" => self.turn(alloc),
-            "book publish many" => self.publish_many(alloc, fields.count(1)?, fields.text(2)?),
-            "book publish" | "book replace" | "book withdraw" => {
-                self.change(alloc, edit(alloc, call, fields)?)
-            }
+            "book publish many" => self.publish_many(alloc, fields),
+            "book publish" | "book replace" | "book withdraw" => self.change(alloc, call, fields),
             _ => asked(alloc, self.book()?, call, fields),
         }
     }
 
     /// Begins a book.
-    fn begin(&mut self, alloc: Global, limits: Option<Limits>) -> Result<String, CaseError> {
-        match limits {
-            Some(limits) => self.book = Some(Book::new(alloc, limits)?),
-            None => return Err(CaseError::NoCase),
-        }
+    fn begin(&mut self, alloc: Global, call: &str, fields: &Fields) -> Result<String, CaseError> {
+        let Some(limits) = limits(call, fields)? else {
+            return Err(CaseError::NoCase);
+        };
+        self.book = Some(Book::new(alloc, limits)?);
         owned(alloc, "new")
     }
 
@@ -82,32 +79,38 @@ impl Shelf {
     }
 
     /// Applies an edit to the book.
-    fn change(&mut self, alloc: Global, edit: Edit) -> Result<String, CaseError> {
+    fn change(&mut self, alloc: Global, call: &str, fields: &Fields) -> Result<String, CaseError> {
+        let edit = edit(alloc, call, fields)?;
         match &mut self.book {
-            Some(book) => apply(alloc, book, edit),
+            Some(book) => apply(alloc, book, &edit),
             None => Err(CaseError::NoCase),
         }
     }
 
     /// Publishes the mapping of a description under so many sourceIds.
-    fn publish_many(
-        &mut self,
-        alloc: Global,
-        count: u64,
-        description: &str,
-    ) -> Result<String, CaseError> {
-        let Some(book) = &mut self.book else {
-            return Err(CaseError::NoCase);
-        };
-        for number in 0..count {
-            match book.apply(Edit::Publish(numbered(alloc, number, description)?)) {
-                Ok(()) => {}
-                Err(EditError::Memory) => return Err(CaseError::Memory),
-                Err(refusal) => return refused(alloc, refusal.code()),
-            }
+    fn publish_many(&mut self, alloc: Global, fields: &Fields) -> Result<String, CaseError> {
+        let (count, description) = (fields.count(1)?, fields.text(2)?);
+        match &mut self.book {
+            Some(book) => publish_numbered(alloc, book, count, description),
+            None => Err(CaseError::NoCase),
         }
-        owned(alloc, "accepted")
     }
+}
+
+/// Publishes the mapping of a description under so many sourceIds.
+fn publish_numbered(
+    alloc: Global,
+    book: &mut Book,
+    count: u64,
+    description: &str,
+) -> Result<String, CaseError> {
+    for number in 0..count {
+        let published = book.apply(Edit::Publish(numbered(alloc, number, description)?));
+        if published.is_err() {
+            return outcome(alloc, published);
+        }
+    }
+    owned(alloc, "accepted")
 }
 
 /// The mapping of a description with a number in front.
@@ -116,25 +119,35 @@ fn numbered(alloc: Global, number: u64, description: &str) -> Result<Mapping, Ca
     mapping(alloc, described.as_str())
 }
 
-/// The limits in the first two fields.
-fn limits(fields: &Fields) -> Result<Option<Limits>, CaseError> {
+/// The limits of a call: the widest, or those in its first two or three fields.
+fn limits(call: &str, fields: &Fields) -> Result<Option<Limits>, CaseError> {
+    match call {
+        "book widest limits" => Ok(Some(Limits::widest())),
+        "book limits with traces" | "book new with traces" => limits_with_traces(fields),
+        _ => two_limits(fields),
+    }
+}
+
+fn two_limits(fields: &Fields) -> Result<Option<Limits>, CaseError> {
     Ok(Limits::new(limit(fields, 1)?, limit(fields, 2)?))
 }
 
-/// The limits in the first three fields.
 fn limits_with_traces(fields: &Fields) -> Result<Option<Limits>, CaseError> {
-    match limits(fields)? {
+    match two_limits(fields)? {
         Some(limits) => Ok(limits.with_traces(limit(fields, 3)?)),
         None => Ok(None),
     }
 }
 
 fn limit(fields: &Fields, position: usize) -> Result<u32, CaseError> {
-    u32::try_from(fields.count(position)?).map_err(|_| CaseError::NoCase)
+    match u32::try_from(fields.count(position)?) {
+        Ok(limit) => Ok(limit),
+        Err(_) => Err(CaseError::NoCase),
+    }
 }
 
-fn new_limits(alloc: Global, limits: Option<Limits>) -> Result<String, CaseError> {
-    match limits {
+fn shown_limits(alloc: Global, call: &str, fields: &Fields) -> Result<String, CaseError> {
+    match limits(call, fields)? {
         Some(limits) => {
             let (mappings, edits) = (limits.mappings(), limits.edits());
             let traces = limits.traces();
@@ -150,40 +163,60 @@ fn edit(alloc: Global, call: &str, fields: &Fields) -> Result<Edit, CaseError> {
     match call {
         "book publish" => Ok(Edit::Publish(mapping(alloc, text)?)),
         "book replace" => Ok(Edit::Replace(mapping(alloc, text)?)),
-        _ => {
-            let stamp = stamp(alloc, fields.bytes(2)?)?;
-            Ok(Edit::Withdraw(identity(alloc, "map.example", text)?, stamp))
-        }
+        _ => withdrawal(alloc, text, fields),
     }
 }
 
-/// Applies a copy of an edit, and the edit itself if memory ran out. A refusal must leave the book as it was, and
-/// `check` must agree.
-fn apply(alloc: Global, book: &mut Book, edit: Edit) -> Result<String, CaseError> {
-    let before = kept(alloc, book, &edit)?;
-    let copy = edit.clone()?;
-    let checked = book.check(&edit);
-    let mut applied = book.apply(copy);
-    if applied.is_err() && kept(alloc, book, &edit)? != before {
+fn withdrawal(alloc: Global, source_id: &str, fields: &Fields) -> Result<Edit, CaseError> {
+    let stamp = stamp(alloc, fields.bytes(2)?)?;
+    Ok(Edit::Withdraw(identity(alloc, "map.example", source_id)?, stamp))
+}
+
+/// Applies an edit, and once more if memory ran out. A refusal must leave the book as it was, and `check` must agree.
+fn apply(alloc: Global, book: &mut Book, edit: &Edit) -> Result<String, CaseError> {
+    let before = kept(alloc, book, edit)?;
+    let checked = book.check(edit);
+    let mut applied = book.apply(edit.clone()?);
+    if applied.is_err() && kept(alloc, book, edit)? != before {
         return owned(alloc, "refused, and the book changed");
     }
     if applied == Err(EditError::Memory) {
-        applied = book.apply(edit);
+        applied = book.apply(edit.clone()?);
     }
+    judged(alloc, applied, checked)
+}
+
+/// The outcome of an edit, if `check` said the same.
+fn judged(
+    alloc: Global,
+    applied: Result<(), EditError>,
+    checked: Result<(), EditError>,
+) -> Result<String, CaseError> {
+    if applied == checked || applied == Err(EditError::Memory) {
+        outcome(alloc, applied)
+    } else {
+        owned(alloc, "at odds with the check")
+    }
+}
+
+/// The outcome of an edit.
+fn outcome(alloc: Global, applied: Result<(), EditError>) -> Result<String, CaseError> {
     match applied {
-        Err(EditError::Memory) => Err(CaseError::Memory),
-        _ if applied != checked => owned(alloc, "at odds with the check"),
-        Err(refusal) => refused(alloc, refusal.code()),
         Ok(()) => owned(alloc, "accepted"),
+        Err(EditError::Memory) => Err(CaseError::Memory),
+        Err(refusal) => refused(alloc, refusal.code()),
     }
 }
 
 /// The mappings held, how many withdrawn identities are remembered, and the withdrawal stamp of an edit's identity.
 fn kept(alloc: Global, book: &Book, edit: &Edit) -> Result<String, CaseError> {
-    let held = held(alloc, book)?;
-    let count = Register::trace_count(book);
-    let withdrawn = withdrawn(alloc, book, edited(edit))?;
-    Ok(format!(in alloc; "{held} {count} {withdrawn}")?)
+    let mut text = Gathered::new(alloc);
+    add_held(&mut text, book);
+    text.add(" ");
+    text.add_number(Register::trace_count(book) as u64);
+    text.add(" ");
+    add_withdrawn(&mut text, book, edited(edit));
+    text.done()
 }
 
 /// The identity of an edit.
@@ -194,49 +227,69 @@ fn edited(edit: &Edit) -> &Identity {
     }
 }
 
-/// The remembered stamp of an identity's withdrawal.
-fn withdrawn(alloc: Global, book: &Book, identity: &Identity) -> Result<String, CaseError> {
+/// Adds the remembered stamp of an identity's withdrawal.
+fn add_withdrawn(text: &mut Gathered, book: &Book, identity: &Identity) {
     match Register::withdrawn(book, identity) {
-        Some(stamp) => owned(alloc, stamp.text()),
-        None => owned(alloc, "none"),
+        Some(stamp) => text.add(stamp.text()),
+        None => text.add("none"),
     }
 }
 
-/// The edition, the length, and each mapping's sourceId, key and stamp.
-fn held(alloc: Global, book: &Book) -> Result<String, CaseError> {
-    let mut text = format!(in alloc; "edition {}, {} held:", book.edition(), book.len())?;
+/// Adds the edition, the length, and each mapping's sourceId, key and stamp.
+fn add_held(text: &mut Gathered, book: &Book) {
+    text.add("edition ");
+    text.add_number(book.edition());
+    text.add(", ");
+    text.add_number(book.len() as u64);
+    text.add(" held:");
     for position in 0..book.len() {
-        push_held(&mut text, book.mapping(position))?;
+        add_mapping(text, book.mapping(position));
     }
-    Ok(text)
 }
 
-/// Appends the sourceId, the key and the stamp of a mapping.
-fn push_held(text: &mut String, mapping: &Mapping) -> Result<(), CaseError> {
-    let (source_id, stamp) = (mapping.identity().source_id(), mapping.stamp().text());
+/// Adds the sourceId, the key and the stamp of a mapping.
+fn add_mapping(text: &mut Gathered, mapping: &Mapping) {
     let key = mapping.key().unwrap_or("-");
-    write!(text, " {source_id} {key} {stamp}")?;
-    Ok(())
+    text.add_all(&[" ", mapping.identity().source_id(), " ", key]);
+    text.add_all(&[" ", mapping.stamp().text()]);
 }
 
 /// The answer of the book.
 fn asked(alloc: Global, book: &Book, call: &str, fields: &Fields) -> Result<String, CaseError> {
     match call {
-        "book held" => return held(alloc, book),
-        "book traces" => return Ok(format!(in alloc; "{}", Register::trace_count(book))?),
-        "book withdrawn" => {
-            let identity = identity(alloc, fields.text(1)?, fields.text(2)?)?;
-            return withdrawn(alloc, book, &identity);
-        }
-        _ => {}
+        "book held" => held(alloc, book),
+        "book traces" => trace_count(alloc, book),
+        "book withdrawn" => withdrawn(alloc, book, fields),
+        _ => asked_at(alloc, book, call, fields),
     }
+}
+
+fn held(alloc: Global, book: &Book) -> Result<String, CaseError> {
+    let mut text = Gathered::new(alloc);
+    add_held(&mut text, book);
+    text.done()
+}
+
+fn trace_count(alloc: Global, book: &Book) -> Result<String, CaseError> {
+    Ok(format!(in alloc; "{}", Register::trace_count(book))?)
+}
+
+fn withdrawn(alloc: Global, book: &Book, fields: &Fields) -> Result<String, CaseError> {
+    let identity = identity_in(alloc, fields, 1)?;
+    let mut text = Gathered::new(alloc);
+    add_withdrawn(&mut text, book, &identity);
+    text.done()
+}
+
+/// The answer of the book at a moment.
+fn asked_at(alloc: Global, book: &Book, call: &str, fields: &Fields) -> Result<String, CaseError> {
     let moment = stamp(alloc, fields.bytes(1)?)?.moment();
     let text = fields.text(2)?;
     match call {
         "book key" => shown_position(alloc, Holdings::by_key(book, &moment, text)),
         "book implemented" => implemented(alloc, book, &moment, text),
         "book holding" => holding(alloc, book, &moment, text),
-        "book at" => at(alloc, book, &moment, text, fields.bytes(3)?),
+        "book at" => at(alloc, book, &moment, fields),
         "book defaults" => defaults(alloc, book, &moment, text),
         "book of" => of_service(alloc, book, &moment, text),
         _ => Err(CaseError::NoCase),
@@ -261,15 +314,10 @@ fn holding(alloc: Global, book: &Book, moment: &Moment, text: &str) -> Result<St
     ids(alloc, book, positions.as_slice())
 }
 
-fn at(
-    alloc: Global,
-    book: &Book,
-    moment: &Moment,
-    text: &str,
-    urn: &[u8],
-) -> Result<String, CaseError> {
-    let place = place(alloc, text)?;
-    let positions = Holdings::at(book, moment, &place, &service(alloc, urn)?)?;
+fn at(alloc: Global, book: &Book, moment: &Moment, fields: &Fields) -> Result<String, CaseError> {
+    let place = place(alloc, fields.text(2)?)?;
+    let service = service(alloc, fields.bytes(3)?)?;
+    let positions = Holdings::at(book, moment, &place, &service)?;
     ids(alloc, book, positions.as_slice())
 }
 
@@ -300,11 +348,11 @@ fn ids(alloc: Global, book: &Book, positions: &[usize]) -> Result<String, CaseEr
     if positions.is_empty() {
         return owned(alloc, "-");
     }
-    let mut text = String::new(alloc);
+    let mut text = Gathered::new(alloc);
     for position in positions {
         if *position < book.len() {
-            text.push_str(book.mapping(*position).identity().source_id())?;
+            text.add(book.mapping(*position).identity().source_id());
         }
     }
-    Ok(text)
+    text.done()
 }

@@ -31,10 +31,16 @@ fn said(alloc: Global, shelf: &mut Shelf, fields: &Fields) -> Result<String, Cas
         "mapping" => mapping_cases::said(alloc, call, fields),
         "numbered" => numbered_cases::said(alloc, call, fields),
         "book" => shelf.said(alloc, call, fields),
-        "reply" => line_cases::reply(alloc, shelf.book()?, fields.bytes(1)?),
+        "reply" => reply(alloc, shelf, fields),
         "line" => line_cases::said(alloc, call, fields),
         "token" => token_cases::said(alloc, call, fields),
         "tokens" => tokens_cases::said(alloc, call, fields),
         _ => stamp_cases::said(alloc, call, fields),
     }
+}
+
+/// The reply of the book to a line.
+fn reply(alloc: Global, shelf: &Shelf, fields: &Fields) -> Result<String, CaseError> {
+    let book = shelf.book()?;
+    line_cases::reply(alloc, book, fields.bytes(1)?)
 }

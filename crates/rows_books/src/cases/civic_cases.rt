@@ -1,7 +1,8 @@
 //! Calls of lost_civic.
 use super::case_error::CaseError;
 use super::fields::Fields;
-use super::words::{checked, compared, owned, push_pairs, refused, text_pairs, yes_or_no};
+use super::gathered::Gathered;
+use super::words::{checked, compared, owned, refused, text_pairs, yes_or_no};
 use lost_civic::{CivicAddress, CivicError, CivicPattern, Element};
 use lost_spec::Coded;
 use std::alloc::Global;
@@ -12,17 +13,14 @@ pub(crate) fn said(alloc: Global, call: &str, fields: &Fields) -> Result<String,
     match call {
         "civic elements" => elements(alloc),
         "civic element" => by_name(alloc, text),
-        "civic order" => {
-            let other = element(fields.text(2)?)?;
-            owned(alloc, order(element(text)?, other))
-        }
+        "civic order" => two_elements(alloc, text, fields),
         "civic address" => new_address(alloc, text),
         "civic pattern" => new_pattern(alloc, text),
         "civic address check" => check_address(alloc, text),
         "civic pattern check" => check_pattern(alloc, text),
-        "civic same addresses" => same_addresses(alloc, text, fields.text(2)?),
-        "civic same patterns" => same_patterns(alloc, text, fields.text(2)?),
-        "civic matches" => matches(alloc, text, fields.text(2)?),
+        "civic same addresses" => same_addresses(alloc, text, fields),
+        "civic same patterns" => same_patterns(alloc, text, fields),
+        "civic matches" => matches(alloc, text, fields),
         _ => Err(CaseError::NoCase),
     }
 }
@@ -39,22 +37,20 @@ fn check_pattern(alloc: Global, text: &str) -> Result<String, CaseError> {
     checked(alloc, fault.map(CivicError::code))
 }
 
-fn same_addresses(alloc: Global, text: &str, other: &str) -> Result<String, CaseError> {
+fn same_addresses(alloc: Global, text: &str, fields: &Fields) -> Result<String, CaseError> {
     let one = address(alloc, text)?;
-    owned(alloc, compared(&one, &address(alloc, other)?))
+    owned(alloc, compared(&one, &address(alloc, fields.text(2)?)?))
 }
 
-fn same_patterns(alloc: Global, text: &str, other: &str) -> Result<String, CaseError> {
+fn same_patterns(alloc: Global, text: &str, fields: &Fields) -> Result<String, CaseError> {
     let one = pattern(alloc, text)?;
-    owned(alloc, yes_or_no(one == pattern(alloc, other)?))
+    owned(alloc, yes_or_no(one == pattern(alloc, fields.text(2)?)?))
 }
 
-fn matches(alloc: Global, text: &str, address_text: &str) -> Result<String, CaseError> {
+fn matches(alloc: Global, text: &str, fields: &Fields) -> Result<String, CaseError> {
     let pattern = pattern(alloc, text)?;
-    owned(
-        alloc,
-        yes_or_no(pattern.matches(&address(alloc, address_text)?)),
-    )
+    let address = address(alloc, fields.text(2)?)?;
+    owned(alloc, yes_or_no(pattern.matches(&address)))
 }
 
 /// The address that pairs make.
@@ -77,28 +73,39 @@ fn pattern(alloc: Global, text: &str) -> Result<CivicPattern, CaseError> {
 
 /// The names of all elements that stand at their index, each behind a space.
 fn elements(alloc: Global) -> Result<String, CaseError> {
-    let mut text = String::new(alloc);
+    let mut text = Gathered::new(alloc);
     for (position, element) in Element::ALL.iter().enumerate() {
         if element.index() == position {
-            text.push_str(" ")?;
-            text.push_str(element.name())?;
+            text.add_all(&[" ", element.name()]);
         }
     }
-    Ok(text)
+    text.done()
 }
 
 fn by_name(alloc: Global, name: &str) -> Result<String, CaseError> {
     match Element::by_name(name) {
-        Some(element) => {
-            let (index, name) = (element.index(), element.name());
-            Ok(format!(in alloc; "{index} {name}")?)
-        }
+        Some(element) => shown_element(alloc, element),
         None => owned(alloc, "none"),
     }
 }
 
+fn shown_element(alloc: Global, element: Element) -> Result<String, CaseError> {
+    let mut text = Gathered::new(alloc);
+    text.add_number(element.index() as u64);
+    text.add_all(&[" ", element.name()]);
+    text.done()
+}
+
 fn element(name: &str) -> Result<Element, CaseError> {
-    Element::by_name(name).ok_or(CaseError::NoCase)
+    match Element::by_name(name) {
+        Some(element) => Ok(element),
+        None => Err(CaseError::NoCase),
+    }
+}
+
+fn two_elements(alloc: Global, name: &str, fields: &Fields) -> Result<String, CaseError> {
+    let other = element(fields.text(2)?)?;
+    owned(alloc, order(element(name)?, other))
 }
 
 /// How one element compares with another.
@@ -122,14 +129,14 @@ fn new_address(alloc: Global, text: &str) -> Result<String, CaseError> {
 
 fn shown_address(alloc: Global, address: &CivicAddress) -> Result<String, CaseError> {
     let copy = address.clone()?;
-    let mut said = owned(alloc, compared(&copy, address))?;
-    said.push_str(" ")?;
-    push_pairs(&mut said, copy.pairs())?;
-    said.push_str(" as ")?;
+    let mut said = Gathered::new(alloc);
+    said.add_all(&[compared(&copy, address), " "]);
+    said.add_pairs(copy.pairs());
+    said.add(" as ");
     for element in Element::ALL {
-        push_text(&mut said, element, copy.text(element))?;
+        add_text(&mut said, element, copy.text(element));
     }
-    Ok(said)
+    said.done()
 }
 
 /// The pairs of a copy of a pattern, and its comparison texts.
@@ -143,22 +150,19 @@ fn new_pattern(alloc: Global, text: &str) -> Result<String, CaseError> {
 
 fn shown_pattern(alloc: Global, pattern: &CivicPattern) -> Result<String, CaseError> {
     let copy = pattern.clone()?;
-    let mut said = owned(alloc, if copy == *pattern { "same " } else { "other " })?;
-    push_pairs(&mut said, copy.pairs())?;
-    said.push_str(" as ")?;
+    let mut said = Gathered::new(alloc);
+    said.add(if copy == *pattern { "same " } else { "other " });
+    said.add_pairs(copy.pairs());
+    said.add(" as ");
     for element in Element::ALL {
-        push_text(&mut said, element, copy.text(element))?;
+        add_text(&mut said, element, copy.text(element));
     }
-    Ok(said)
+    said.done()
 }
 
-/// Appends an element's comparison text, where it has one.
-fn push_text(said: &mut String, element: Element, text: Option<&str>) -> Result<(), CaseError> {
+/// Adds an element's comparison text, where it has one.
+fn add_text(said: &mut Gathered, element: Element, text: Option<&str>) {
     if let Some(text) = text {
-        said.push_str(element.name())?;
-        said.push_str("=")?;
-        said.push_str(text)?;
-        said.push_str(";")?;
+        said.add_all(&[element.name(), "=", text, ";"]);
     }
-    Ok(())
 }

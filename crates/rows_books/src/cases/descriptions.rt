@@ -1,9 +1,14 @@
 //! Mappings as cases describe them: a sourceId, and then changes, each after a `;`. Without changes, a mapping is the
 //! police of `map.example`, of 2025-12-01, without end and without a region. Its URI and key come from the sourceId.
 use super::case_error::CaseError;
+use super::gathered::joined;
 use super::words::{number_pair, number_pairs, owned, text_pairs, texts};
 use lost_mapping::{DisplayName, Mapping, MappingError, Parts, Region};
 use std::alloc::Global;
+
+/// The changes that make the mapping without changes.
+const POLICE: &str =
+    "source=map.example;stamp=2025-12-01T00:00:00Z;expires=NO-EXPIRATION;service=urn:service:sos.police";
 
 /// The mapping that a description makes.
 pub(crate) fn mapping(alloc: Global, description: &str) -> Result<Mapping, CaseError> {
@@ -16,77 +21,115 @@ pub(crate) fn mapping(alloc: Global, description: &str) -> Result<Mapping, CaseE
 
 /// The parts of a description.
 pub(crate) fn parts(alloc: Global, description: &str) -> Result<Parts, CaseError> {
-    let mut changes = description.split(';');
-    let Some(source_id) = changes.next() else {
-        return Err(CaseError::NoCase);
-    };
-    let mut parts = police(alloc, source_id)?;
-    for change in changes {
-        if !change.is_empty() {
-            make_change(alloc, &mut parts, change)?;
-        }
-    }
+    let mut parts = no_parts(alloc);
+    describe(alloc, &mut parts, description)?;
     Ok(parts)
 }
 
-fn police(alloc: Global, source_id: &str) -> Result<Parts, CaseError> {
-    let mut uris = Vec::new(alloc);
-    uris.push(format!(in alloc; "sip:{source_id}@map.example")?)?;
-    Ok(Parts {
-        source: owned(alloc, "map.example")?,
-        source_id: owned(alloc, source_id)?,
-        last_updated: owned(alloc, "2025-12-01T00:00:00Z")?,
-        expires: owned(alloc, "NO-EXPIRATION")?,
-        service: owned(alloc, "urn:service:sos.police")?,
-        uris,
+/// Parts without texts and without lists.
+fn no_parts(alloc: Global) -> Parts {
+    Parts {
+        source: String::new(alloc),
+        source_id: String::new(alloc),
+        last_updated: String::new(alloc),
+        expires: String::new(alloc),
+        service: String::new(alloc),
+        uris: Vec::new(alloc),
         number: None,
         regions: Vec::new(alloc),
         is_default: false,
         display_names: Vec::new(alloc),
-        key: Some(format!(in alloc; "{source_id}-1")?),
-    })
+        key: None,
+    }
+}
+
+/// Makes empty parts those of a description.
+fn describe(alloc: Global, parts: &mut Parts, description: &str) -> Result<(), CaseError> {
+    let (source_id, changes) = description.split_once(';').unwrap_or((description, ""));
+    set_names(alloc, parts, source_id)?;
+    make_changes(alloc, parts, POLICE)?;
+    make_changes(alloc, parts, changes)
+}
+
+/// Sets the sourceId, the URI and the key.
+fn set_names(alloc: Global, parts: &mut Parts, source_id: &str) -> Result<(), CaseError> {
+    let uri = joined(alloc, &["sip:", source_id, "@map.example"])?;
+    parts.uris.push(uri)?;
+    parts.key = Some(joined(alloc, &[source_id, "-1"])?);
+    set(alloc, &mut parts.source_id, source_id)
+}
+
+fn make_changes(alloc: Global, parts: &mut Parts, changes: &str) -> Result<(), CaseError> {
+    for change in changes.split(';') {
+        if !change.is_empty() {
+            make_change(alloc, parts, change)?;
+        }
+    }
+    Ok(())
 }
 
 /// Makes a change `NAME=VALUE` or `NAME`.
 fn make_change(alloc: Global, parts: &mut Parts, change: &str) -> Result<(), CaseError> {
     let (name, value) = change.split_once('=').unwrap_or((change, ""));
     match name {
-        "source" => parts.source = owned(alloc, value)?,
-        "stamp" => parts.last_updated = owned(alloc, value)?,
-        "expires" => parts.expires = owned(alloc, value)?,
-        "service" => parts.service = owned(alloc, value)?,
-        "number" => parts.number = Some(owned(alloc, value)?),
-        "key" => parts.key = Some(owned(alloc, value)?),
-        "no key" => parts.key = None,
-        "default" => parts.is_default = true,
-        _ => return add_to_list(alloc, parts, name, value),
+        "source" => set(alloc, &mut parts.source, value),
+        "stamp" => set(alloc, &mut parts.last_updated, value),
+        "expires" => set(alloc, &mut parts.expires, value),
+        "service" => set(alloc, &mut parts.service, value),
+        "number" => set_some(alloc, &mut parts.number, value),
+        "key" => set_some(alloc, &mut parts.key, value),
+        "no key" => {
+            parts.key = None;
+            Ok(())
+        }
+        "default" => {
+            parts.is_default = true;
+            Ok(())
+        }
+        _ => change_list(alloc, parts, name, value),
     }
+}
+
+fn set(alloc: Global, text: &mut String, value: &str) -> Result<(), CaseError> {
+    *text = owned(alloc, value)?;
+    Ok(())
+}
+
+fn set_some(alloc: Global, text: &mut Option<String>, value: &str) -> Result<(), CaseError> {
+    *text = Some(owned(alloc, value)?);
     Ok(())
 }
 
 /// Makes a change of a list.
-fn add_to_list(alloc: Global, parts: &mut Parts, name: &str, value: &str) -> Result<(), CaseError> {
+fn change_list(alloc: Global, parts: &mut Parts, name: &str, value: &str) -> Result<(), CaseError> {
     match name {
-        "no uri" => parts.uris = Vec::new(alloc),
-        "uri" => parts.uris.push(owned(alloc, value)?)?,
-        "name" => parts.display_names.push(display_name(alloc, value)?)?,
-        "ring" => parts
-            .regions
-            .push(Region::Ring(number_pairs(alloc, value)?))?,
-        "square" => parts.regions.push(square(alloc, value)?)?,
-        "pattern" => parts
-            .regions
-            .push(Region::Pattern(text_pairs(alloc, value, ',')?))?,
-        "tokens" => parts.regions.push(Region::Tokens(texts(alloc, value)?))?,
-        "unreadable" => parts.regions.push(Region::Unreadable)?,
-        _ => return Err(CaseError::NoCase),
+        "no uri" => {
+            parts.uris = Vec::new(alloc);
+            Ok(())
+        }
+        "uri" => Ok(parts.uris.push(owned(alloc, value)?)?),
+        "name" => Ok(parts.display_names.push(display_name(alloc, value)?)?),
+        _ => Ok(parts.regions.push(region(alloc, name, value)?)?),
     }
-    Ok(())
+}
+
+/// The region of a change.
+fn region(alloc: Global, name: &str, value: &str) -> Result<Region, CaseError> {
+    match name {
+        "ring" => Ok(Region::Ring(number_pairs(alloc, value)?)),
+        "square" => square(alloc, value),
+        "pattern" => Ok(Region::Pattern(text_pairs(alloc, value, ',')?)),
+        "tokens" => Ok(Region::Tokens(texts(alloc, value)?)),
+        "unreadable" => Ok(Region::Unreadable),
+        _ => Err(CaseError::NoCase),
+    }
 }
 
 /// The name of `LANGUAGE:TEXT`.
 fn display_name(alloc: Global, value: &str) -> Result<DisplayName, CaseError> {
-    let (lang, text) = value.split_once(':').ok_or(CaseError::NoCase)?;
+    let Some((lang, text)) = value.split_once(':') else {
+        return Err(CaseError::NoCase);
+    };
     Ok(DisplayName {
         lang: owned(alloc, lang)?,
         text: owned(alloc, text)?,
@@ -95,7 +138,9 @@ fn display_name(alloc: Global, value: &str) -> Result<DisplayName, CaseError> {
 
 /// The ring from a south-west corner to a north-east one.
 fn square(alloc: Global, value: &str) -> Result<Region, CaseError> {
-    let (low, high) = value.split_once(' ').ok_or(CaseError::NoCase)?;
+    let Some((low, high)) = value.split_once(' ') else {
+        return Err(CaseError::NoCase);
+    };
     let ((south, west), (north, east)) = (number_pair(low)?, number_pair(high)?);
     let positions = [
         (south, west),

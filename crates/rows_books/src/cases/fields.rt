@@ -37,16 +37,25 @@ impl Fields {
 
     /// The field at a position as text.
     pub(crate) fn text(&self, position: usize) -> Result<&str, CaseError> {
-        str::from_utf8(self.bytes(position)?).map_err(|_| CaseError::NoCase)
+        match str::from_utf8(self.bytes(position)?) {
+            Ok(text) => Ok(text),
+            Err(_) => Err(CaseError::NoCase),
+        }
     }
 
     /// The field at a position as a number.
     pub(crate) fn number(&self, position: usize) -> Result<i64, CaseError> {
-        self.text(position)?.parse().map_err(|_| CaseError::NoCase)
+        match self.text(position)?.parse() {
+            Ok(number) => Ok(number),
+            Err(_) => Err(CaseError::NoCase),
+        }
     }
 
     /// The field at a position as a number that is not negative.
     pub(crate) fn count(&self, position: usize) -> Result<u64, CaseError> {
-        self.text(position)?.parse().map_err(|_| CaseError::NoCase)
+        match self.text(position)?.parse() {
+            Ok(count) => Ok(count),
+            Err(_) => Err(CaseError::NoCase),
+        }
     }
 }

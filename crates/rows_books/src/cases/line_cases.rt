@@ -1,40 +1,35 @@
 //! Calls of lost_json: what lines are read as, and the lines of replies, without their byte 10.
 use super::case_error::CaseError;
 use super::fields::Fields;
-use super::mapping_cases::shown;
+use super::gathered::Gathered;
+use super::mapping_cases::add_mapping;
 use super::stamp_cases::{source, stamp};
-use super::words::{owned, push_pairs, refused, yes_or_no};
+use super::words::{owned, refused, yes_or_no};
 use lost_book::{Book, Edit};
 use lost_json::{
     DeskFault, DeskLine, DeskReply, ReadError, is_code, read_desk, read_request, reply_line,
     write_desk, write_reply,
 };
-use lost_mapping::MappingError;
+use lost_mapping::{Identity, MappingError, Stamp};
 use lost_query::{AnswerError, Body, Location, Locations, Reply, Request};
 use lost_spec::Coded;
+use lost_urn::ServiceUrn;
 use std::alloc::Global;
 use std::borrow::CowStr;
-use std::fmt::Write;
 
 /// The result of a call.
 pub(crate) fn said(alloc: Global, call: &str, fields: &Fields) -> Result<String, CaseError> {
     match call {
-        "line request" => request(alloc, fields.bytes(1)?),
-        "line cut short" => cut_short(alloc, fields.bytes(1)?),
-        "line desk" => order(alloc, fields.bytes(1)?),
-        "line staged" => without_its_end(
-            alloc,
-            write_desk(&DeskReply::Staged(fields.count(1)?)).bytes(),
-        ),
-        "line committed" => without_its_end(
-            alloc,
-            write_desk(&DeskReply::Committed(fields.count(1)?)).bytes(),
-        ),
-        "line refused" => write_refusal(alloc, fields.count(1)?),
-        "line code" => owned(alloc, yes_or_no(is_code(code(fields.count(1)?)?))),
-        "line error" => write_error(alloc, error(fields.text(1)?)?, fields.count(2)?),
-        "line bad request" => written(alloc, &Reply::BadRequest),
-        "line internal error" => written(alloc, &Reply::InternalError),
+        "line request" => request(alloc, fields),
+        "line cut short" => cut_short(alloc, fields),
+        "line desk" => order(alloc, fields),
+        "line staged" => write_staged(alloc, fields),
+        "line committed" => write_committed(alloc, fields),
+        "line refused" => write_refusal(alloc, fields),
+        "line code" => check_code(alloc, fields),
+        "line error" => write_error(alloc, fields),
+        "line bad request" => written(alloc, Reply::BadRequest),
+        "line internal error" => written(alloc, Reply::InternalError),
         _ => Err(CaseError::NoCase),
     }
 }
@@ -43,39 +38,59 @@ pub(crate) fn said(alloc: Global, call: &str, fields: &Fields) -> Result<String,
 pub(crate) fn reply(alloc: Global, book: &Book, line: &[u8]) -> Result<String, CaseError> {
     let moment = stamp(alloc, b"2026-01-01T00:00:00Z")?.moment();
     let name = source(alloc, b"lost.example")?;
-    without_its_end(
-        alloc,
-        reply_line(alloc, book, &name, &moment, line)?.as_slice(),
-    )
+    let reply = reply_line(alloc, book, &name, &moment, line)?;
+    without_its_end(alloc, reply.as_slice())
 }
 
-fn written(alloc: Global, reply: &Reply) -> Result<String, CaseError> {
-    without_its_end(alloc, write_reply(alloc, reply)?.as_slice())
+fn written(alloc: Global, reply: Reply<'_>) -> Result<String, CaseError> {
+    without_its_end(alloc, write_reply(alloc, &reply)?.as_slice())
+}
+
+fn write_staged(alloc: Global, fields: &Fields) -> Result<String, CaseError> {
+    let reply = DeskReply::Staged(fields.count(1)?);
+    without_its_end(alloc, write_desk(&reply).bytes())
+}
+
+fn write_committed(alloc: Global, fields: &Fields) -> Result<String, CaseError> {
+    let reply = DeskReply::Committed(fields.count(1)?);
+    without_its_end(alloc, write_desk(&reply).bytes())
 }
 
 /// A line without the byte 10 at its end.
 fn without_its_end(alloc: Global, line: &[u8]) -> Result<String, CaseError> {
-    match line.split_last() {
-        Some((b'\n', line)) => owned(alloc, str::from_utf8(line).map_err(|_| CaseError::NoCase)?),
-        _ => owned(alloc, "a line without an end"),
+    let Some((b'\n', line)) = line.split_last() else {
+        return owned(alloc, "a line without an end");
+    };
+    match str::from_utf8(line) {
+        Ok(text) => owned(alloc, text),
+        Err(_) => Err(CaseError::NoCase),
     }
 }
 
-/// The code of a number.
-fn code(number: u64) -> Result<u8, CaseError> {
-    u8::try_from(number).map_err(|_| CaseError::NoCase)
+/// The code in the first field.
+fn code(fields: &Fields) -> Result<u8, CaseError> {
+    match u8::try_from(fields.count(1)?) {
+        Ok(code) => Ok(code),
+        Err(_) => Err(CaseError::NoCase),
+    }
 }
 
-fn write_refusal(alloc: Global, number: u64) -> Result<String, CaseError> {
-    let code = code(number)?;
+fn check_code(alloc: Global, fields: &Fields) -> Result<String, CaseError> {
+    owned(alloc, yes_or_no(is_code(code(fields)?)))
+}
+
+fn write_refusal(alloc: Global, fields: &Fields) -> Result<String, CaseError> {
+    let code = code(fields)?;
     if !is_code(code) {
         return Err(CaseError::NoCase);
     }
     without_its_end(alloc, write_desk(&DeskReply::Refused(code)).bytes())
 }
 
-fn write_error(alloc: Global, error: AnswerError, edition: u64) -> Result<String, CaseError> {
-    written(alloc, &Reply::Errors { edition, error })
+fn write_error(alloc: Global, fields: &Fields) -> Result<String, CaseError> {
+    let error = error(fields.text(1)?)?;
+    let edition = fields.count(2)?;
+    written(alloc, Reply::Errors { edition, error })
 }
 
 fn error(name: &str) -> Result<AnswerError, CaseError> {
@@ -91,7 +106,8 @@ fn error(name: &str) -> Result<AnswerError, CaseError> {
 }
 
 /// The least length at which a line that is cut short is still read.
-fn cut_short(alloc: Global, line: &[u8]) -> Result<String, CaseError> {
+fn cut_short(alloc: Global, fields: &Fields) -> Result<String, CaseError> {
+    let line = fields.bytes(1)?;
     for end in 0..line.len() {
         match read_request(alloc, &line[..end]).err() {
             None => return Ok(format!(in alloc; "read to {end}")?),
@@ -103,16 +119,29 @@ fn cut_short(alloc: Global, line: &[u8]) -> Result<String, CaseError> {
 }
 
 /// What a request line is read as, or the number of the refusal.
-fn request(alloc: Global, line: &[u8]) -> Result<String, CaseError> {
-    match read_request(alloc, line) {
+fn request(alloc: Global, fields: &Fields) -> Result<String, CaseError> {
+    match read_request(alloc, fields.bytes(1)?) {
         Ok(request) => shown_request(alloc, &request),
-        Err(ReadError::Memory) => Err(CaseError::Memory),
-        Err(refusal) => refused(alloc, refusal.code()),
+        Err(refusal) => refused_request(alloc, refusal),
+    }
+}
+
+/// The number of the refusal of a request line.
+pub(crate) fn refused_request(alloc: Global, refusal: ReadError) -> Result<String, CaseError> {
+    match refusal {
+        ReadError::Memory => Err(CaseError::Memory),
+        ReadError::BadRequest => refused(alloc, refusal.code()),
     }
 }
 
 /// A request as a text.
 pub(crate) fn shown_request(alloc: Global, request: &Request<'_>) -> Result<String, CaseError> {
+    let mut text = Gathered::new(alloc);
+    add_request(&mut text, request);
+    text.done()
+}
+
+fn add_request(text: &mut Gathered, request: &Request<'_>) {
     match request {
         Request::FindService {
             service,
@@ -121,77 +150,88 @@ pub(crate) fn shown_request(alloc: Global, request: &Request<'_>) -> Result<Stri
             by_value,
             path,
         } => {
-            let places = shown_locations(alloc, locations, path.as_slice())?;
-            let service = service.text();
-            Ok(format!(in alloc; "find {service} {validate} {by_value}{places}")?)
+            add_find(text, service, *validate, *by_value);
+            add_places(text, locations, path.as_slice());
         }
         Request::ListServicesByLocation {
             service,
             locations,
             path,
         } => {
-            let places = shown_locations(alloc, locations, path.as_slice())?;
-            let service = service.as_ref().map_or("-", |service| service.text());
-            Ok(format!(in alloc; "at {service}{places}")?)
+            text.add_all(&["at ", text_or_dash(service)]);
+            add_places(text, locations, path.as_slice());
         }
         Request::ListServices { service, path } => {
-            let names = shown_path(alloc, path.as_slice())?;
-            let service = service.as_ref().map_or("-", |service| service.text());
-            Ok(format!(in alloc; "list {service}{names}")?)
+            text.add_all(&["list ", text_or_dash(service)]);
+            add_path(text, path.as_slice());
         }
         Request::GetServiceBoundary { key, path } => {
-            let names = shown_path(alloc, path.as_slice())?;
-            let key = key.as_str();
-            Ok(format!(in alloc; "boundary {key}{names}")?)
+            text.add_all(&["boundary ", key.as_str()]);
+            add_path(text, path.as_slice());
         }
     }
 }
 
-/// The locations, each in brackets, and then the names of the path.
-fn shown_locations(
-    alloc: Global,
-    locations: &Locations<'_>,
-    path: &[CowStr<'_>],
-) -> Result<String, CaseError> {
-    let mut text = shown_location(alloc, &locations.first)?;
+fn add_find(text: &mut Gathered, service: &ServiceUrn, validate: bool, by_value: bool) {
+    text.add_all(&["find ", service.text(), " "]);
+    text.add_all(&[true_or_false(validate), " ", true_or_false(by_value)]);
+}
+
+/// The text of a service, or a dash where there is none.
+fn text_or_dash(service: &Option<ServiceUrn>) -> &str {
+    match service {
+        Some(service) => service.text(),
+        None => "-",
+    }
+}
+
+fn true_or_false(answer: bool) -> &'static str {
+    if answer { "true" } else { "false" }
+}
+
+/// Adds the locations, each in brackets, and then the names of the path.
+fn add_places(text: &mut Gathered, locations: &Locations<'_>, path: &[CowStr<'_>]) {
+    add_location(text, &locations.first);
     for location in &locations.rest {
-        text.push_str(shown_location(alloc, location)?.as_str())?;
+        add_location(text, location);
     }
-    text.push_str(shown_path(alloc, path)?.as_str())?;
-    Ok(text)
+    add_path(text, path);
 }
 
-/// The names of a path.
-fn shown_path(alloc: Global, path: &[CowStr<'_>]) -> Result<String, CaseError> {
-    let mut text = String::from_str(alloc, " path")?;
+/// Adds the names of a path.
+fn add_path(text: &mut Gathered, path: &[CowStr<'_>]) {
+    text.add(" path");
     for name in path {
-        text.push_str(" ")?;
-        text.push_str(name.as_str())?;
+        text.add_all(&[" ", name.as_str()]);
     }
-    Ok(text)
 }
 
-fn shown_location(alloc: Global, location: &Location<'_>) -> Result<String, CaseError> {
-    let (id, profile) = (location.id.as_str(), location.profile.as_str());
-    let known = location.srs_known;
-    let mut text = format!(in alloc; " [{id} {profile} {known} ")?;
+fn add_location(text: &mut Gathered, location: &Location<'_>) {
+    text.add_all(&[" [", location.id.as_str(), " ", location.profile.as_str()]);
+    text.add_all(&[" ", true_or_false(location.srs_known), " "]);
     match &location.body {
-        Body::Point(lat, lon) => write!(text, "{lat},{lon}")?,
-        Body::Address(pairs) => push_pairs(&mut text, pairs.as_slice())?,
-        Body::Token(token) => text.push_str(token.as_str())?,
-        Body::Unreadable => text.push_str("unreadable")?,
+        Body::Point(lat, lon) => text.add_two(*lat, *lon),
+        Body::Address(pairs) => text.add_pairs(pairs.as_slice()),
+        Body::Token(token) => text.add(token.as_str()),
+        Body::Unreadable => text.add("unreadable"),
     }
-    text.push_str("]")?;
-    Ok(text)
+    text.add("]");
 }
 
 /// The order of a desk line, or the number of its refusal, or `other`.
-fn order(alloc: Global, line: &[u8]) -> Result<String, CaseError> {
-    match read_desk(alloc, line) {
+fn order(alloc: Global, fields: &Fields) -> Result<String, CaseError> {
+    match read_desk(alloc, fields.bytes(1)?) {
         Ok(Some(line)) => shown_order(alloc, &line),
         Ok(None) => owned(alloc, "other"),
-        Err(DeskFault::Mapping(MappingError::Memory)) => Err(CaseError::Memory),
-        Err(fault) => refused(alloc, fault.code()),
+        Err(fault) => refused_desk_line(alloc, fault),
+    }
+}
+
+/// The number of the refusal of a desk line.
+pub(crate) fn refused_desk_line(alloc: Global, fault: DeskFault) -> Result<String, CaseError> {
+    match fault {
+        DeskFault::Mapping(MappingError::Memory) => Err(CaseError::Memory),
+        _ => refused(alloc, fault.code()),
     }
 }
 
@@ -204,19 +244,22 @@ pub(crate) fn shown_order(alloc: Global, line: &DeskLine) -> Result<String, Case
 }
 
 fn shown_edit(alloc: Global, edit: &Edit) -> Result<String, CaseError> {
+    let mut text = Gathered::new(alloc);
     match edit {
         Edit::Publish(mapping) => {
-            let text = shown(alloc, mapping)?;
-            Ok(format!(in alloc; "publish {text}")?)
+            text.add("publish ");
+            add_mapping(&mut text, mapping);
         }
         Edit::Replace(mapping) => {
-            let text = shown(alloc, mapping)?;
-            Ok(format!(in alloc; "replace {text}")?)
+            text.add("replace ");
+            add_mapping(&mut text, mapping);
         }
-        Edit::Withdraw(identity, stamp) => {
-            let (source, id) = (identity.source().text(), identity.source_id());
-            let stamp = stamp.text();
-            Ok(format!(in alloc; "withdraw {source} {id} {stamp}")?)
-        }
+        Edit::Withdraw(identity, stamp) => add_withdrawal(&mut text, identity, stamp),
     }
+    text.done()
+}
+
+fn add_withdrawal(text: &mut Gathered, identity: &Identity, stamp: &Stamp) {
+    text.add_all(&["withdraw ", identity.source().text(), " "]);
+    text.add_all(&[identity.source_id(), " ", stamp.text()]);
 }

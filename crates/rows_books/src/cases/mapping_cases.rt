@@ -2,10 +2,11 @@
 use super::case_error::CaseError;
 use super::descriptions::{mapping, parts};
 use super::fields::Fields;
-use super::geo_cases::shown_positions;
+use super::gathered::Gathered;
+use super::geo_cases::add_positions;
 use super::stamp_cases::stamp;
-use super::token_cases::shown_tokens;
-use super::words::{checked, owned, push_pairs, refused, yes_or_no};
+use super::token_cases::add_tokens;
+use super::words::{checked, owned, refused, yes_or_no};
 use lost_mapping::{Expires, Mapping, MappingError, Moment, Parts};
 use lost_spec::Coded;
 use std::alloc::Global;
@@ -15,20 +16,24 @@ pub(crate) fn said(alloc: Global, call: &str, fields: &Fields) -> Result<String,
     let text = fields.text(1)?;
     match call {
         "mapping build" => build(alloc, text),
-        "mapping check" => {
-            let fault = parts_fault(&parts(alloc, text)?);
-            checked(alloc, fault.map(MappingError::code))
-        }
-        "mapping read" => {
-            let copy = mapping(alloc, text)?.clone()?;
-            shown(alloc, &copy)
-        }
-        "mapping live" => {
-            let moment = stamp(alloc, fields.bytes(2)?)?.moment();
-            owned(alloc, is_live(&mapping(alloc, text)?, &moment)?)
-        }
+        "mapping check" => check(alloc, text),
+        "mapping read" => read(alloc, text),
+        "mapping live" => live(alloc, text, fields),
         _ => Err(CaseError::NoCase),
     }
+}
+
+/// The result of each reader of a copy.
+fn read(alloc: Global, text: &str) -> Result<String, CaseError> {
+    let copy = mapping(alloc, text)?.clone()?;
+    let mut text = Gathered::new(alloc);
+    add_mapping(&mut text, &copy);
+    text.done()
+}
+
+fn live(alloc: Global, text: &str, fields: &Fields) -> Result<String, CaseError> {
+    let moment = stamp(alloc, fields.bytes(2)?)?.moment();
+    owned(alloc, is_live(&mapping(alloc, text)?, &moment)?)
 }
 
 /// Whether parts make a mapping.
@@ -41,6 +46,11 @@ fn build(alloc: Global, text: &str) -> Result<String, CaseError> {
 }
 
 /// The first refusal of parts, checked where they are.
+fn check(alloc: Global, text: &str) -> Result<String, CaseError> {
+    let fault = parts_fault(&parts(alloc, text)?);
+    checked(alloc, fault.map(MappingError::code))
+}
+
 fn parts_fault(parts: &Parts) -> Option<MappingError> {
     Mapping::check::<Parts>(&parts.borrowed()).err()
 }
@@ -56,62 +66,66 @@ fn is_live(mapping: &Mapping, moment: &Moment) -> Result<&'static str, CaseError
     })
 }
 
-/// The result of each reader of a mapping.
-pub(crate) fn shown(alloc: Global, mapping: &Mapping) -> Result<String, CaseError> {
-    let mut text = shown_head(alloc, mapping)?;
-    for uri in mapping.uris() {
-        text.push_str(" at ")?;
-        text.push_str(uri.as_str())?;
-    }
-    if let Some(number) = mapping.number() {
-        text.push_str(" dialled ")?;
-        text.push_str(number)?;
-    }
-    push_regions(alloc, &mut text, mapping)?;
-    for name in mapping.display_names() {
-        text.push_str(" named ")?;
-        text.push_str(name.lang.as_str())?;
-        text.push_str(":")?;
-        text.push_str(name.text.as_str())?;
-    }
+/// Adds the result of each reader of a mapping.
+pub(crate) fn add_mapping(text: &mut Gathered, mapping: &Mapping) {
+    add_head(text, mapping);
+    add_contacts(text, mapping);
+    add_regions(text, mapping);
+    add_names(text, mapping);
     if let Some(key) = mapping.key() {
-        text.push_str(" under ")?;
-        text.push_str(key)?;
+        text.add_all(&[" under ", key]);
     }
     if mapping.is_default() {
-        text.push_str(" by default")?;
+        text.add(" by default");
     }
-    Ok(text)
 }
 
-/// The identity, the stamp, the end and the service.
-fn shown_head(alloc: Global, mapping: &Mapping) -> Result<String, CaseError> {
-    let (source, id) = (
-        mapping.identity().source().text(),
-        mapping.identity().source_id(),
-    );
-    let (stamp, service) = (mapping.stamp().text(), mapping.service().text());
+/// Adds the identity, the stamp, the end and the service.
+fn add_head(text: &mut Gathered, mapping: &Mapping) {
+    let identity = mapping.identity();
     let end = match mapping.expires() {
         Expires::NoCache => "NO-CACHE",
         Expires::NoExpiration => "NO-EXPIRATION",
         Expires::At(end) => end.text(),
     };
-    Ok(format!(in alloc; "{source} {id} {stamp} {end} {service}")?)
+    text.add_all(&[identity.source().text(), " ", identity.source_id(), " "]);
+    text.add_all(&[
+        mapping.stamp().text(),
+        " ",
+        end,
+        " ",
+        mapping.service().text(),
+    ]);
 }
 
-/// Appends the polygons, then the patterns, and then the token sets.
-fn push_regions(alloc: Global, text: &mut String, mapping: &Mapping) -> Result<(), CaseError> {
+/// Adds the URIs and the number.
+fn add_contacts(text: &mut Gathered, mapping: &Mapping) {
+    for uri in mapping.uris() {
+        text.add_all(&[" at ", uri.as_str()]);
+    }
+    if let Some(number) = mapping.number() {
+        text.add_all(&[" dialled ", number]);
+    }
+}
+
+/// Adds the polygons, then the patterns, and then the token sets.
+fn add_regions(text: &mut Gathered, mapping: &Mapping) {
     for polygon in mapping.polygons() {
-        text.push_str(" in ")?;
-        text.push_str(shown_positions(alloc, polygon.positions())?.as_str())?;
+        text.add(" in ");
+        add_positions(text, polygon.positions());
     }
     for pattern in mapping.patterns() {
-        text.push_str(" where ")?;
-        push_pairs(text, pattern.pairs())?;
+        text.add(" where ");
+        text.add_pairs(pattern.pairs());
     }
     for set in mapping.token_sets() {
-        text.push_str(" of ")?;
-        text.push_str(shown_tokens(alloc, set.tokens())?.as_str())?;
+        text.add(" of ");
+        add_tokens(text, set.tokens());
     }
-    Ok(())
+}
+
+fn add_names(text: &mut Gathered, mapping: &Mapping) {
+    for name in mapping.display_names() {
+        text.add_all(&[" named ", name.lang.as_str(), ":", name.text.as_str()]);
+    }
 }

@@ -1,9 +1,9 @@
 //! How a field is spelled. `%{4:ab}` is `abababab`; in it, `%#` is the number of the turn, from 0. Repetitions may
 //! nest. `%` with two hexadecimal digits is the byte of that number.
 use super::case_error::CaseError;
+use super::gathered::Gathered;
 use percent_encoding::percent_decode;
 use std::alloc::Global;
-use std::fmt::Write;
 
 /// How many repetitions a field may have.
 const MAX_REPETITIONS: usize = 64;
@@ -33,22 +33,38 @@ fn with_the_last_repeated(alloc: Global, text: &str) -> Result<Option<String>, C
     let Some((front, rest)) = text.rsplit_once("%{") else {
         return Ok(None);
     };
-    let (repetition, back) = rest.split_once('}').ok_or(CaseError::NoCase)?;
-    let (count, part) = repetition.split_once(':').ok_or(CaseError::NoCase)?;
-    let count: u32 = count.parse().map_err(|_| CaseError::NoCase)?;
-    let mut longer = String::from_str(alloc, front)?;
-    for number in 0..count {
-        push_turn(&mut longer, part, number)?;
-    }
-    longer.push_str(back)?;
-    Ok(Some(longer))
+    let Some((repetition, back)) = rest.split_once('}') else {
+        return Err(CaseError::NoCase);
+    };
+    let mut longer = Gathered::new(alloc);
+    longer.add(front);
+    add_turns(&mut longer, repetition)?;
+    longer.add(back);
+    Ok(Some(longer.done()?))
 }
 
-/// Appends one turn of a repetition.
-fn push_turn(text: &mut String, part: &str, number: u32) -> Result<(), CaseError> {
-    match part.split_once("%#") {
-        Some((before, after)) => write!(text, "{before}{number}{after}")?,
-        None => text.push_str(part)?,
+/// Adds the turns of a repetition `COUNT:PART`.
+fn add_turns(text: &mut Gathered, repetition: &str) -> Result<(), CaseError> {
+    let Some((count, part)) = repetition.split_once(':') else {
+        return Err(CaseError::NoCase);
+    };
+    let Ok(count) = count.parse::<u32>() else {
+        return Err(CaseError::NoCase);
+    };
+    for number in 0..count {
+        add_turn(text, part, number);
     }
     Ok(())
+}
+
+/// Adds one turn of a repetition.
+fn add_turn(text: &mut Gathered, part: &str, number: u32) {
+    match part.split_once("%#") {
+        Some((before, after)) => {
+            text.add(before);
+            text.add_number(u64::from(number));
+            text.add(after);
+        }
+        None => text.add(part),
+    }
 }

@@ -1,6 +1,7 @@
 //! Calls of lost_mapping that need no mapping: stamps, instants, sources and identities.
 use super::case_error::CaseError;
 use super::fields::Fields;
+use super::gathered::joined;
 use super::words::{checked, compared, owned, refused, yes_or_no};
 use lost_mapping::{Identity, MappingError, Moment, Source, SourceError, Stamp, StampError};
 use lost_spec::Coded;
@@ -9,12 +10,12 @@ use std::alloc::Global;
 /// The result of a call.
 pub(crate) fn said(alloc: Global, call: &str, fields: &Fields) -> Result<String, CaseError> {
     match call {
-        "stamp" => new_stamp(alloc, fields.bytes(1)?),
-        "stamp check" => owned(alloc, yes_or_no(Stamp::is_stamp(fields.bytes(1)?))),
-        "source" => new_source(alloc, fields.bytes(1)?),
-        "same sources" => same_sources(alloc, fields.bytes(1)?, fields.bytes(2)?),
-        "identity" => new_identity(alloc, fields.text(1)?, fields.text(2)?),
-        "identity check" => check_identity(alloc, fields.text(1)?, fields.text(2)?),
+        "stamp" => new_stamp(alloc, fields),
+        "stamp check" => check_stamp(alloc, fields),
+        "source" => new_source(alloc, fields),
+        "same sources" => same_sources(alloc, fields),
+        "identity" => new_identity(alloc, fields),
+        "identity check" => check_identity(alloc, fields),
         "same identities" => same_identities(alloc, fields),
         "moment" => new_moment(alloc, fields),
         "moments" => two_moments(alloc, fields),
@@ -22,20 +23,33 @@ pub(crate) fn said(alloc: Global, call: &str, fields: &Fields) -> Result<String,
     }
 }
 
-fn same_sources(alloc: Global, text: &[u8], other: &[u8]) -> Result<String, CaseError> {
-    let one = source(alloc, text)?;
-    owned(alloc, compared(&one, &source(alloc, other)?))
+fn check_stamp(alloc: Global, fields: &Fields) -> Result<String, CaseError> {
+    owned(alloc, yes_or_no(Stamp::is_stamp(fields.bytes(1)?)))
 }
 
-fn check_identity(alloc: Global, source: &str, id: &str) -> Result<String, CaseError> {
-    let fault = Identity::check(source, id).err();
+fn same_sources(alloc: Global, fields: &Fields) -> Result<String, CaseError> {
+    let one = source(alloc, fields.bytes(1)?)?;
+    owned(alloc, compared(&one, &source(alloc, fields.bytes(2)?)?))
+}
+
+fn check_identity(alloc: Global, fields: &Fields) -> Result<String, CaseError> {
+    let fault = Identity::check(fields.text(1)?, fields.text(2)?).err();
     checked(alloc, fault.map(MappingError::code))
 }
 
 fn same_identities(alloc: Global, fields: &Fields) -> Result<String, CaseError> {
-    let one = identity(alloc, fields.text(1)?, fields.text(2)?)?;
-    let other = identity(alloc, fields.text(3)?, fields.text(4)?)?;
-    owned(alloc, compared(&one, &other))
+    let one = identity_in(alloc, fields, 1)?;
+    owned(alloc, compared(&one, &identity_in(alloc, fields, 3)?))
+}
+
+/// The identity of the source and the sourceId in the fields from a position on.
+pub(crate) fn identity_in(
+    alloc: Global,
+    fields: &Fields,
+    position: usize,
+) -> Result<Identity, CaseError> {
+    let source = fields.text(position)?;
+    identity(alloc, source, fields.text(position.saturating_add(1))?)
 }
 
 fn new_moment(alloc: Global, fields: &Fields) -> Result<String, CaseError> {
@@ -80,36 +94,38 @@ pub(crate) fn identity(alloc: Global, source: &str, id: &str) -> Result<Identity
 }
 
 /// The text and the instant of a copy of a stamp.
-fn new_stamp(alloc: Global, text: &[u8]) -> Result<String, CaseError> {
-    match Stamp::parse(alloc, text) {
-        Ok(stamp) => {
-            let copy = stamp.clone()?;
-            let (text, moment) = (copy.text(), copy.moment());
-            let (day, nanosecond) = (moment.day(), moment.nanosecond());
-            Ok(format!(in alloc; "{text} day {day}, {nanosecond}")?)
-        }
+fn new_stamp(alloc: Global, fields: &Fields) -> Result<String, CaseError> {
+    match Stamp::parse(alloc, fields.bytes(1)?) {
+        Ok(stamp) => shown_stamp(alloc, &stamp),
         Err(StampError::Memory) => Err(CaseError::Memory),
         Err(refusal) => refused(alloc, refusal.code()),
     }
 }
 
+fn shown_stamp(alloc: Global, stamp: &Stamp) -> Result<String, CaseError> {
+    let copy = stamp.clone()?;
+    let (text, moment) = (copy.text(), copy.moment());
+    let (day, nanosecond) = (moment.day(), moment.nanosecond());
+    Ok(format!(in alloc; "{text} day {day}, {nanosecond}")?)
+}
+
 /// The text of a copy of a source.
-fn new_source(alloc: Global, text: &[u8]) -> Result<String, CaseError> {
-    match Source::parse(alloc, text) {
-        Ok(source) => {
-            let copy = source.clone()?;
-            let same = compared(&copy, &source);
-            let text = copy.text();
-            Ok(format!(in alloc; "{text} {same}")?)
-        }
+fn new_source(alloc: Global, fields: &Fields) -> Result<String, CaseError> {
+    match Source::parse(alloc, fields.bytes(1)?) {
+        Ok(source) => shown_source(alloc, &source),
         Err(SourceError::Memory) => Err(CaseError::Memory),
         Err(refusal) => refused(alloc, refusal.code()),
     }
 }
 
+fn shown_source(alloc: Global, source: &Source) -> Result<String, CaseError> {
+    let copy = source.clone()?;
+    joined(alloc, &[copy.text(), " ", compared(&copy, source)])
+}
+
 /// The texts of a copy of an identity.
-fn new_identity(alloc: Global, source: &str, id: &str) -> Result<String, CaseError> {
-    match Identity::parse(alloc, source, id) {
+fn new_identity(alloc: Global, fields: &Fields) -> Result<String, CaseError> {
+    match Identity::parse(alloc, fields.text(1)?, fields.text(2)?) {
         Ok(identity) => shown_identity(alloc, &identity),
         Err(MappingError::Memory) => Err(CaseError::Memory),
         Err(refusal) => refused(alloc, refusal.code()),
@@ -119,13 +135,17 @@ fn new_identity(alloc: Global, source: &str, id: &str) -> Result<String, CaseErr
 fn shown_identity(alloc: Global, identity: &Identity) -> Result<String, CaseError> {
     let copy = identity.clone()?;
     let same = compared(&copy, identity);
-    let (source, id) = (copy.source().text(), copy.source_id());
-    Ok(format!(in alloc; "{source} {id} {same}")?)
+    joined(
+        alloc,
+        &[copy.source().text(), " ", copy.source_id(), " ", same],
+    )
 }
 
 /// The instant of the day and the nanosecond in the fields from a position on.
 fn moment(fields: &Fields, position: usize) -> Result<Option<Moment>, CaseError> {
-    let day = i32::try_from(fields.number(position)?).map_err(|_| CaseError::NoCase)?;
+    let Ok(day) = i32::try_from(fields.number(position)?) else {
+        return Err(CaseError::NoCase);
+    };
     let nanosecond = fields.count(position.saturating_add(1))?;
     Ok(Moment::new(day, nanosecond))
 }

@@ -1,7 +1,8 @@
 //! Calls of lost_profile: tokens, sets of them, and the profile of tokens.
 use super::case_error::CaseError;
 use super::fields::Fields;
-use super::words::{MARK, compared, copy_of, order, owned, refused, texts, yes_or_no};
+use super::gathered::{Gathered, joined};
+use super::words::{compared, copy_of, order, owned, refused, texts, yes_or_no};
 use lost_profile::{Profile, Token, TokenError, TokenSet, Tokens, is_id, is_token_set};
 use lost_spec::Coded;
 use std::alloc::Global;
@@ -9,34 +10,43 @@ use std::alloc::Global;
 /// What a call gives.
 pub(crate) fn said(alloc: Global, call: &str, fields: &Fields) -> Result<String, CaseError> {
     match call {
-        "token parse" => parse(alloc, fields.bytes(1)?),
-        "token id" => owned(alloc, yes_or_no(is_id(fields.text(1)?))),
-        "token order" => two_tokens(alloc, fields.bytes(1)?, fields.bytes(2)?),
-        "token set" => new_set(alloc, fields.text(1)?),
-        "token texts" => read_set(alloc, fields.text(1)?),
-        "token same sets" => same_sets(alloc, fields.text(1)?, fields.text(2)?),
-        "token contains" => contains(alloc, fields.text(1)?, fields.bytes(2)?),
-        "token cover" => shown_tokens(alloc, &Tokens::cover(alloc, &set(alloc, fields.text(1)?)?)?),
-        "token probes" => shown_tokens(
-            alloc,
-            &Tokens::probes(alloc, &token(alloc, fields.bytes(1)?)?)?,
-        ),
+        "token parse" => parse(alloc, fields),
+        "token id" => check_id(alloc, fields),
+        "token order" => two_tokens(alloc, fields),
+        "token set" => new_set(alloc, fields),
+        "token texts" => read_set(alloc, fields),
+        "token same sets" => same_sets(alloc, fields),
+        "token contains" => contains(alloc, fields),
+        "token cover" => cover(alloc, fields),
+        "token probes" => probes(alloc, fields),
         "token profile" => profile(alloc),
         _ => Err(CaseError::NoCase),
     }
 }
 
 /// The text of a copy of a copy, by the method and by the trait.
-fn parse(alloc: Global, text: &[u8]) -> Result<String, CaseError> {
-    match Token::parse(text) {
-        Ok(token) => {
-            let copy = copy_of(&token.clone()?)?;
-            let (text, same) = (copy.text(), compared(&copy, &token));
-            Ok(format!(in alloc; "{text} {same}")?)
-        }
-        Err(TokenError::Memory) => Err(CaseError::Memory),
-        Err(refusal) => refused(alloc, refusal.code()),
+fn parse(alloc: Global, fields: &Fields) -> Result<String, CaseError> {
+    match Token::parse(fields.bytes(1)?) {
+        Ok(token) => shown(alloc, &token),
+        Err(refusal) => refusal_of(alloc, refusal),
     }
+}
+
+fn shown(alloc: Global, token: &Token) -> Result<String, CaseError> {
+    let copy = copy_of(&token.clone()?)?;
+    joined(alloc, &[copy.text(), " ", compared(&copy, token)])
+}
+
+/// The result of a call that gives a refusal.
+fn refusal_of(alloc: Global, refusal: TokenError) -> Result<String, CaseError> {
+    match refusal {
+        TokenError::Memory => Err(CaseError::Memory),
+        TokenError::Bad => refused(alloc, refusal.code()),
+    }
+}
+
+fn check_id(alloc: Global, fields: &Fields) -> Result<String, CaseError> {
+    owned(alloc, yes_or_no(is_id(fields.text(1)?)))
 }
 
 /// The token of a text that is one.
@@ -48,9 +58,9 @@ pub(crate) fn token(alloc: Global, text: &[u8]) -> Result<Token, CaseError> {
     }
 }
 
-fn two_tokens(alloc: Global, text: &[u8], other: &[u8]) -> Result<String, CaseError> {
-    let one = token(alloc, text)?;
-    owned(alloc, order(&one, &token(alloc, other)?))
+fn two_tokens(alloc: Global, fields: &Fields) -> Result<String, CaseError> {
+    let one = token(alloc, fields.bytes(1)?)?;
+    owned(alloc, order(&one, &token(alloc, fields.bytes(2)?)?))
 }
 
 /// The tokens of a field with a comma between each two; none of an empty one.
@@ -63,17 +73,20 @@ fn tokens(alloc: Global, text: &str) -> Result<Vec<Token>, CaseError> {
 }
 
 /// The tokens of a copy of a set.
-fn new_set(alloc: Global, text: &str) -> Result<String, CaseError> {
-    match TokenSet::new(alloc, tokens(alloc, text)?) {
-        Ok(set) => shown_tokens(alloc, set.clone()?.tokens()),
-        Err(TokenError::Memory) => Err(CaseError::Memory),
-        Err(refusal) => refused(alloc, refusal.code()),
+fn new_set(alloc: Global, fields: &Fields) -> Result<String, CaseError> {
+    match TokenSet::new(alloc, tokens(alloc, fields.text(1)?)?) {
+        Ok(set) => shown_copy(alloc, &set),
+        Err(refusal) => refusal_of(alloc, refusal),
     }
 }
 
+fn shown_copy(alloc: Global, set: &TokenSet) -> Result<String, CaseError> {
+    shown_tokens(alloc, set.clone()?.tokens())
+}
+
 /// The tokens of the set that texts are, if the check of the texts says the same.
-fn read_set(alloc: Global, text: &str) -> Result<String, CaseError> {
-    let texts = texts(alloc, text)?;
+fn read_set(alloc: Global, fields: &Fields) -> Result<String, CaseError> {
+    let texts = texts(alloc, fields.text(1)?)?;
     let is_set = is_token_set(texts.as_slice());
     match TokenSet::parse(alloc, texts.as_slice()) {
         Ok(set) if is_set => shown_tokens(alloc, set.tokens()),
@@ -92,26 +105,41 @@ fn set(alloc: Global, text: &str) -> Result<TokenSet, CaseError> {
     }
 }
 
-fn same_sets(alloc: Global, text: &str, other: &str) -> Result<String, CaseError> {
-    let one = set(alloc, text)?;
-    owned(alloc, yes_or_no(one == set(alloc, other)?))
+fn same_sets(alloc: Global, fields: &Fields) -> Result<String, CaseError> {
+    let one = set(alloc, fields.text(1)?)?;
+    owned(alloc, yes_or_no(one == set(alloc, fields.text(2)?)?))
 }
 
-fn contains(alloc: Global, text: &str, location: &[u8]) -> Result<String, CaseError> {
-    let (region, location) = (set(alloc, text)?, token(alloc, location)?);
+fn contains(alloc: Global, fields: &Fields) -> Result<String, CaseError> {
+    let location = token(alloc, fields.bytes(2)?)?;
+    let region = set(alloc, fields.text(1)?)?;
     owned(alloc, yes_or_no(Tokens::contains(&region, &location)))
+}
+
+fn cover(alloc: Global, fields: &Fields) -> Result<String, CaseError> {
+    let keys = Tokens::cover(alloc, &set(alloc, fields.text(1)?)?)?;
+    shown_tokens(alloc, keys.as_slice())
+}
+
+fn probes(alloc: Global, fields: &Fields) -> Result<String, CaseError> {
+    let keys = Tokens::probes(alloc, &token(alloc, fields.bytes(1)?)?)?;
+    shown_tokens(alloc, keys.as_slice())
 }
 
 /// The tokens with a comma between each two.
 pub(crate) fn shown_tokens(alloc: Global, tokens: &[Token]) -> Result<String, CaseError> {
-    let mut text = String::new(alloc);
+    let mut text = Gathered::new(alloc);
+    add_tokens(&mut text, tokens);
+    text.done()
+}
+
+/// Adds tokens with a comma between each two.
+pub(crate) fn add_tokens(text: &mut Gathered, tokens: &[Token]) {
+    let mut before = "";
     for token in tokens {
-        if !text.is_empty() {
-            text.push(MARK)?;
-        }
-        text.push_str(token.text())?;
+        text.add_all(&[before, token.text()]);
+        before = ",";
     }
-    Ok(text)
 }
 
 /// The name of the profile, and the greatest number of keys of a cover.

@@ -3,6 +3,7 @@ ghost use Rattle.std.specs.Prelude.{◌≤◌, IfOk, length};
 
 use super::case_error::CaseError;
 use super::fields::Fields;
+use super::gathered::Gathered;
 use super::words::{checked, compared, copy_of, order, owned, refused, yes_or_no};
 use lost_spec::Coded;
 use lost_urn::{ServiceUrn, UrnError};
@@ -13,26 +14,28 @@ pub(crate) fn said(alloc: Global, call: &str, fields: &Fields) -> Result<String,
     let text = fields.bytes(1)?;
     match call {
         "urn parse" => parse(alloc, text),
-        "urn check" => checked(alloc, ServiceUrn::check(text).err().map(UrnError::code)),
-        "urn cut" => cut(alloc, &service(alloc, text)?, fields.count(2)?),
-        "urn front" => front(alloc, &service(alloc, text)?, fields.count(2)?),
-        "urn at or below" => at_or_below(alloc, text, fields.bytes(2)?),
-        "urn order" => two_services(alloc, text, fields.bytes(2)?),
+        "urn check" => check(alloc, text),
+        "urn cut" => cut(alloc, text, fields),
+        "urn front" => front(alloc, text, fields),
+        "urn at or below" => at_or_below(alloc, text, fields),
+        "urn order" => two_services(alloc, text, fields),
         _ => Err(CaseError::NoCase),
     }
 }
 
-fn at_or_below(alloc: Global, text: &[u8], other: &[u8]) -> Result<String, CaseError> {
-    let one = service(alloc, text)?;
-    owned(
-        alloc,
-        yes_or_no(one.is_at_or_below(&service(alloc, other)?)),
-    )
+fn check(alloc: Global, text: &[u8]) -> Result<String, CaseError> {
+    checked(alloc, ServiceUrn::check(text).err().map(UrnError::code))
 }
 
-fn two_services(alloc: Global, text: &[u8], other: &[u8]) -> Result<String, CaseError> {
+fn at_or_below(alloc: Global, text: &[u8], fields: &Fields) -> Result<String, CaseError> {
     let one = service(alloc, text)?;
-    owned(alloc, order(&one, &service(alloc, other)?))
+    let other = service(alloc, fields.bytes(2)?)?;
+    owned(alloc, yes_or_no(one.is_at_or_below(&other)))
+}
+
+fn two_services(alloc: Global, text: &[u8], fields: &Fields) -> Result<String, CaseError> {
+    let one = service(alloc, text)?;
+    owned(alloc, order(&one, &service(alloc, fields.bytes(2)?)?))
 }
 
 /// The service that a text spells.
@@ -55,29 +58,40 @@ fn parse(alloc: Global, text: &[u8]) -> Result<String, CaseError> {
 /// The text and the depth of a copy of a copy, by the method and by the trait.
 fn shown(alloc: Global, service: &ServiceUrn) -> Result<String, CaseError> {
     let copy = copy_of(&service.clone()?)?;
-    let same = compared(&copy, service);
-    let (text, depth) = (copy.text(), copy.depth());
-    Ok(format!(in alloc; "{text} {depth} {same}")?)
+    let mut text = Gathered::new(alloc);
+    add_service(&mut text, &copy);
+    text.add_all(&[" ", compared(&copy, service)]);
+    text.done()
 }
 
-/// A number of labels: at least 1, and at most those of the service.
-fn some_labels(service: &ServiceUrn, labels: u64) -> Result<usize, CaseError>
+/// Adds the text and the depth of a service.
+fn add_service(text: &mut Gathered, service: &ServiceUrn) {
+    text.add_all(&[service.text(), " "]);
+    text.add_number(service.depth() as u64);
+}
+
+/// The number of labels in the second field: at least 1, and at most those of the service.
+fn some_labels(service: &ServiceUrn, fields: &Fields) -> Result<usize, CaseError>
     ensures { IfOk result (λ n. (1 ≤ n) × (n ≤ length service.now)) }
 {
-    let labels = usize::try_from(labels).map_err(|_| CaseError::NoCase)?;
+    let Ok(labels) = usize::try_from(fields.count(2)?) else {
+        return Err(CaseError::NoCase);
+    };
     if labels < 1 || labels > service.depth() {
         return Err(CaseError::NoCase);
     }
     Ok(labels)
 }
 
-fn front(alloc: Global, service: &ServiceUrn, labels: u64) -> Result<String, CaseError> {
-    owned(alloc, service.front(some_labels(service, labels)?))
+fn front(alloc: Global, text: &[u8], fields: &Fields) -> Result<String, CaseError> {
+    let service = service(alloc, text)?;
+    owned(alloc, service.front(some_labels(&service, fields)?))
 }
 
-fn cut(alloc: Global, service: &ServiceUrn, labels: u64) -> Result<String, CaseError> {
-    let labels = some_labels(service, labels)?;
-    let front = service.cut(labels)?;
-    let (text, depth) = (front.text(), front.depth());
-    Ok(format!(in alloc; "{text} {depth}")?)
+fn cut(alloc: Global, text: &[u8], fields: &Fields) -> Result<String, CaseError> {
+    let service = service(alloc, text)?;
+    let front = service.cut(some_labels(&service, fields)?)?;
+    let mut text = Gathered::new(alloc);
+    add_service(&mut text, &front);
+    text.done()
 }

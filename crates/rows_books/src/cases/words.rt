@@ -2,7 +2,6 @@
 use super::case_error::CaseError;
 use std::alloc::Global;
 use std::cmp::Ordering;
-use std::fmt::Write;
 use std::hash::{DefaultHasher, Hash, Hasher};
 
 /// `passes`, or the number of a refusal.
@@ -65,10 +64,13 @@ fn hash_of<T: Hash>(value: &T) -> u64 {
 
 /// Two numbers with a comma between them.
 pub(crate) fn number_pair(text: &str) -> Result<(i64, i64), CaseError> {
-    let (first, second) = text.split_once(',').ok_or(CaseError::NoCase)?;
-    let first = first.parse().map_err(|_| CaseError::NoCase)?;
-    let second = second.parse().map_err(|_| CaseError::NoCase)?;
-    Ok((first, second))
+    let Some((first, second)) = text.split_once(',') else {
+        return Err(CaseError::NoCase);
+    };
+    match (first.parse::<i64>(), second.parse::<i64>()) {
+        (Ok(first), Ok(second)) => Ok((first, second)),
+        _ => Err(CaseError::NoCase),
+    }
 }
 
 /// Pairs of numbers with white space between each two.
@@ -89,10 +91,14 @@ pub(crate) fn text_pairs(
     let mut pairs = Vec::new(alloc);
     for pair in text.split(mark) {
         if let Some((name, value)) = pair.split_once('=') {
-            pairs.push((owned(alloc, name)?, owned(alloc, value)?))?;
+            pairs.push(text_pair(alloc, name, value)?)?;
         }
     }
     Ok(pairs)
+}
+
+fn text_pair(alloc: Global, name: &str, value: &str) -> Result<(String, String), CaseError> {
+    Ok((owned(alloc, name)?, owned(alloc, value)?))
 }
 
 /// What stands between two texts of a list.
@@ -107,12 +113,4 @@ pub(crate) fn texts(alloc: Global, text: &str) -> Result<Vec<String>, CaseError>
         }
     }
     Ok(texts)
-}
-
-/// Appends pairs, each as `NAME=VALUE;`.
-pub(crate) fn push_pairs(text: &mut String, pairs: &[(String, String)]) -> Result<(), CaseError> {
-    for pair in pairs {
-        write!(text, "{}={};", pair.0.as_str(), pair.1.as_str())?;
-    }
-    Ok(())
 }

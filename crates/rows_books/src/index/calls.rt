@@ -21,18 +21,39 @@ const REQUIRED: &str = "country=US;A3= leonia ;HNO=6 / country A3";
 
 /// Makes the values of each profile. If `are_made`, makes the calls too and prints their answers.
 pub(crate) fn print_all<R: Print + AllocGlobal>(rt: &R, are_made: bool) -> io::Result<()> {
-    let alloc = rt.alloc();
+    print_squares(rt, are_made)?;
+    print_patterns(rt, are_made)?;
+    print_required(rt, are_made)?;
+    print_tokens(rt, are_made)
+}
+
+fn print_squares<R: Print + AllocGlobal>(rt: &R, are_made: bool) -> io::Result<()> {
     let place = point(5_000_000, 5_000_000)?;
-    let asked = squares(alloc)?;
-    print_calls::<R, Geodetic2d>(rt, squares(alloc)?, &asked, &place, are_made)?;
-    let place = address(alloc, ADDRESS).ok_or_else(unreadable)?;
-    let asked = patterns(alloc)?;
-    print_calls::<R, Civic>(rt, patterns(alloc)?, &asked, &place, are_made)?;
-    let place = required(alloc, REQUIRED).ok_or_else(unreadable)?;
-    print_calls::<R, References>(rt, patterns(alloc)?, &asked, &place, are_made)?;
-    let place = token(alloc, "t2")?;
-    let asked = two(alloc, "t1 t2", "t3")?;
-    print_calls::<R, Tokens>(rt, two(alloc, "t1 t2", "t3")?, &asked, &place, are_made)
+    let asked = squares(rt.alloc())?;
+    print_calls::<R, Geodetic2d>(rt, squares(rt.alloc())?, &asked, &place, are_made)
+}
+
+fn print_patterns<R: Print + AllocGlobal>(rt: &R, are_made: bool) -> io::Result<()> {
+    let Some(place) = address(rt.alloc(), ADDRESS) else {
+        return Err(unreadable());
+    };
+    let asked = patterns(rt.alloc())?;
+    print_calls::<R, Civic>(rt, patterns(rt.alloc())?, &asked, &place, are_made)
+}
+
+fn print_required<R: Print + AllocGlobal>(rt: &R, are_made: bool) -> io::Result<()> {
+    let Some(place) = required(rt.alloc(), REQUIRED) else {
+        return Err(unreadable());
+    };
+    let asked = patterns(rt.alloc())?;
+    print_calls::<R, References>(rt, patterns(rt.alloc())?, &asked, &place, are_made)
+}
+
+fn print_tokens<R: Print + AllocGlobal>(rt: &R, are_made: bool) -> io::Result<()> {
+    let place = token(rt.alloc(), "t2")?;
+    let asked = two(rt.alloc(), "t1 t2", "t3")?;
+    let kept = two(rt.alloc(), "t1 t2", "t3")?;
+    print_calls::<R, Tokens>(rt, kept, &asked, &place, are_made)
 }
 
 /// Makes an index of two regions. If `are_made`, prints which of the others contain a location, cuts one of the two
@@ -52,12 +73,22 @@ fn print_calls<R: Print + AllocGlobal, P: Profile>(
     if !are_made {
         return Ok(());
     }
-    for region in asked {
-        println!(rt; "contains {}", P::contains(region, location))?;
-    }
+    print_contained::<R, P>(rt, asked, location)?;
     index.cut(1, 1, 2);
     index.take(1);
     println!(rt; "cut and taken")
+}
+
+/// Prints which regions contain a location.
+fn print_contained<R: Print, P: Profile>(
+    rt: &R,
+    regions: &[P::Region],
+    location: &P::Location,
+) -> io::Result<()> {
+    for region in regions {
+        println!(rt; "contains {}", P::contains(region, location))?;
+    }
+    Ok(())
 }
 
 /// A square that holds the point of the questions, and one that is far from it.
@@ -75,9 +106,17 @@ fn patterns(alloc: Global) -> io::Result<Vec<CivicPattern>>
     ensures { IfOk result (λ regions. length regions.items ≡ 2) }
 {
     let mut regions = Vec::new(alloc);
-    regions.push(pattern(alloc, "country=US;A3=Leonia").ok_or_else(unreadable)?)?;
-    regions.push(pattern(alloc, "country=US;A3=Fort Lee").ok_or_else(unreadable)?)?;
+    regions.push(in_town(alloc, "country=US;A3=Leonia")?)?;
+    regions.push(in_town(alloc, "country=US;A3=Fort Lee")?)?;
     Ok(regions)
+}
+
+/// The pattern of a text.
+fn in_town(alloc: Global, text: &str) -> io::Result<CivicPattern> {
+    match pattern(alloc, text) {
+        Some(pattern) => Ok(pattern),
+        None => Err(unreadable()),
+    }
 }
 
 /// A text is no pattern or address, or memory was refused.

@@ -7,11 +7,15 @@ use std::io;
 
 /// Prints the covers and the probes of the rows.
 pub(crate) fn print_all<R: Print + AllocGlobal>(rt: &R) -> io::Result<()> {
-    print_cover(rt, "a square of a degree", NEAR)?;
-    print_cover(rt, "one far from it", FAR)?;
-    print_cover(rt, "a little under two cells of level 2 high", UNDER_TWO)?;
-    print_cover(rt, "two cells of level 2 high", TWO)?;
-    print_cover(rt, "the earth", EARTH)?;
+    for (name, corners) in [
+        ("a square of a degree", NEAR),
+        ("one far from it", FAR),
+        ("a little under two cells of level 2 high", UNDER_TWO),
+        ("two cells of level 2 high", TWO),
+        ("the earth", EARTH),
+    ] {
+        print_cover(rt, name, corners)?;
+    }
     print_probes(rt)
 }
 

@@ -10,7 +10,7 @@
 //!   it may. It must where the pattern contains the address, and it refuses most others.
 
 use super::reading::{address, pattern, required};
-use lost_civic::Element;
+use lost_civic::{CivicAddress, Element};
 use lost_civicdex::{Civic, HashedKey, References};
 use lost_profile::Profile;
 use std::alloc::{AllocError, Global};
@@ -41,27 +41,35 @@ fn print_lines<R: Print + AllocGlobal>(rt: &R, table: &str) -> io::Result<()> {
 fn answer(alloc: Global, line: &str) -> Option<String> {
     let (question, rest) = line.split_once(' ')?;
     match question {
-        "cover" => written(alloc, Civic::cover(alloc, &pattern(alloc, rest)?), rest),
-        "probes" => written(alloc, Civic::probes(alloc, &address(alloc, rest)?), rest),
+        "cover" => cover(alloc, rest),
+        "probes" => probes(alloc, rest),
         "contains" | "near" => with_address(alloc, question, rest),
-        "reference-cover" => {
-            written(
-                alloc,
-                References::cover(alloc, &pattern(alloc, rest)?),
-                rest,
-            )
-        }
-        "reference-probes" => {
-            let (pairs, _) = rest.split_once(" / ")?;
-            written(
-                alloc,
-                References::probes(alloc, &required(alloc, rest)?),
-                pairs,
-            )
-        }
+        "reference-cover" => reference_cover(alloc, rest),
+        "reference-probes" => reference_probes(alloc, rest),
         "refers" | "reference-near" => with_required(alloc, question, rest),
         _ => None,
     }
+}
+
+fn cover(alloc: Global, text: &str) -> Option<String> {
+    let pattern = pattern(alloc, text)?;
+    written(alloc, Civic::cover(alloc, &pattern), text)
+}
+
+fn probes(alloc: Global, text: &str) -> Option<String> {
+    let address = address(alloc, text)?;
+    written(alloc, Civic::probes(alloc, &address), text)
+}
+
+fn reference_cover(alloc: Global, text: &str) -> Option<String> {
+    let pattern = pattern(alloc, text)?;
+    written(alloc, References::cover(alloc, &pattern), text)
+}
+
+fn reference_probes(alloc: Global, text: &str) -> Option<String> {
+    let (pairs, _) = text.split_once(" / ")?;
+    let required = required(alloc, text)?;
+    written(alloc, References::probes(alloc, &required), pairs)
 }
 
 /// Whether a pattern contains an address, or its outline says that it may.
@@ -96,19 +104,30 @@ fn written(alloc: Global, keys: Result<Vec<HashedKey>, AllocError>, pairs: &str)
     let own = address(alloc, pairs)?;
     let mut text = String::new(alloc);
     for key in &keys.ok()? {
-        for element in Element::ALL {
-            match own.text(element) {
-                Some(value) if HashedKey::new(element, value) == *key => {
-                    if !text.is_empty() {
-                        text.push(';').ok()?;
-                    }
-                    text.push_str(element.name()).ok()?;
-                    text.push('=').ok()?;
-                    text.push_str(value).ok()?;
-                }
-                _ => {}
-            }
-        }
+        push_key(&mut text, key, &own).ok()?;
     }
     Some(text)
+}
+
+/// Appends the pair of an address that has the hash of a key.
+fn push_key(text: &mut String, key: &HashedKey, own: &CivicAddress) -> Result<(), AllocError> {
+    for element in Element::ALL {
+        match own.text(element) {
+            Some(value) if HashedKey::new(element, value) == *key => {
+                push_pair(text, element.name(), value)?;
+            }
+            _ => {}
+        }
+    }
+    Ok(())
+}
+
+/// Appends a pair, with a `;` before it where it is not the first.
+fn push_pair(text: &mut String, name: &str, value: &str) -> Result<(), AllocError> {
+    if !text.is_empty() {
+        text.push(';')?;
+    }
+    text.push_str(name)?;
+    text.push('=')?;
+    text.push_str(value)
 }

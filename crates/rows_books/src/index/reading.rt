@@ -8,12 +8,17 @@ use std::alloc::Global;
 fn pairs(alloc: Global, text: &str) -> Option<Vec<(String, String)>> {
     let mut pairs = Vec::new(alloc);
     for part in text.split(';') {
-        let (name, value) = part.split_once('=')?;
-        let name = String::from_str(alloc, name).ok()?;
-        let value = String::from_str(alloc, value).ok()?;
-        pairs.push((name, value)).ok()?;
+        pairs.push(pair(alloc, part)?).ok()?;
     }
     Some(pairs)
+}
+
+/// The pair of a text such as `A1=NJ`.
+fn pair(alloc: Global, text: &str) -> Option<(String, String)> {
+    let (name, value) = text.split_once('=')?;
+    let name = String::from_str(alloc, name).ok()?;
+    let value = String::from_str(alloc, value).ok()?;
+    Some((name, value))
 }
 
 pub(crate) fn pattern(alloc: Global, text: &str) -> Option<CivicPattern> {

@@ -25,11 +25,15 @@ pub(crate) const EARTH: Corners = (-900_000_000, -1_800_000_000, 900_000_000, 1_
 pub(crate) fn square(alloc: Global, corners: Corners) -> io::Result<Polygon> {
     let (south, west, north, east) = corners;
     let mut ring = Vec::new(alloc);
-    ring.push(point(south, west)?)?;
-    ring.push(point(south, east)?)?;
-    ring.push(point(north, east)?)?;
-    ring.push(point(north, west)?)?;
-    ring.push(point(south, west)?)?;
+    for (lat, lon) in [
+        (south, west),
+        (south, east),
+        (north, east),
+        (north, west),
+        (south, west),
+    ] {
+        ring.push(point(lat, lon)?)?;
+    }
     match Polygon::new(ring) {
         Ok(polygon) => Ok(polygon),
         Err(_) => Err(io::Error::from(io::ErrorKind::InvalidInput)),

@@ -2,7 +2,7 @@
 ghost use Rattle.std.specs.Prelude.{◌≡◌, [], IfOk, length};
 
 use super::rings::{FAR, NEAR, point, square};
-use super::sets::{set, token};
+use super::sets::{print_found, set, token};
 use lost_geo::Polygon;
 use lost_grid::Geodetic2d;
 use lost_index::Index;
@@ -52,20 +52,36 @@ impl Row for Tokens {
 
 /// Prints what the index answers at each step of the row, and then tries alone each step that takes memory.
 pub(crate) fn print_all<R: Print + AllocGlobal, P: Row>(rt: &R) -> io::Result<()> {
-    print_row::<R, P>(rt, &mut Index::new(rt.alloc()))?;
+    print_steps::<R, P>(rt)?;
     try_first_put::<R, P>(rt, &mut Index::new(rt.alloc()))?;
     try_second_put::<R, P>(rt, &mut Index::new(rt.alloc()))?;
-    try_add::<R, P>(rt, &mut Index::new(rt.alloc()))
+    try_last_step::<R, P>(rt)
 }
 
-/// Prints what an index answers at each step of the row.
-fn print_row<R: Print + AllocGlobal, P: Row>(rt: &R, index: &mut Index<P>) -> io::Result<()>
-    requires { index.old ≡ [] }
+/// Makes the regions, and prints what an index of them answers at each step of the row.
+fn print_steps<R: Print + AllocGlobal, P: Row>(rt: &R) -> io::Result<()> {
+    let alloc = rt.alloc();
+    let first = near::<P>(alloc)?;
+    let second = near_twice::<P>(alloc)?;
+    print_row::<R, P>(rt, &mut Index::new(alloc), first, second, far::<P>(alloc)?)
+}
+
+/// Prints what an index answers at each step of the row: it puts the first and the second regions, and then adds more.
+fn print_row<R: Print + AllocGlobal, P: Row>(
+    rt: &R,
+    index: &mut Index<P>,
+    first: Vec<P::Region>,
+    second: Vec<P::Region>,
+    more: Vec<P::Region>,
+) -> io::Result<()>
+    requires empty { index.old ≡ [] }
+    requires single { length first.items ≡ 1 }
+    requires further { length more.items ≡ 1 }
 {
-    index.put(1, near::<P>(rt.alloc())?)?;
-    index.put(2, near_twice::<P>(rt.alloc())?)?;
+    index.put(1, first)?;
+    index.put(2, second)?;
     print_asked(rt, "put", index)?;
-    index.add(1, far::<P>(rt.alloc())?)?;
+    index.add(1, more)?;
     print_asked(rt, "add", index)?;
     index.cut(1, 1, 2);
     print_asked(rt, "cut", index)?;
@@ -99,12 +115,24 @@ fn try_second_put<R: Print + AllocGlobal, P: Row>(rt: &R, index: &mut Index<P>) 
     print_asked(rt, "second put again", index)
 }
 
-/// The same with the add.
-fn try_add<R: Print + AllocGlobal, P: Row>(rt: &R, index: &mut Index<P>) -> io::Result<()>
+/// Makes the regions of both puts, and does the same with the add after them.
+fn try_last_step<R: Print + AllocGlobal, P: Row>(rt: &R) -> io::Result<()> {
+    let alloc = rt.alloc();
+    let first = near::<P>(alloc)?;
+    try_add::<R, P>(rt, &mut Index::new(alloc), first, near_twice::<P>(alloc)?)
+}
+
+/// Puts the first and the second regions, and does the same with the add.
+fn try_add<R: Print + AllocGlobal, P: Row>(
+    rt: &R,
+    index: &mut Index<P>,
+    first: Vec<P::Region>,
+    second: Vec<P::Region>,
+) -> io::Result<()>
     requires { index.old ≡ [] }
 {
-    index.put(1, near::<P>(rt.alloc())?)?;
-    index.put(2, near_twice::<P>(rt.alloc())?)?;
+    index.put(1, first)?;
+    index.put(2, second)?;
     if index.add(1, far::<P>(rt.alloc())?).is_ok() {
         return Ok(());
     }
@@ -152,10 +180,7 @@ fn print_asked<R: Print + AllocGlobal, P: Row>(
 }
 
 /// Prints the name of a step and its numbers.
-fn print_numbers<R: Print + AllocGlobal>(rt: &R, step: &str, numbers: &[u64]) -> io::Result<()> {
+fn print_numbers<R: Print>(rt: &R, step: &str, numbers: &[u64]) -> io::Result<()> {
     print!(rt; "{step}:")?;
-    for number in numbers {
-        print!(rt; " {number}")?;
-    }
-    println!(rt; "")
+    print_found(rt, numbers)
 }

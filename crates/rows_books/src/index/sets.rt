@@ -1,5 +1,5 @@
 //! Indexes of token sets: which numbers hold each token, while sets are put, added, cut and taken.
-ghost use Rattle.std.specs.Prelude.{◌≡◌, IfOk, length};
+ghost use Rattle.std.specs.Prelude.{◌≡◌, [], IfOk, length};
 
 use lost_index::Index;
 use lost_profile::{Token, TokenError, TokenSet, Tokens};
@@ -17,34 +17,35 @@ const ASKED_AGAIN: [&str; 3] = ["t1", "t2", "t3"];
 
 /// Prints which numbers hold each token, of three numbers that are put, and then of two of which one changes.
 pub(crate) fn print_all<R: Print + AllocGlobal>(rt: &R) -> io::Result<()> {
-    print_three(rt)?;
-    print_changes(rt)
+    print_three(rt, &mut Index::new(rt.alloc()))?;
+    print_changes(rt, &mut Index::new(rt.alloc()))
 }
 
 /// Puts three numbers: with a set of two tokens, with two sets, and with one of 64.
-fn print_three<R: Print + AllocGlobal>(rt: &R) -> io::Result<()> {
+fn print_three<R: Print + AllocGlobal>(rt: &R, index: &mut Index<Tokens>) -> io::Result<()>
+    requires { index.old ≡ [] }
+{
     let alloc = rt.alloc();
-    let mut index: Index<Tokens> = Index::new(alloc);
     index.put(1, one(alloc, "t1 t2")?)?;
     index.put(2, two(alloc, "T1 t2", "t4 t1 1")?)?;
-    let many = sixty_four(alloc)?;
-    index.put(3, one(alloc, many.as_str())?)?;
-    print_holders(rt, "three", &index, &ASKED)
+    index.put(3, one_of_many(alloc)?)?;
+    print_holders(rt, "three", index, &ASKED)
 }
 
 /// Puts two numbers, changes the first one's set to another by an add and a cut, and takes the second one.
-fn print_changes<R: Print + AllocGlobal>(rt: &R) -> io::Result<()> {
+fn print_changes<R: Print + AllocGlobal>(rt: &R, index: &mut Index<Tokens>) -> io::Result<()>
+    requires { index.old ≡ [] }
+{
     let alloc = rt.alloc();
-    let mut index: Index<Tokens> = Index::new(alloc);
     index.put(1, one(alloc, "t1 t2")?)?;
     index.put(2, two(alloc, "t2", "t4")?)?;
-    print_holders(rt, "put", &index, &ASKED_AGAIN)?;
+    print_holders(rt, "put", index, &ASKED_AGAIN)?;
     index.add(1, one(alloc, "t3")?)?;
-    print_holders(rt, "add", &index, &ASKED_AGAIN)?;
+    print_holders(rt, "add", index, &ASKED_AGAIN)?;
     index.cut(1, 1, 2);
-    print_holders(rt, "cut", &index, &ASKED_AGAIN)?;
+    print_holders(rt, "cut", index, &ASKED_AGAIN)?;
     index.take(2);
-    print_holders(rt, "take", &index, &ASKED_AGAIN)
+    print_holders(rt, "take", index, &ASKED_AGAIN)
 }
 
 /// Prints the numbers that hold each token after a step.
@@ -56,13 +57,17 @@ fn print_holders<R: Print + AllocGlobal>(
 ) -> io::Result<()> {
     for text in asked {
         print!(rt; "{step}, {text}:")?;
-        let numbers = index.holding(&token(rt.alloc(), *text)?)?;
-        for number in &numbers {
-            print!(rt; " {number}")?;
-        }
-        println!(rt; "")?;
+        print_found(rt, &index.holding(&token(rt.alloc(), *text)?)?)?;
     }
     Ok(())
+}
+
+/// Prints numbers, and ends the line.
+pub(crate) fn print_found<R: Print>(rt: &R, numbers: &[u64]) -> io::Result<()> {
+    for number in numbers {
+        print!(rt; " {number}")?;
+    }
+    println!(rt; "")
 }
 
 /// One set, of the tokens of a text with spaces between them.
@@ -72,6 +77,12 @@ fn one(alloc: Global, text: &str) -> io::Result<Vec<TokenSet>>
     let mut regions = Vec::new(alloc);
     regions.push(set(alloc, text)?)?;
     Ok(regions)
+}
+
+/// One set, of 64 tokens.
+fn one_of_many(alloc: Global) -> io::Result<Vec<TokenSet>> {
+    let text = sixty_four(alloc)?;
+    one(alloc, text.as_str())
 }
 
 /// Two sets.

@@ -4,5 +4,5 @@ use Rattle.rows_books.proofs.index.row.try_add.Goals as goal
 
 pub add-requires : goal.add-requires
 add-requires g c =
-    first_held c.args.index.now c.put.new.self c.put-2.new.self c.in_ok-near.field-0.items c.in_ok-near_twice.field-0.items
+    first_held c.args.index.now c.put.new.self c.put-2.new.self c.args.first.items c.args.second.items
     c.requires c.in_ok-put.ensures.put c.in_ok-put-2.ensures.put
