@@ -20,22 +20,19 @@ const NEXT: &str = "next\n";
 pub(crate) fn run<R: Files + Wait + Print + AllocGlobal>(rt: &R) -> io::Result<()> {
     let text = fs::read_to_string(rt, "cache.lines")?;
     for session in text.as_str().split(NEXT) {
-        if !is_run(rt, session)? {
-            is_run(rt, session)?;
-        }
+        run_session(rt, session)?;
     }
     Ok(())
 }
 
-/// Runs the lines of a session. If its desk is refused, prints that and gives false.
-fn is_run<R: Wait + Print + AllocGlobal>(rt: &R, text: &str) -> io::Result<bool> {
+/// Runs the lines of a session.
+fn run_session<R: Wait + Print + AllocGlobal>(rt: &R, text: &str) -> io::Result<()> {
     let Some((mut desk, mut readers)) = opened(rt, 2)? else {
-        return Ok(false);
+        return Ok(());
     };
     let result = take_and_answer(rt, &mut desk, &mut readers, text);
     desk.close(rt);
-    result?;
-    Ok(true)
+    result
 }
 
 /// Takes both readers, prints which capacities are refused, and answers lines.
@@ -89,14 +86,24 @@ fn handed_back<R: Print + AllocGlobal>(
         refusal.code.code()
     )?;
     let mut reader = refusal.reader;
+    print_answer(rt, &mut reader, setting, QUESTION)?;
+    Ok(reader)
+}
+
+/// Prints the answer of a replier to a line. If memory is refused, it is asked again, once.
+fn print_answer<R: Print + AllocGlobal, P: Replier>(
+    rt: &R,
+    replier: &mut P,
+    setting: &Setting,
+    line: &[u8],
+) -> io::Result<()> {
     let (name, moment) = (&setting.name, &setting.moment);
-    let mut reply = reader.reply_line(rt.alloc(), name, moment, QUESTION);
+    let mut reply = replier.reply_line(rt.alloc(), name, moment, line);
     if reply.is_err() {
         say_memory(rt)?;
-        reply = reader.reply_line(rt.alloc(), name, moment, QUESTION);
+        reply = replier.reply_line(rt.alloc(), name, moment, line);
     }
-    print_reply(rt, reply)?;
-    Ok(reader)
+    print_reply(rt, reply)
 }
 
 /// Answers each line that is not empty, and prints the counts.
@@ -114,12 +121,7 @@ fn answer_lines<R: Wait + Print + AllocGlobal>(
     for line in text.lines() {
         if !line.is_empty() && !is_ordered(rt, desk, line)? {
             let bytes = line.as_bytes();
-            let mut reply = cached.reply_line(rt.alloc(), name, moment, bytes);
-            if reply.is_err() {
-                say_memory(rt)?;
-                reply = cached.reply_line(rt.alloc(), name, moment, bytes);
-            }
-            print_reply(rt, reply)?;
+            print_answer(rt, cached, setting, bytes)?;
             let mut reply = reader.reply_line_over(rt.alloc(), &mut sets, name, moment, bytes);
             if reply.is_err() {
                 say_memory(rt)?;
@@ -128,7 +130,12 @@ fn answer_lines<R: Wait + Print + AllocGlobal>(
             print_reply(rt, reply)?;
         }
     }
-    println!(rt; "hits {}", cached.hits())?;
+    print_counts(rt, cached.hits(), &sets)
+}
+
+/// Prints the counts of both readers.
+fn print_counts<R: Print>(rt: &R, hits: u64, sets: &Counting) -> io::Result<()> {
+    println!(rt; "hits {hits}")?;
     println!(rt;
         "finds {}, sets {}, keeps {}",
         sets.finds, sets.found, sets.keeps

@@ -3,9 +3,9 @@
 //! accepts, and a line `refused` one that it refuses after the others are committed.
 ghost use Rattle.std.specs.Prelude.{◌≡◌};
 
-use crate::desks::orders::say_memory;
+use crate::desks::orders::commit;
 use lost_book::Edit;
-use lost_desk::{Desk, Readers, open_desk};
+use lost_desk::{Desk, Reader, Readers, open_desk};
 use lost_json::{DeskLine, DeskReply, DeskText, read_desk, write_desk};
 use lost_spec::Coded;
 use lost_worker::CachedReader;
@@ -21,10 +21,10 @@ pub(crate) fn run<R: Files + Wait + Print + AllocGlobal>(rt: &R, are_made: bool)
     for part in table.as_str().split("limits ").skip(1) {
         run_part(rt, part, are_made)?;
     }
-    if are_made {
-        write_replies(rt)?;
+    if !are_made {
+        return Ok(());
     }
-    Ok(())
+    write_replies(rt)
 }
 
 /// Makes the desk of a part of the table, and the calls.
@@ -58,6 +58,19 @@ fn prepare_and_call<R: Wait + Print + AllocGlobal>(
     if desk.commit(rt).is_err() {
         return Err(AllocError.into());
     }
+    take_and_call(rt, desk, readers, refused, are_made)
+}
+
+/// Takes a reader that keeps a place, and makes the calls.
+fn take_and_call<R: Wait + Print + AllocGlobal>(
+    rt: &R,
+    desk: &mut Desk,
+    readers: &mut Readers,
+    refused: Vec<Edit>,
+    are_made: bool,
+) -> io::Result<()>
+    requires { readers.old.each.opening ≡ desk.old.opening }
+{
     let Some(reader) = readers.take() else {
         return Err(unfit());
     };
@@ -65,12 +78,12 @@ fn prepare_and_call<R: Wait + Print + AllocGlobal>(
         return Err(AllocError.into());
     };
     println!(rt; "prepared")?;
-    if are_made {
-        tell_and_learn(rt, desk, readers)?;
-        println!(rt; "hits {}", cached.hits())?;
-        refuse(rt, desk, refused)?;
+    if !are_made {
+        return Ok(());
     }
-    Ok(())
+    tell_and_learn(rt, desk, readers)?;
+    println!(rt; "hits {}", cached.hits())?;
+    refuse(rt, desk, refused)
 }
 
 /// Stages the edits that are accepted, and keeps those that are refused later.
@@ -106,36 +119,41 @@ fn stage_line(alloc: Global, desk: &mut Desk, line: &str, refused: &mut Vec<Edit
     }
 }
 
-/// Tells the second reader what is published, and prints whether there is a third one; then commits with nothing
-/// pending.
+/// Tells the second reader what is published, and prints whether there is a third one. Commits with nothing pending.
 fn tell_and_learn<R: Wait + Print>(rt: &R, desk: &mut Desk, readers: &mut Readers) -> io::Result<()>
     requires { readers.old.each.opening ≡ desk.old.opening }
 {
     let Some(mut reader) = readers.take() else {
         return Err(unfit());
     };
+    learn(rt, desk, &mut reader)?;
+    println!(rt; "a third reader: {}", readers.take().is_some())?;
+    commit(rt, desk)
+}
+
+/// Tells a reader what is published, and prints the editions.
+fn learn<R: Print>(rt: &R, desk: &mut Desk, reader: &mut Reader) -> io::Result<()>
+    requires { reader.old.opening ≡ desk.old.opening }
+{
     let told = desk.tell();
     print!(rt; "told, edition {}", told.edition())?;
     reader.learn(told);
-    println!(rt; ", and learned, edition {}", reader.edition())?;
-    println!(rt; "a third reader: {}", readers.take().is_some())?;
-    match desk.commit(rt) {
-        Ok(edition) => println!(rt; "committed, edition {edition}"),
-        Err(_) => say_memory(rt),
-    }
+    println!(rt; ", and learned, edition {}", reader.edition())
 }
 
 /// Prints how a desk refuses each edit, and then the edition again.
 fn refuse<R: Wait + Print>(rt: &R, desk: &mut Desk, refused: Vec<Edit>) -> io::Result<()> {
     for edit in refused.into_iter() {
-        match desk.stage(edit) {
-            Ok(pending) => println!(rt; "staged, pending {pending}")?,
-            Err(error) => println!(rt; "refused, code {}", error.code())?,
-        }
+        refuse_edit(rt, desk, edit)?;
     }
-    match desk.commit(rt) {
-        Ok(edition) => println!(rt; "committed, edition {edition}"),
-        Err(_) => say_memory(rt),
+    commit(rt, desk)
+}
+
+/// Prints how a desk refuses an edit.
+fn refuse_edit<R: Print>(rt: &R, desk: &mut Desk, edit: Edit) -> io::Result<()> {
+    match desk.stage(edit) {
+        Ok(pending) => println!(rt; "staged, pending {pending}"),
+        Err(error) => println!(rt; "refused, code {}", error.code()),
     }
 }
 

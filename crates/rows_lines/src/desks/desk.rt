@@ -16,21 +16,17 @@ pub(crate) fn run<R: Files + Wait + Print + AllocGlobal>(rt: &R) -> io::Result<(
     for workers in [0, 65] {
         refused(rt, workers)?;
     }
-    if !is_run(rt, text.as_str())? {
-        is_run(rt, text.as_str())?;
-    }
-    Ok(())
+    run_lines(rt, text.as_str())
 }
 
-/// Runs lines by a desk of their own. If it is refused, prints that and gives false.
-fn is_run<R: Wait + Print + AllocGlobal>(rt: &R, text: &str) -> io::Result<bool> {
+/// Runs lines by a desk of their own.
+fn run_lines<R: Wait + Print + AllocGlobal>(rt: &R, text: &str) -> io::Result<()> {
     let Some((mut desk, mut readers)) = opened(rt, 1)? else {
-        return Ok(false);
+        return Ok(());
     };
     let result = take_and_answer(rt, &mut desk, &mut readers, text);
     desk.close(rt);
-    result?;
-    Ok(true)
+    result
 }
 
 /// Prints how a desk with so many workers is refused.

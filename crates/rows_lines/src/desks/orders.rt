@@ -1,7 +1,7 @@
 //! The answers of a desk to its lines, as they are printed. If memory is refused for a line, the answer says so.
 ghost use Rattle.std.specs.Prelude.{◌≡◌, IfOk, IfSome};
 
-use lost_book::EditError;
+use lost_book::{Edit, EditError};
 use lost_desk::{CommitError, Desk, Readers, open_desk};
 use lost_json::{DeskFault, DeskLine, read_desk};
 use lost_mapping::MappingError;
@@ -15,8 +15,22 @@ use test_parts::limits;
 pub(crate) const QUESTION: &[u8] =
     br#"{"findService":{"location":[{"id":"p","pos":[5000000,5000000],"profile":"geodetic-2d"}],"service":"urn:service:sos.police"}}"#;
 
-/// A desk with so many readers. If it is refused, prints that.
+/// A desk with so many readers. If it is refused, prints that and asks for it again, once.
 pub(crate) fn opened<R: Wait + Print + AllocGlobal>(
+    rt: &R,
+    readers: u32,
+) -> io::Result<Option<(Desk, Readers)>>
+    ensures { IfOk result (λ found. IfSome found (λ parts. parts.1.each.opening ≡ parts.0.opening)) }
+{
+    match opened_at_once(rt, readers) {
+        Ok(Some(parts)) => Ok(Some(parts)),
+        Ok(None) => opened_at_once(rt, readers),
+        Err(error) => Err(error),
+    }
+}
+
+/// A desk with so many readers. If it is refused, prints that.
+fn opened_at_once<R: Wait + Print + AllocGlobal>(
     rt: &R,
     readers: u32,
 ) -> io::Result<Option<(Desk, Readers)>>
@@ -40,12 +54,26 @@ pub(crate) fn is_ordered<R: Wait + Print + AllocGlobal>(
     ensures { desk.new.opening ≡ desk.old.opening }
 {
     match read_desk(rt.alloc(), line.as_bytes()) {
-        Ok(Some(order)) => order_desk(rt, desk, order)?,
-        Ok(None) => return Ok(false),
-        Err(DeskFault::Mapping(MappingError::Memory)) => say_memory(rt)?,
-        Err(_) => println!(rt; "no desk line")?,
+        Ok(Some(order)) => is_printed(order_desk(rt, desk, order)),
+        Ok(None) => Ok(false),
+        Err(fault) => is_printed(say_fault(rt, fault)),
     }
-    Ok(true)
+}
+
+/// True, unless it could not be printed.
+fn is_printed(printed: io::Result<()>) -> io::Result<bool> {
+    match printed {
+        Ok(()) => Ok(true),
+        Err(error) => Err(error),
+    }
+}
+
+/// Prints why a line could not be read.
+fn say_fault<R: Print>(rt: &R, fault: DeskFault) -> io::Result<()> {
+    match fault {
+        DeskFault::Mapping(MappingError::Memory) => say_memory(rt),
+        _ => println!(rt; "no desk line"),
+    }
 }
 
 /// Gives the desk an order, and prints the answer.
@@ -53,15 +81,29 @@ fn order_desk<R: Wait + Print>(rt: &R, desk: &mut Desk, order: DeskLine) -> io::
     ensures { desk.new.opening ≡ desk.old.opening }
 {
     match order {
-        DeskLine::Edit(edit) => match desk.stage(edit) {
-            Ok(pending) => println!(rt; "staged, pending {pending}"),
-            Err(EditError::Memory) => say_memory(rt),
-            Err(error) => println!(rt; "refused, code {}", error.code()),
-        },
-        DeskLine::Commit => match desk.commit(rt) {
-            Ok(edition) => println!(rt; "committed, edition {edition}"),
-            Err(CommitError::Memory) => say_memory(rt),
-        },
+        DeskLine::Edit(edit) => stage(rt, desk, edit),
+        DeskLine::Commit => commit(rt, desk),
+    }
+}
+
+/// Has the desk stage an edit, and prints the answer.
+fn stage<R: Print>(rt: &R, desk: &mut Desk, edit: Edit) -> io::Result<()>
+    ensures { desk.new.opening ≡ desk.old.opening }
+{
+    match desk.stage(edit) {
+        Ok(pending) => println!(rt; "staged, pending {pending}"),
+        Err(EditError::Memory) => say_memory(rt),
+        Err(error) => println!(rt; "refused, code {}", error.code()),
+    }
+}
+
+/// Has the desk commit, and prints the answer.
+pub(crate) fn commit<R: Wait + Print>(rt: &R, desk: &mut Desk) -> io::Result<()>
+    ensures { desk.new.opening ≡ desk.old.opening }
+{
+    match desk.commit(rt) {
+        Ok(edition) => println!(rt; "committed, edition {edition}"),
+        Err(CommitError::Memory) => say_memory(rt),
     }
 }
 
@@ -70,10 +112,10 @@ pub(crate) fn print_reply<R: Print>(rt: &R, reply: Result<Vec<u8>, AllocError>) 
     let Ok(reply) = reply else {
         return say_memory(rt);
     };
-    if let Ok(text) = std::str::from_utf8(reply.as_slice()) {
-        print!(rt; "{text}")?;
+    match std::str::from_utf8(reply.as_slice()) {
+        Ok(text) => print!(rt; "{text}"),
+        Err(_) => Ok(()),
     }
-    Ok(())
 }
 
 /// Prints that memory was refused.
