@@ -27,17 +27,24 @@ pub(crate) fn happen(
 ) -> Result<(), AllocError> {
     let (word, rest) = event.split_once(' ').unwrap_or((event, ""));
     match word {
-        "reply" | "busy" | "idle" | "hits" => at_worker(alloc, word, rest, status)?,
+        "reply" | "busy" | "idle" | "hits" => return at_worker(alloc, word, rest, status),
+        "after" => watch.pass(number_of(rest)),
+        "ready" => status.set_ready(),
+        _ => at_connection(event, status),
+    }
+    Ok(())
+}
+
+/// Lets an event of a query connection happen, or one of the desk.
+fn at_connection(event: &str, status: &Status) {
+    match event {
         "accepted" => status.count_accepted(),
         "taken" => status.count_taken(),
         "ended" => status.count_ended(false),
         "failed" => status.count_ended(true),
-        "turned" => status.count_refused(),
-        "after" => watch.pass(number_of(rest)),
-        "ready" => status.set_ready(),
+        "turned away" => status.count_refused(),
         _ => at_desk(event, status),
     }
-    Ok(())
 }
 
 /// Lets an event of a worker happen.
@@ -47,7 +54,7 @@ fn at_worker(alloc: Global, word: &str, rest: &str, status: &Status) -> Result<(
         return Ok(());
     };
     match word {
-        "reply" => count(alloc, worker, rest)?,
+        "reply" => return count(alloc, worker, rest),
         "hits" => worker.set_cache_hits(number_of(rest)),
         _ => worker.set_busy(word == "busy"),
     }

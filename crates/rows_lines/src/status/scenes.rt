@@ -24,14 +24,27 @@ pub(crate) fn play<R: Print + RandomSource + Threads + AllocGlobal + Sync>(
     rt: &R,
 ) -> io::Result<()> {
     let status = Status::new(rt.alloc(), 2, Duration::from_secs(STARTED))?;
+    cut_off_clients(rt, &status)?;
+    thread::join(rt, || count(&status, 0), || count(&status, 1));
+    print_metrics(rt, &status)
+}
+
+/// Serves both clients that are cut off, and prints what each one gets.
+fn cut_off_clients<R: Print + RandomSource + AllocGlobal>(
+    rt: &R,
+    status: &Status,
+) -> io::Result<()> {
     let keys = RandomState::new(rt)?;
-    let (reads, written) = slow_client(rt.alloc(), keys, &status)?;
+    let (reads, written) = slow_client(rt.alloc(), keys, status)?;
     println!(rt;
         "a byte a second, for at most {LIMIT} seconds: reads {reads}, bytes written {written}"
     )?;
-    let written = broken_client(rt.alloc(), keys, &status)?;
-    println!(rt; "the third write fails: bytes written {written}")?;
-    thread::join(rt, || count(&status, 0), || count(&status, 1));
+    let written = broken_client(rt.alloc(), keys, status)?;
+    println!(rt; "the third write fails: bytes written {written}")
+}
+
+/// Prints the metrics of replies and of open connections.
+fn print_metrics<R: Print + AllocGlobal>(rt: &R, status: &Status) -> io::Result<()> {
     let metrics = status.metrics(rt.alloc(), Duration::from_secs(STARTED))?;
     for line in metrics.as_str().lines() {
         if line.contains("kind=\"notFound\"") || line.starts_with("lostd_connections_open") {
