@@ -1,6 +1,7 @@
 //! Connections that are served in bursts.
 use crate::always::moments_of;
 use crate::sipping::{Piecewise, Sipping};
+use crate::telling::tell_lines;
 use lost_connections::{Client, ClientFault, Progress};
 use lost_worker::{NoGate, Replier, Turns, Watched, serve_lines};
 use std::alloc::Global;
@@ -65,20 +66,12 @@ fn serve_whole<'a, R: Print + AllocGlobal, P: Replier>(
     bytes: &'a [u8],
 ) -> io::Result<Served<'a>> {
     let whole = whole_text(rt.alloc(), replier, setting, bytes)?;
-    write_text(rt, whole.as_slice())?;
+    tell_lines(rt, whole.as_slice())?;
     Ok(Served {
         setting,
         bytes,
         whole,
     })
-}
-
-/// Prints a text.
-fn write_text<R: Print>(rt: &R, text: &[u8]) -> io::Result<()> {
-    for line in std::str::from_utf8(text).unwrap_or("no text").lines() {
-        println!(rt; "{line}")?;
-    }
-    Ok(())
 }
 
 /// The text written when a stream is served as a whole.

@@ -1,7 +1,7 @@
 //! Serves a stream by a replay, a desk or a reader.
 use crate::always::moments_of;
 use lost_book::Limits;
-use lost_desk::{Desk, Readers, open_desk};
+use lost_desk::{Desk, Reader, open_desk};
 use lost_replay::replay;
 use lost_worker::{Counts, NoGate, ServeError, Turns, Watched, serve_desk, serve_lines};
 use std::alloc::Global;
@@ -70,18 +70,8 @@ pub(crate) fn served<T: Wait, R: Read + Drop>(
 ) -> Option<Outcome> {
     match by {
         By::Replay => Some(by_replay(alloc, setting, reader, writer, turns)),
-        By::Desk => {
-            let (mut desk, _readers) = open_desk(rt, alloc, Limits::widest(), 1).ok()?;
-            let outcome = by_desk(rt, alloc, &mut desk, reader, writer, turns);
-            desk.close(rt);
-            Some(outcome)
-        }
-        By::Queries => {
-            let (desk, mut readers) = open_desk(rt, alloc, Limits::widest(), 1).ok()?;
-            let outcome = by_reader(alloc, setting, &mut readers, reader, writer, turns);
-            desk.close(rt);
-            outcome
-        }
+        By::Desk => by_new_desk(rt, alloc, reader, writer, turns),
+        By::Queries => by_reader_of_desk(rt, alloc, setting, reader, writer, turns),
     }
 }
 
@@ -99,6 +89,22 @@ fn by_replay<R: Read + Drop>(
     Outcome::of(served, &input, output)
 }
 
+/// Serves a stream by a desk with no edits.
+fn by_new_desk<T: Wait, R: Read + Drop>(
+    rt: &T,
+    alloc: Global,
+    reader: R,
+    writer: Sink,
+    turns: Turns,
+) -> Option<Outcome> {
+    let Ok((mut desk, _readers)) = open_desk(rt, alloc, Limits::widest(), 1) else {
+        return None;
+    };
+    let outcome = by_desk(rt, alloc, &mut desk, reader, writer, turns);
+    desk.close(rt);
+    Some(outcome)
+}
+
 /// Serves a stream by a desk.
 fn by_desk<T: Wait, R: Read + Drop>(
     rt: &T,
@@ -113,27 +119,46 @@ fn by_desk<T: Wait, R: Read + Drop>(
     Outcome::of(served, &input, output)
 }
 
-/// Serves a stream by a reader.
-fn by_reader<R: Read + Drop>(
+/// Serves a stream by a reader of a desk with no edits.
+fn by_reader_of_desk<T: Wait, R: Read + Drop>(
+    rt: &T,
     alloc: Global,
     setting: &Setting,
-    readers: &mut Readers,
     reader: R,
     writer: Sink,
     turns: Turns,
 ) -> Option<Outcome> {
+    let Ok((desk, mut readers)) = open_desk(rt, alloc, Limits::widest(), 1) else {
+        return None;
+    };
+    let outcome = match readers.take() {
+        Some(mut replier) => Some(by_reader(alloc, setting, &mut replier, reader, writer, turns)),
+        None => None,
+    };
+    desk.close(rt);
+    outcome
+}
+
+/// Serves a stream by a reader.
+fn by_reader<R: Read + Drop>(
+    alloc: Global,
+    setting: &Setting,
+    replier: &mut Reader,
+    reader: R,
+    writer: Sink,
+    turns: Turns,
+) -> Outcome {
     let (mut input, mut output) = (Watched::new(reader), Watched::new(writer));
-    let mut replier = readers.take()?;
     let mut moments = moments_of(setting);
     let served = serve_lines(
         alloc,
         &mut input,
         &mut output,
-        &mut replier,
+        replier,
         &setting.name,
         &mut moments,
         &NoGate,
         turns,
     );
-    Some(Outcome::of(served, &input, output))
+    Outcome::of(served, &input, output)
 }

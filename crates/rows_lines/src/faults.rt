@@ -1,4 +1,5 @@
 //! The texts of all faults, and the answers where memory is refused.
+use crate::telling::tell_text;
 use lost_json::{DeskFault, DeskReply, ReadError, desk_answer, internal_error};
 use lost_lines::Answer;
 use lost_replay::ServeError;
@@ -12,9 +13,9 @@ use std::io;
 
 /// Prints a line for each fault, from the lowest crate on, and the variants of each enum in their order.
 pub(crate) fn tell_faults<R: Print + AllocGlobal>(rt: &R) -> io::Result<()> {
-    print!(rt; "{}", value_texts(rt.alloc())?)?;
-    print!(rt; "{}", edit_texts(rt.alloc())?)?;
-    print!(rt; "{}", line_texts(rt.alloc())?)
+    value_texts(rt.alloc()).tell(rt)?;
+    edit_texts(rt.alloc()).tell(rt)?;
+    line_texts(rt.alloc()).tell(rt)
 }
 
 /// Prints the answers where memory for an edit is refused and where a line could not be kept, and whether each counts
@@ -29,111 +30,117 @@ pub(crate) fn tell_marks<R: Print>(rt: &R) -> io::Result<()> {
 
 /// Prints an answer, and whether it counts as a refusal of memory.
 fn tell_answer<R: Print>(rt: &R, answer: &Answer) -> io::Result<()> {
-    if let Ok(text) = std::str::from_utf8(answer.bytes()) {
-        print!(rt; "{text}")?;
-    }
+    tell_text(rt, answer.bytes())?;
     println!(rt; "counts {}", u8::from(answer.is_internal_error))
 }
 
-/// Adds a line for each fault of a list.
-fn add<F: Display + Copy>(text: &mut String, faults: &[F]) -> Result<(), AllocError> {
-    for fault in faults {
-        write!(text, "{}\n", *fault)?;
+/// Lines of texts, until memory is refused for one of them.
+#[derive(Drop)]
+struct Texts {
+    text: String,
+    is_refused: bool,
+}
+
+impl Texts {
+    /// No lines.
+    fn new(alloc: Global) -> Texts {
+        Texts {
+            text: String::new(alloc),
+            is_refused: false,
+        }
     }
-    Ok(())
+
+    /// Adds a line for each fault of a list.
+    fn add<F: Display + Copy>(&mut self, faults: &[F]) {
+        for fault in faults {
+            if write!(self.text, "{}\n", *fault).is_err() {
+                self.is_refused = true;
+            }
+        }
+    }
+
+    /// Prints the lines, unless memory was refused.
+    fn tell<R: Print>(&self, rt: &R) -> io::Result<()> {
+        if self.is_refused {
+            return Err(AllocError.into());
+        }
+        print!(rt; "{}", self.text)
+    }
 }
 
 /// The texts of the refusals of texts, points, rings and pairs.
-fn value_texts(alloc: Global) -> Result<String, AllocError> {
-    let mut text = String::new(alloc);
-    add(
-        &mut text,
-        &[
-            UrnError::Prefix,
-            UrnError::EmptyLabel,
-            UrnError::BadCharacter,
-            UrnError::HyphenAtEnd,
-            UrnError::LabelTooLong,
-            UrnError::TooManyLabels,
-            UrnError::Memory,
-        ],
-    )?;
-    add(&mut text, &[GeoError::Latitude, GeoError::Longitude])?;
-    add(
-        &mut text,
-        &[
-            RingError::TooShort,
-            RingError::NotClosed,
-            RingError::TooLong,
-        ],
-    )?;
-    add(
-        &mut text,
-        &[
-            CivicError::NoKnownElement,
-            CivicError::Repeated,
-            CivicError::TooLong,
-            CivicError::Memory,
-            CivicError::UnknownElement,
-        ],
-    )?;
-    add(&mut text, &[SourceError::Bad, SourceError::Memory])?;
-    add(&mut text, &[StampError::Bad, StampError::Memory])?;
-    Ok(text)
+fn value_texts(alloc: Global) -> Texts {
+    let mut texts = Texts::new(alloc);
+    texts.add(&[
+        UrnError::Prefix,
+        UrnError::EmptyLabel,
+        UrnError::BadCharacter,
+        UrnError::HyphenAtEnd,
+        UrnError::LabelTooLong,
+        UrnError::TooManyLabels,
+        UrnError::Memory,
+    ]);
+    texts.add(&[GeoError::Latitude, GeoError::Longitude]);
+    texts.add(&[
+        RingError::TooShort,
+        RingError::NotClosed,
+        RingError::TooLong,
+    ]);
+    texts.add(&[
+        CivicError::NoKnownElement,
+        CivicError::Repeated,
+        CivicError::TooLong,
+        CivicError::Memory,
+        CivicError::UnknownElement,
+    ]);
+    texts.add(&[SourceError::Bad, SourceError::Memory]);
+    texts.add(&[StampError::Bad, StampError::Memory]);
+    texts
 }
 
 /// The texts of the refusals of mappings and edits.
-fn edit_texts(alloc: Global) -> Result<String, AllocError> {
-    let mut text = String::new(alloc);
-    add(
-        &mut text,
-        &[
-            MappingError::BadSource,
-            MappingError::BadSourceId,
-            MappingError::BadStamp,
-            MappingError::BadExpires,
-            MappingError::BadService,
-            MappingError::BadUri,
-            MappingError::BadNumber,
-            MappingError::BadRegion,
-            MappingError::RegionMissing,
-            MappingError::TooLarge,
-            MappingError::BadKey,
-            MappingError::Memory,
-        ],
-    )?;
-    add(
-        &mut text,
-        &[
-            EditError::IdentityHeld,
-            EditError::IdentityUnknown,
-            EditError::NotNewer,
-            EditError::KeyHeld,
-            EditError::KeyUnchanged,
-            EditError::Full,
-            EditError::EditsSpent,
-            EditError::Memory,
-            EditError::Withdrawn,
-            EditError::TracesFull,
-        ],
-    )?;
-    Ok(text)
+fn edit_texts(alloc: Global) -> Texts {
+    let mut texts = Texts::new(alloc);
+    texts.add(&[
+        MappingError::BadSource,
+        MappingError::BadSourceId,
+        MappingError::BadStamp,
+        MappingError::BadExpires,
+        MappingError::BadService,
+        MappingError::BadUri,
+        MappingError::BadNumber,
+        MappingError::BadRegion,
+        MappingError::RegionMissing,
+        MappingError::TooLarge,
+        MappingError::BadKey,
+        MappingError::Memory,
+    ]);
+    texts.add(&[
+        EditError::IdentityHeld,
+        EditError::IdentityUnknown,
+        EditError::NotNewer,
+        EditError::KeyHeld,
+        EditError::KeyUnchanged,
+        EditError::Full,
+        EditError::EditsSpent,
+        EditError::Memory,
+        EditError::Withdrawn,
+        EditError::TracesFull,
+    ]);
+    texts
 }
 
 /// The texts of the faults of lines and streams.
-fn line_texts(alloc: Global) -> Result<String, AllocError> {
-    let mut text = String::new(alloc);
-    add(&mut text, &[ReadError::BadRequest, ReadError::Memory])?;
+fn line_texts(alloc: Global) -> Texts {
+    let mut texts = Texts::new(alloc);
+    texts.add(&[ReadError::BadRequest, ReadError::Memory]);
     let refused = DeskFault::Mapping(MappingError::BadKey);
-    add(&mut text, &[DeskFault::BadLine, refused])?;
-    add(
-        &mut text,
-        &[
-            ServeError::Read,
-            ServeError::Write,
-            ServeError::TurnsSpent,
-            ServeError::Memory,
-        ],
-    )?;
-    Ok(text)
+    texts.add(&[DeskFault::BadLine, refused]);
+    texts.add(&[
+        ServeError::Read,
+        ServeError::Write,
+        ServeError::TurnsSpent,
+        ServeError::Memory,
+    ]);
+    texts
 }

@@ -15,7 +15,6 @@ pub(crate) fn run<R: Wait + Print + AllocGlobal>(rt: &R, script: &str) -> io::Re
     for line in script.lines() {
         let line = line.trim_end();
         if !stream.is_prepared(line)? {
-            println!(rt; "-- {line}")?;
             serve(rt, &setting, stream.bytes.as_slice(), line)?;
             stream = Stream::new(rt.alloc());
         }
@@ -23,13 +22,14 @@ pub(crate) fn run<R: Wait + Print + AllocGlobal>(rt: &R, script: &str) -> io::Re
     Ok(())
 }
 
-/// Serves a stream anew as a command says.
+/// Prints a command, and serves a stream anew as it says.
 fn serve<R: Wait + Print + AllocGlobal>(
     rt: &R,
     setting: &Setting,
     bytes: &[u8],
     command: &str,
 ) -> io::Result<()> {
+    println!(rt; "-- {command}")?;
     match command {
         "worker" => work(rt, setting, bytes),
         "faults" => tell_faults(rt),

@@ -1,6 +1,7 @@
 //! Two connections of one worker that take turns while a desk commits.
 use crate::always::moments_of;
 use crate::sipping::Sipping;
+use crate::telling::tell_lines;
 use lost_connections::{Client, Clients};
 use lost_desk::Desk;
 use lost_worker::{Replier, Turns, Watched, serve_desk};
@@ -11,8 +12,8 @@ use std::io::{ErrorKind, Read, Write};
 use std::sync::Wait;
 use test_parts::Setting;
 
-/// How many lines each connection sends.
-const ROUNDS: u64 = 3;
+/// How many lines the connections send in all.
+const LINES: u64 = 6;
 
 /// The most bytes of a read.
 const CHUNK: usize = 64;
@@ -53,17 +54,33 @@ pub(crate) fn take_turns<R: Wait + Print + AllocGlobal, P: Replier>(
     let mut clients = Clients::new(alloc);
     let one = clients.insert(client_of(alloc), ())?;
     let other = clients.insert(client_of(alloc), ())?;
-    for round in 0..ROUNDS {
-        ask(alloc, &mut clients, one, "one")?;
-        serve(alloc, &mut clients, one, replier, setting, BURSTS);
-        publish(rt, desk, 2 * round)?;
-        ask(alloc, &mut clients, other, "other")?;
-        serve(alloc, &mut clients, other, replier, setting, BURSTS);
-        publish(rt, desk, 2 * round + 1)?;
-    }
+    serve_lines(rt, desk, &mut clients, [one, other], replier, setting)?;
     for key in [one, other] {
         serve(alloc, &mut clients, key, replier, setting, 64);
         tell(rt, &clients, key)?;
+    }
+    Ok(())
+}
+
+/// Has the connections send their lines and be served, in turn. The desk publishes a mapping after each line.
+fn serve_lines<R: Wait + AllocGlobal, P: Replier>(
+    rt: &R,
+    desk: &mut Desk,
+    clients: &mut InMemory,
+    keys: [usize; 2],
+    replier: &mut P,
+    setting: &Setting,
+) -> io::Result<()> {
+    let [one, other] = keys;
+    for number in 0..LINES {
+        let (key, name) = if number % 2 == 0 {
+            (one, "one")
+        } else {
+            (other, "other")
+        };
+        ask(rt.alloc(), clients, key, name)?;
+        serve(rt.alloc(), clients, key, replier, setting, BURSTS);
+        publish(rt, desk, number)?;
     }
     Ok(())
 }
@@ -121,9 +138,5 @@ fn tell<R: Print>(rt: &R, clients: &InMemory, key: usize) -> io::Result<()> {
     let Some(seat) = clients.get(key) else {
         return Ok(());
     };
-    let text = seat.client.output().text.as_slice();
-    for line in std::str::from_utf8(text).unwrap_or("no text").lines() {
-        println!(rt; "{line}")?;
-    }
-    Ok(())
+    tell_lines(rt, seat.client.output().text.as_slice())
 }

@@ -56,25 +56,34 @@ fn run_bench<R: Threads + Wait + Clock + Sync + Print + AllocGlobal>(
         second: &mut second,
         setting: &setting,
     };
+    run_script(rt, &mut bench, script)
+}
+
+/// Runs the script.
+fn run_script<R: Threads + Wait + Clock + Sync + Print + AllocGlobal>(
+    rt: &R,
+    bench: &mut Bench,
+    script: &str,
+) -> io::Result<()> {
     let mut stream = Stream::new(rt.alloc());
     for line in script.lines() {
         let line = line.trim_end();
         if !stream.is_prepared(line)? {
-            println!(rt; "-- {line}")?;
-            serve(rt, &mut bench, &stream, line)?;
+            serve(rt, bench, &stream, line)?;
             stream = Stream::new(rt.alloc());
         }
     }
     Ok(())
 }
 
-/// Serves a stream as a command says.
+/// Prints a command, and serves a stream as it says.
 fn serve<R: Threads + Wait + Clock + Sync + Print + AllocGlobal>(
     rt: &R,
     bench: &mut Bench,
     stream: &Stream,
     command: &str,
 ) -> io::Result<()> {
+    println!(rt; "-- {command}")?;
     let setting = bench.setting;
     match command {
         "desk" => serve_by_desk(rt, bench.desk, stream),

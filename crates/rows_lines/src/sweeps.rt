@@ -40,20 +40,52 @@ pub(crate) fn reads<R: Wait + Print + AllocGlobal>(
         NEVER,
         false,
     )?;
-    let (mut faults, mut fronts) = (0u64, 0u64);
+    let sums = fail_reads(rt, sweep, most, &good)?;
+    println!(rt;
+        "{} reads fail: {} faults at that read, {} fronts",
+        good.reads, sums.faults, sums.fronts
+    )
+}
+
+/// How many runs ended in the fault that they should, and how many wrote a front of the text of the run with no fault.
+#[derive(Drop)]
+struct Sums {
+    faults: u64,
+    fronts: u64,
+}
+
+impl Sums {
+    /// No run.
+    fn new() -> Sums {
+        Sums {
+            faults: 0,
+            fronts: 0,
+        }
+    }
+
+    /// Counts a run.
+    fn add(&mut self, is_fault: bool, is_front: bool) {
+        self.faults = self.faults.saturating_add(u64::from(is_fault));
+        self.fronts = self.fronts.saturating_add(u64::from(is_front));
+    }
+}
+
+/// Serves a stream once for each read of the run with no fault: that read fails.
+fn fail_reads<R: Wait + AllocGlobal>(
+    rt: &R,
+    sweep: &Sweep,
+    most: usize,
+    good: &Outcome,
+) -> io::Result<Sums> {
+    let mut sums = Sums::new();
     for failing in 1..good.reads.saturating_add(1) {
         let mut feed = Feed::of(sweep.bytes, most);
         feed.failing = failing;
         let outcome = run(rt, sweep, feed, usize::MAX, NEVER, false)?;
-        faults = faults.saturating_add(u64::from(
-            outcome.result == Err(ServeError::Read) && outcome.reads == failing,
-        ));
-        fronts = fronts.saturating_add(u64::from(good.text.starts_with(outcome.text.as_slice())));
+        let is_there = outcome.result == Err(ServeError::Read) && outcome.reads == failing;
+        sums.add(is_there, good.text.starts_with(outcome.text.as_slice()));
     }
-    println!(rt;
-        "{} reads fail: {faults} faults at that read, {fronts} fronts",
-        good.reads
-    )
+    Ok(sums)
 }
 
 /// Serves a stream twice for each write: once it fails, once it takes no byte. After a failed write the input is not
@@ -62,25 +94,31 @@ pub(crate) fn writes<R: Wait + Print + AllocGlobal>(rt: &R, sweep: &Sweep) -> io
     let feed = Feed::of(sweep.bytes, PIECE);
     let good = run(rt, sweep, feed, usize::MAX, NEVER, false)?;
     for takes_none in [false, true] {
-        let (mut faults, mut fronts) = (0u64, 0u64);
-        for failing in 1..good.writes.saturating_add(1) {
-            let feed = Feed::of(sweep.bytes, PIECE);
-            let outcome = run(rt, sweep, feed, usize::MAX, failing, takes_none)?;
-            let is_left = outcome.reads < good.reads;
-            faults = faults.saturating_add(u64::from(
-                outcome.result == Err(ServeError::Write) && is_left,
-            ));
-            fronts = fronts.saturating_add(u64::from(
-                good.text.starts_with(outcome.text.as_slice()),
-            ));
-        }
+        let sums = fail_writes(rt, sweep, takes_none, &good)?;
         let how = if takes_none { "take nothing" } else { "fail" };
         println!(rt;
-            "{} writes {how}: {faults} faults before the end, {fronts} fronts",
-            good.writes
+            "{} writes {how}: {} faults before the end, {} fronts",
+            good.writes, sums.faults, sums.fronts
         )?;
     }
     Ok(())
+}
+
+/// Serves a stream once for each write of the run with no fault: that write fails, or takes no byte.
+fn fail_writes<R: Wait + AllocGlobal>(
+    rt: &R,
+    sweep: &Sweep,
+    takes_none: bool,
+    good: &Outcome,
+) -> io::Result<Sums> {
+    let mut sums = Sums::new();
+    for failing in 1..good.writes.saturating_add(1) {
+        let feed = Feed::of(sweep.bytes, PIECE);
+        let outcome = run(rt, sweep, feed, usize::MAX, failing, takes_none)?;
+        let is_early = outcome.result == Err(ServeError::Write) && outcome.reads < good.reads;
+        sums.add(is_early, good.text.starts_with(outcome.text.as_slice()));
+    }
+    Ok(sums)
 }
 
 /// Serves each proper prefix of a stream as a stream of its own. Prints what was written in all, how many lines were

@@ -25,6 +25,14 @@ pub(crate) fn tell_text<R: Print>(rt: &R, written: &[u8]) -> io::Result<()> {
     }
 }
 
+/// Prints the lines that were written.
+pub(crate) fn tell_lines<R: Print>(rt: &R, written: &[u8]) -> io::Result<()> {
+    for line in std::str::from_utf8(written).unwrap_or("no text").lines() {
+        println!(rt; "{line}")?;
+    }
+    Ok(())
+}
+
 /// Prints counts.
 pub(crate) fn tell_counts<R: Print>(rt: &R, counts: Counts) -> io::Result<()> {
     println!(rt;
@@ -38,12 +46,12 @@ pub(crate) fn tell_folded<R: Print>(rt: &R, written: &[u8]) -> io::Result<()> {
     let Ok(text) = std::str::from_utf8(written) else {
         return Ok(());
     };
-    let mut last: &[u8] = b"";
+    let mut last = "";
     let mut count = 0u64;
     for line in text.lines() {
-        if line.as_bytes() != last {
+        if line != last {
             tell_repeated(rt, last, count)?;
-            last = line.as_bytes();
+            last = line;
             count = 0;
         }
         count = count.saturating_add(1);
@@ -52,10 +60,7 @@ pub(crate) fn tell_folded<R: Print>(rt: &R, written: &[u8]) -> io::Result<()> {
 }
 
 /// Prints a line that comes so many times in a row.
-fn tell_repeated<R: Print>(rt: &R, line: &[u8], count: u64) -> io::Result<()> {
-    let Ok(line) = std::str::from_utf8(line) else {
-        return Ok(());
-    };
+fn tell_repeated<R: Print>(rt: &R, line: &str, count: u64) -> io::Result<()> {
     match count {
         0 => Ok(()),
         1 => println!(rt; "{line}"),
@@ -67,12 +72,17 @@ fn tell_repeated<R: Print>(rt: &R, line: &[u8], count: u64) -> io::Result<()> {
 pub(crate) fn tell_events<R: Print>(rt: &R, events: &[Event]) -> io::Result<()> {
     print!(rt; "events:")?;
     for event in events {
-        match event {
-            Event::Read => print!(rt; " read")?,
-            Event::Sent(bytes) => print!(rt; " sent-{bytes}")?,
-            Event::Asked(line) => print!(rt; " asked-{line}")?,
-            Event::Told(line) => print!(rt; " told-{line}")?,
-        }
+        tell_event(rt, event)?;
     }
     println!(rt)
+}
+
+/// Prints one thing that happened.
+fn tell_event<R: Print>(rt: &R, event: &Event) -> io::Result<()> {
+    match event {
+        Event::Read => print!(rt; " read"),
+        Event::Sent(bytes) => print!(rt; " sent-{bytes}"),
+        Event::Asked(line) => print!(rt; " asked-{line}"),
+        Event::Told(line) => print!(rt; " told-{line}"),
+    }
 }

@@ -1,7 +1,7 @@
 //! A worker with a connection that fails and a good one.
 use crate::always::moments_of;
 use crate::telling::tell_counts;
-use crossbeam_channel::{Receiver, unbounded};
+use crossbeam_channel::{Receiver, Sender, unbounded};
 use lost_book::Limits;
 use lost_desk::{Reader, open_desk};
 use lost_worker::{Connection, NoGate, Turns, worker_loop};
@@ -29,27 +29,35 @@ impl Read for Given {
     }
 }
 
-/// Counts the bytes that are written, and the bytes 10 among them.
+/// How many bytes were written, and how many of them are bytes 10.
+#[derive(Drop)]
+struct Sums {
+    bytes: AtomicU64,
+    lines: AtomicU64,
+}
+
+/// Counts the bytes that are written.
 #[derive(Drop)]
 struct Counting {
-    bytes: Arc<AtomicU64>,
-    lines: Arc<AtomicU64>,
+    sums: Arc<Sums>,
 }
 
 impl Counting {
     /// Nothing is counted yet.
     fn new(alloc: Global) -> Result<Counting, AllocError> {
+        let sums = Sums {
+            bytes: AtomicU64::new(0),
+            lines: AtomicU64::new(0),
+        };
         Ok(Counting {
-            bytes: Arc::new(alloc, AtomicU64::new(0))?,
-            lines: Arc::new(alloc, AtomicU64::new(0))?,
+            sums: Arc::new(alloc, sums)?,
         })
     }
 
     /// A second counter of the same sums.
     fn shared(&self) -> Result<Counting, AllocError> {
         Ok(Counting {
-            bytes: self.bytes.clone()?,
-            lines: self.lines.clone()?,
+            sums: self.sums.clone()?,
         })
     }
 }
@@ -57,9 +65,9 @@ impl Counting {
 impl Write for Counting {
     fn write(&mut self, buf: &[u8]) -> io::Result<usize> {
         for byte in buf {
-            self.bytes.fetch_add(1, Ordering::SeqCst);
+            self.sums.bytes.fetch_add(1, Ordering::SeqCst);
             if *byte == b'\n' {
-                self.lines.fetch_add(1, Ordering::SeqCst);
+                self.sums.lines.fetch_add(1, Ordering::SeqCst);
             }
         }
         Ok(buf.len())
@@ -111,10 +119,15 @@ fn serve_both<R: Wait + Print + AllocGlobal>(
         Turns::USUAL,
     );
     tell_counts(rt, counts)?;
+    tell_sums(rt, &written.sums)
+}
+
+/// Prints how much was written.
+fn tell_sums<R: Print>(rt: &R, sums: &Sums) -> io::Result<()> {
     println!(rt;
         "{} lines and {} bytes were written",
-        written.lines.load(Ordering::SeqCst),
-        written.bytes.load(Ordering::SeqCst)
+        sums.lines.load(Ordering::SeqCst),
+        sums.bytes.load(Ordering::SeqCst)
     )
 }
 
@@ -128,12 +141,24 @@ fn connections<R: Wait + AllocGlobal>(
         return Err(AllocError.into());
     };
     for is_failing in [true, false] {
-        let connection = connection(rt.alloc(), bytes, written.shared()?, is_failing)?;
-        if sender.send(rt, connection).is_err() {
-            return Err(AllocError.into());
-        }
+        send(rt, &sender, bytes, written, is_failing)?;
     }
     Ok(connections)
+}
+
+/// Sends a connection.
+fn send<R: Wait + AllocGlobal>(
+    rt: &R,
+    sender: &Sender<InMemory>,
+    bytes: &[u8],
+    written: &Counting,
+    is_failing: bool,
+) -> io::Result<()> {
+    let connection = connection(rt.alloc(), bytes, written.shared()?, is_failing)?;
+    match sender.send(rt, connection) {
+        Ok(()) => Ok(()),
+        Err(_) => Err(AllocError.into()),
+    }
 }
 
 /// A connection that gives bytes, or fails at once.

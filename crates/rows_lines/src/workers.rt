@@ -4,7 +4,7 @@ ghost use Rattle.std.specs.Thread.{IsSync};
 use crate::always::moments_of;
 use crate::stream::Stream;
 use crate::telling::tell_counts;
-use crossbeam_channel::{Receiver, unbounded};
+use crossbeam_channel::{Receiver, Sender, unbounded};
 use lost_desk::Reader;
 use lost_worker::{Connection, Counts, worker_loop};
 use std::alloc::{AllocError, Global};
@@ -67,11 +67,22 @@ fn twice<R: Wait + AllocGlobal>(rt: &R, stream: &Stream) -> io::Result<Receiver<
         return Err(AllocError.into());
     };
     for _ in 0..2u8 {
-        if sender.send(rt, connection(rt.alloc(), stream)?).is_err() {
-            return Err(AllocError.into());
-        }
+        send(rt, &sender, stream)?;
     }
     Ok(connections)
+}
+
+/// Sends a connection that gives the bytes of a stream.
+fn send<R: Wait + AllocGlobal>(
+    rt: &R,
+    sender: &Sender<InMemory>,
+    stream: &Stream,
+) -> io::Result<()> {
+    let connection = connection(rt.alloc(), stream)?;
+    match sender.send(rt, connection) {
+        Ok(()) => Ok(()),
+        Err(_) => Err(AllocError.into()),
+    }
 }
 
 /// A connection in memory that gives the bytes of a stream.
