@@ -4,25 +4,26 @@ use std::rt::Files;
 use std::{fs, io};
 use test_parts::limits_of;
 
-/// The limits that the file `NAME.limits` of a folder gives, as [`limits_of`] reads them; `None` where there is no such
-/// file.
+/// The limits that the file `NAME.limits` of a folder gives, as [`limits_of`] reads them; the widest where there is no
+/// such file.
 pub(crate) fn limits<R: Files + AllocGlobal>(
     rt: &R,
     folder: &str,
     name: &str,
-) -> io::Result<Option<Limits>> {
+) -> io::Result<Limits> {
     let file = format!(in rt.alloc(); "{folder}/{name}.limits")?;
-    let text = match fs::read(rt, file.as_str()) {
-        Ok(text) => text,
-        Err(error) if error.kind() == io::ErrorKind::NotFound => return Ok(None),
-        Err(error) => return Err(error),
-    };
-    let limits = std::str::from_utf8(text.as_slice()).map_or(
-        None,
-        |text| limits_of(text.trim_end()),
-    );
-    match limits {
-        Some(limits) => Ok(Some(limits)),
+    match fs::read(rt, file.as_str()) {
+        Ok(text) => limits_in(text.as_slice()),
+        Err(error) if error.kind() == io::ErrorKind::NotFound => Ok(Limits::widest()),
+        Err(error) => Err(error),
+    }
+}
+
+/// The limits that these bytes give.
+fn limits_in(bytes: &[u8]) -> io::Result<Limits> {
+    let text = std::str::from_utf8(bytes).unwrap_or("");
+    match limits_of(text.trim_end()) {
+        Some(limits) => Ok(limits),
         None => Err(io::ErrorKind::InvalidData.into()),
     }
 }

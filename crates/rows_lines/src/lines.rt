@@ -38,41 +38,49 @@ struct Outcome {
 pub(crate) fn run<R: Print + AllocGlobal>(rt: &R, script: &str) -> io::Result<()> {
     let mut bytes = Vec::new(rt.alloc());
     for line in script.lines() {
-        match line.split_once(' ') {
-            Some(("text", spelled)) => {
-                bytes.clear();
-                add(&mut bytes, 1, spelled)?;
-            }
-            Some(("add", rest)) => {
-                let (count, spelled) = rest.split_once(' ').unwrap_or((rest, ""));
-                add(&mut bytes, count.parse::<u64>().unwrap_or(0), spelled)?;
-            }
-            None if line == "text" => bytes.clear(),
-            _ => command(rt, bytes.as_slice(), line)?,
-        }
+        run_line(rt, &mut bytes, line)?;
     }
     Ok(())
 }
 
+/// Runs a line of the script, over the stream so far.
+fn run_line<R: Print + AllocGlobal>(rt: &R, bytes: &mut Vec<u8>, line: &str) -> io::Result<()> {
+    match line.split_once(' ').unwrap_or((line, "")) {
+        ("text", spelled) => {
+            bytes.clear();
+            add(bytes, 1, spelled)
+        }
+        ("add", rest) => {
+            let (count, spelled) = rest.split_once(' ').unwrap_or((rest, ""));
+            add(bytes, count.parse::<u64>().unwrap_or(0), spelled)
+        }
+        _ => command(rt, bytes.as_slice(), line),
+    }
+}
+
 /// Adds a text so many times; `\n` and `\r` are spelled in it.
-fn add(bytes: &mut Vec<u8>, count: u64, spelled: &str) -> Result<(), AllocError> {
+fn add(bytes: &mut Vec<u8>, count: u64, spelled: &str) -> io::Result<()> {
     for _ in 0..count {
         add_spelled(bytes, spelled)?;
     }
     Ok(())
 }
 
-/// Serves a stream as a command says.
+/// Prints a command, and serves a stream as it says.
 fn command<R: Print + AllocGlobal>(rt: &R, bytes: &[u8], line: &str) -> io::Result<()> {
     println!(rt; "-- {line}")?;
     let (word, rest) = line.split_once(' ').unwrap_or((line, "whole"));
-    let Some(plan) = Plan::of(rest) else {
-        return no_command(rt);
-    };
+    match Plan::of(rest) {
+        Some(plan) => serve(rt, bytes, word, plan),
+        None => no_command(rt),
+    }
+}
+
+/// Serves a stream, and prints what a command wants.
+fn serve<R: Print + AllocGlobal>(rt: &R, bytes: &[u8], word: &str, plan: Plan) -> io::Result<()> {
     let diary = Diary::new(rt.alloc());
     let outcome = served(rt.alloc(), bytes, plan, &diary)?;
-    tell_folded(rt, outcome.text.as_slice())?;
-    tell_end(rt, &outcome)?;
+    tell(rt, &outcome)?;
     match word {
         "serve" => Ok(()),
         "note" => tell_events(rt, diary.into_events().as_slice()),
@@ -120,16 +128,27 @@ fn run_through<R: Read + Drop, G: Gate>(
     }
 }
 
+/// Prints what was written, how a stream ended, and the flags that were left.
+fn tell<R: Print>(rt: &R, outcome: &Outcome) -> io::Result<()> {
+    tell_folded(rt, outcome.text.as_slice())?;
+    tell_end(rt, outcome.result)?;
+    print!(rt; "; {} reads, {} bytes", outcome.reads, outcome.text.len())?;
+    tell_flags(rt, outcome)
+}
+
 /// Prints how a stream ended.
-fn tell_end<R: Print>(rt: &R, outcome: &Outcome) -> io::Result<()> {
-    match outcome.result {
+fn tell_end<R: Print>(rt: &R, end: Result<Counts, ServeError>) -> io::Result<()> {
+    match end {
         Ok(counts) => print!(rt;
             "lines {} long {} memory {} faults {}",
             counts.lines, counts.long_lines, counts.memory, counts.faults
-        )?,
-        Err(fault) => print!(rt; "fault {}", fault.code())?,
+        ),
+        Err(fault) => print!(rt; "fault {}", fault.code()),
     }
-    print!(rt; "; {} reads, {} bytes", outcome.reads, outcome.text.len())?;
+}
+
+/// Prints the flags that were left, and ends the line.
+fn tell_flags<R: Print>(rt: &R, outcome: &Outcome) -> io::Result<()> {
     for (is_set, what) in [
         (outcome.is_input_ended, "input ended"),
         (outcome.is_input_failed, "input failed"),

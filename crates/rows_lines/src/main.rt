@@ -106,15 +106,24 @@ fn run<
         + Drop,
 >(rt: &R, command: &str) -> io::Result<bool> {
     println!(rt; "== {command}")?;
-    match command {
-        "sessions" => return sessions::print_sessions(rt),
-        "worlds" => worlds::print_worlds(rt)?,
-        "desk" | "cache" | "calls" | "prepared" => desks::run(rt, command)?,
-        "orders" => orders::run(rt)?,
-        "status" => status::run(rt)?,
-        script => run_script(rt, script)?,
+    if command == "sessions" {
+        return sessions::print_sessions(rt);
     }
+    run_rows(rt, command)?;
     Ok(true)
+}
+
+/// Runs a command whose output alone says whether all is as expected.
+fn run_rows<
+    R: Files + Input + Print + Eprint + RandomSource + Threads + Wait + Clock + Sync + AllocGlobal,
+>(rt: &R, command: &str) -> io::Result<()> {
+    match command {
+        "worlds" => worlds::print_worlds(rt),
+        "desk" | "cache" | "calls" | "prepared" => desks::run(rt, command),
+        "orders" => orders::run(rt),
+        "status" => status::run(rt),
+        script => run_script(rt, script),
+    }
 }
 
 /// Runs the script of a command.

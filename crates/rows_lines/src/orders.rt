@@ -24,14 +24,28 @@ const REASONS: [ExitReason; 8] = [
 pub(crate) fn run<R: Files + Print + Eprint + Input + AllocGlobal>(rt: &R) -> io::Result<()> {
     let table = fs::read_to_string(rt, TABLE)?;
     for line in table.lines() {
-        println!(rt; "{line}")?;
-        let words = words_of(rt.alloc(), line)?;
-        match obey(rt, words.as_slice(), false) {
-            Ok(Some(order)) => print_order(rt, &order)?,
-            Ok(None) => println!(rt; "no order")?,
-            Err(reason) => println!(rt; "{reason:?}")?,
-        }
+        print_answer(rt, line)?;
     }
+    print_reasons(rt)
+}
+
+/// Prints a command line, and its order or why there is none.
+fn print_answer<R: Files + Print + Eprint + Input + AllocGlobal>(
+    rt: &R,
+    line: &str,
+) -> io::Result<()> {
+    println!(rt; "{line}")?;
+    let words = words_of(rt.alloc(), line)?;
+    let answer = obey(rt, words.as_slice(), false);
+    match answer {
+        Ok(Some(order)) => print_order(rt, &order),
+        Ok(None) => println!(rt; "no order"),
+        Err(reason) => println!(rt; "{reason:?}"),
+    }
+}
+
+/// Prints the status and the text of each exit reason.
+fn print_reasons<R: Print>(rt: &R) -> io::Result<()> {
     println!(rt; "-- exit reasons")?;
     for reason in REASONS {
         print_reason(rt, reason)?;
@@ -51,20 +65,39 @@ fn words_of(alloc: Global, line: &str) -> Result<Vec<String>, AllocError> {
 /// Prints an order, with a hyphen for each missing part.
 fn print_order<R: Print>(rt: &R, order: &ServeOrder<'_>) -> io::Result<()> {
     print!(rt;
-        "name={} map={} keep-going={} queries={} desk={} status={} mode={:o} workers={} connections=",
+        "name={} map={} keep-going={} ",
         order.name.text(),
         order.map.unwrap_or("-"),
-        order.keeps_going,
-        order.addresses.queries,
-        order.addresses.desk.unwrap_or("-"),
-        order.addresses.status.unwrap_or("-"),
-        order.addresses.socket_mode,
-        order.workers
+        order.keeps_going
     )?;
-    match order.connections {
-        Some(connections) => print!(rt; "{connections}")?,
-        None => print!(rt; "-")?,
+    print_addresses(rt, order)?;
+    print!(rt; "workers={} connections=", order.workers)?;
+    print_connections(rt, order.connections)?;
+    print_times(rt, order)
+}
+
+/// Prints the addresses of an order, and a space after them.
+fn print_addresses<R: Print>(rt: &R, order: &ServeOrder<'_>) -> io::Result<()> {
+    let addresses = &order.addresses;
+    print!(rt;
+        "queries={} desk={} status={} mode={:o} ",
+        addresses.queries,
+        addresses.desk.unwrap_or("-"),
+        addresses.status.unwrap_or("-"),
+        addresses.socket_mode
+    )
+}
+
+/// Prints a number of connections.
+fn print_connections<R: Print>(rt: &R, connections: Option<u32>) -> io::Result<()> {
+    match connections {
+        Some(connections) => print!(rt; "{connections}"),
+        None => print!(rt; "-"),
     }
+}
+
+/// Prints the times and the last numbers of an order.
+fn print_times<R: Print>(rt: &R, order: &ServeOrder<'_>) -> io::Result<()> {
     println!(rt;
         " idle={} desk-idle={} line-time={} reply-time={} most-connections={} per-address={} quiet={}",
         order.idle,

@@ -1,9 +1,13 @@
 //! The rows of a folder.
+use std::alloc::{AllocError, Global};
 use std::rt::Files;
 use std::{fs, io};
 
 /// The ending of the name of a row's file of lines.
 const LINES: &str = ".jsonl";
+
+/// The ending of the name of a row's file of expected text.
+const EXPECTED: &str = ".expected";
 
 /// A row.
 #[derive(Drop)]
@@ -21,13 +25,22 @@ impl Row {
         folder: &str,
         name: &str,
     ) -> io::Result<Row> {
-        let lines = format!(in rt.alloc(); "{folder}/{name}{LINES}")?;
-        let expected = format!(in rt.alloc(); "{folder}/{name}.expected")?;
         Ok(Row {
-            lines: fs::read(rt, lines.as_str())?,
-            expected: fs::read(rt, expected.as_str())?,
+            lines: read(rt, folder, name, LINES)?,
+            expected: read(rt, folder, name, EXPECTED)?,
         })
     }
+}
+
+/// The bytes of a file of a row.
+fn read<R: Files + AllocGlobal>(
+    rt: &R,
+    folder: &str,
+    name: &str,
+    ending: &str,
+) -> io::Result<Vec<u8>> {
+    let file = format!(in rt.alloc(); "{folder}/{name}{ending}")?;
+    fs::read(rt, file.as_str())
 }
 
 /// The names of the rows of a folder, in order: each file of lines without its ending.
@@ -38,11 +51,16 @@ pub(crate) fn names<R: Files + AllocGlobal + Clone + Drop>(
     let mut names = Vec::new(rt.alloc());
     for entry in fs::read_dir(rt, folder)? {
         let entry = entry?;
-        let file = entry.file_name();
-        if let Some(name) = file.strip_suffix(LINES) {
-            names.push(String::from_str(rt.alloc(), name)?)?;
-        }
+        add_name(rt.alloc(), &mut names, entry.file_name())?;
     }
     names.sort()?;
     Ok(names)
+}
+
+/// Adds the name of a row, if a file is its file of lines.
+fn add_name(alloc: Global, names: &mut Vec<String>, file: &str) -> Result<(), AllocError> {
+    if let Some(name) = file.strip_suffix(LINES) {
+        names.push(String::from_str(alloc, name)?)?;
+    }
+    Ok(())
 }

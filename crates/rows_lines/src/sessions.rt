@@ -37,14 +37,28 @@ fn is_as_expected<R: Files + Wait + Print + AllocGlobal>(
     setting: &Setting,
 ) -> io::Result<bool> {
     let row = Row::read(rt, FOLDER, name)?;
-    let limits = limits(rt, FOLDER, name)?.unwrap_or(Limits::widest());
+    let limits = limits(rt, FOLDER, name)?;
+    if !are_same(rt, name, &row, setting, limits)? {
+        return Ok(false);
+    }
+    println!(rt; "{name}: as expected")?;
+    Ok(true)
+}
+
+/// Whether the replies of each reader are the expected ones. Prints where they are not.
+fn are_same<R: Wait + Print + AllocGlobal>(
+    rt: &R,
+    name: &str,
+    row: &Row,
+    setting: &Setting,
+    limits: Limits,
+) -> io::Result<bool> {
     for places in PLACES {
         let replies = cached::replies(rt, &row.lines, setting, limits, places);
         if !is_same(rt, name, places, replies, &row.expected)? {
             return Ok(false);
         }
     }
-    println!(rt; "{name}: as expected")?;
     Ok(true)
 }
 
@@ -60,9 +74,9 @@ fn is_same<R: Print>(
         println!(rt; "{name}, {places} places kept: the run ended in a fault")?;
         return Ok(false);
     };
-    let same = replies.as_slice() == expected;
-    if !same {
-        println!(rt; "{name}, {places} places kept: differs")?;
+    if replies.as_slice() == expected {
+        return Ok(true);
     }
-    Ok(same)
+    println!(rt; "{name}, {places} places kept: differs")?;
+    Ok(false)
 }

@@ -29,7 +29,7 @@ impl<R: Wait> Answerer for Cached<'_, '_, '_, R> {
             Ok(Some(DeskLine::Edit(edit))) => stage(self.desk, edit),
             Ok(Some(DeskLine::Commit)) => commit(self.rt, self.desk),
             Ok(None) => request(alloc, &mut self.reader, self.setting, line),
-            Err(fault) if fault == DeskFault::Mapping(MappingError::Memory) => internal_error(),
+            Err(DeskFault::Mapping(MappingError::Memory)) => internal_error(),
             Err(fault) => desk_answer(DeskReply::Refused(fault.code())),
         }
     }
@@ -79,7 +79,9 @@ pub(crate) fn replies<R: Wait + AllocGlobal>(
     limits: Limits,
     places: u32,
 ) -> Option<Vec<u8>> {
-    let (mut desk, mut readers) = open_desk(rt, rt.alloc(), limits, 1).ok()?;
+    let Ok((mut desk, mut readers)) = open_desk(rt, rt.alloc(), limits, 1) else {
+        return None;
+    };
     let replies = match readers.take() {
         Some(reader) => replies_of(rt, lines, setting, &mut desk, reader, places),
         None => None,

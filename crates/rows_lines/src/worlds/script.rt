@@ -24,10 +24,7 @@ pub(crate) fn read_line(alloc: Global, moment: Moment, line: &str) -> Result<Lin
         "world" => Ok(world(rest)),
         "stage" => stage(alloc, rest.as_bytes()),
         "publish" => Ok(Line::Step(Step::Publish)),
-        "enter" => Ok(
-            rest.parse()
-                .map_or(Line::Other, |worker| Line::Step(Step::Enter(worker))),
-        ),
+        "enter" => Ok(enter(rest)),
         "tell" => Ok(tell(rest)),
         "answer" => answer(alloc, moment, rest),
         _ => Ok(Line::Other),
@@ -49,6 +46,14 @@ fn stage(alloc: Global, line: &[u8]) -> Result<Line, AllocError> {
         Ok(Some(DeskLine::Edit(edit))) => Ok(Line::Step(Step::Stage(edit))),
         Err(DeskFault::Mapping(MappingError::Memory)) => Err(AllocError),
         _ => Ok(Line::Other),
+    }
+}
+
+/// The step at which a worker enters.
+fn enter(word: &str) -> Line {
+    match word.parse() {
+        Ok(worker) => Line::Step(Step::Enter(worker)),
+        Err(_) => Line::Other,
     }
 }
 

@@ -12,10 +12,13 @@ pub(crate) fn print<R: Print>(rt: &R, event: &Event) -> io::Result<()> {
         Event::Published(edition) => println!(rt; "published {edition}"),
         Event::Entered(edition) => println!(rt; "entered {edition}"),
         Event::Told(edition) => println!(rt; "told {edition}"),
-        Event::Replied(line) => {
-            print!(rt; "replied ")?;
-            io::writer(rt).write_all(line.as_slice())
-        }
+        Event::Replied(line) => print_reply(rt, line.as_slice()),
         Event::NoWorker => println!(rt; "no worker"),
     }
+}
+
+/// Prints a reply.
+fn print_reply<R: Print>(rt: &R, line: &[u8]) -> io::Result<()> {
+    print!(rt; "replied ")?;
+    io::writer(rt).write_all(line)
 }
