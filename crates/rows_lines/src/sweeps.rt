@@ -16,6 +16,29 @@ pub(crate) struct Sweep<'a> {
     pub(crate) bytes: &'a [u8],
 }
 
+/// How many runs ended in the fault that they should, and how many wrote a front of the text of the run with no fault.
+#[derive(Drop)]
+struct Sums {
+    faults: u64,
+    fronts: u64,
+}
+
+impl Sums {
+    /// No run.
+    fn new() -> Sums {
+        Sums {
+            faults: 0,
+            fronts: 0,
+        }
+    }
+
+    /// Counts a run.
+    fn add(&mut self, is_fault: bool, is_front: bool) {
+        self.faults = self.faults.saturating_add(u64::from(is_fault));
+        self.fronts = self.fronts.saturating_add(u64::from(is_front));
+    }
+}
+
 /// Serves a stream with no fault, in pieces of at most so many bytes, and prints what was written.
 pub(crate) fn whole<R: Wait + Print + AllocGlobal>(
     rt: &R,
@@ -45,29 +68,6 @@ pub(crate) fn reads<R: Wait + Print + AllocGlobal>(
         "{} reads fail: {} faults at that read, {} fronts",
         good.reads, sums.faults, sums.fronts
     )
-}
-
-/// How many runs ended in the fault that they should, and how many wrote a front of the text of the run with no fault.
-#[derive(Drop)]
-struct Sums {
-    faults: u64,
-    fronts: u64,
-}
-
-impl Sums {
-    /// No run.
-    fn new() -> Sums {
-        Sums {
-            faults: 0,
-            fronts: 0,
-        }
-    }
-
-    /// Counts a run.
-    fn add(&mut self, is_fault: bool, is_front: bool) {
-        self.faults = self.faults.saturating_add(u64::from(is_fault));
-        self.fronts = self.fronts.saturating_add(u64::from(is_front));
-    }
 }
 
 /// Serves a stream once for each read of the run with no fault: that read fails.

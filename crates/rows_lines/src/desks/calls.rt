@@ -78,9 +78,23 @@ fn take_and_call<R: Wait + Print + AllocGlobal>(
         return Err(AllocError.into());
     };
     println!(rt; "prepared")?;
-    if !are_made {
-        return Ok(());
+    if are_made {
+        call(rt, desk, readers, &cached, refused)
+    } else {
+        Ok(())
     }
+}
+
+/// Makes the calls, and prints their answers.
+fn call<R: Wait + Print>(
+    rt: &R,
+    desk: &mut Desk,
+    readers: &mut Readers,
+    cached: &CachedReader,
+    refused: Vec<Edit>,
+) -> io::Result<()>
+    requires { readers.old.each.opening ≡ desk.old.opening }
+{
     tell_and_learn(rt, desk, readers)?;
     println!(rt; "hits {}", cached.hits())?;
     refuse(rt, desk, refused)

@@ -14,7 +14,7 @@ const WORKERS: u32 = 2;
 
 /// The answer of a server.
 #[derive(Drop)]
-pub(crate) struct Answer {
+struct Answer {
     /// Its first line, and then its fields.
     head: String,
     /// Its text.
