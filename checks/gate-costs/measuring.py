@@ -9,9 +9,10 @@ import time
 
 from costs import Costs, sum_of
 from crates import TOP, below, copied, edits_in, has_tests, lines_of_code, lowest_first
-from watching import seconds_below, watched
+from functions import lines_of, took_by_module
+from watching import watched
 
-SHOWN, WIDTH = 20, 150
+SHOWN = 40
 ONE_JOB = {**os.environ, "RT_JOBS": "1"}
 NOTHING = ["rt", "check", "--jobs", "1", "--only", ""]
 
@@ -89,21 +90,12 @@ def sums(took, all, verdict):
     return f"{took:.0f} minutes on {os.cpu_count()} cores: {spent:.1f} minutes of processor time, {kinds}. {verdict}"
 
 
-def steps(folder):
-    """The seconds of processor time from each line of a check's progress to the next, and what it says, as the check goes on."""
-    words, spent, before = ["rt", "check", "--jobs", "1"], {}, 0.0
-    with subprocess.Popen(words, cwd=folder, stdout=subprocess.PIPE, stderr=subprocess.STDOUT, text=True, errors="replace") as child:
-        for line in child.stdout:
-            now = seconds_below(child.pid, spent)
-            yield now - before, line.rstrip()
-            before = now
-
-
 def slowest(used, name):
     """Proves a crate from nothing, and gives its functions that took longest, a line for each."""
     with tempfile.TemporaryDirectory() as room:
         folder = f"{copied(room, below(used, name))}/crates/{name}"
         subprocess.run(NOTHING, cwd=folder, capture_output=True)
         shutil.rmtree(f"{folder}/out", ignore_errors=True)
-        took = sorted(steps(folder), reverse=True)
-    return [f"{seconds:7.1f} {line[:WIDTH]}" for seconds, line in took[:SHOWN]]
+        took, status = took_by_module(folder, name)
+    whole = f"{sum(took.values()):.0f} seconds of processor time in all, one job{'; the crate was not proved' if status else ''}"
+    return [*lines_of(took, SHOWN), whole]
