@@ -1,9 +1,9 @@
 //! The mapping that a map desk hands in (RFC 5222, section 5).
-ghost use Rattle.std.specs.Prelude.{◌≡◌, Some, Ok, IfSome};
+ghost use Rattle.std.specs.Prelude.{◌≡◌, Some, Ok, IfSome, string_bytes};
 ghost use Rattle.lost_spec.specs.Book as book;
 ghost use Rattle.lost_spec.specs.Mapping as spec;
 ghost use Rattle.lost_mapping.specs.Parts.{display_name_of, parts_of};
-ghost use Rattle.lost_reading.specs.Desk.{Stage, display_name_of_members, parts_of_members, mapping_order};
+ghost use Rattle.lost_reading.specs.Desk.{Stage, display_name_of_members, parts_with_texts, parts_of_members, mapping_order};
 ghost use Rattle.lost_tape.specs.Tapes.{data_of, members_of};
 ghost use Rattle.lost_tape.specs.Values.{IsMappingOf};
 
@@ -46,12 +46,42 @@ fn prepared(alloc: Global, mapping: Mapping) -> Option<Mapping>
 fn read_parts(alloc: Global, object: &Tree<'_, '_>) -> Option<Parts>
     ensures { IfSome result (λ parts. parts_of_members (members_of object.now) ≡ Some (parts_of parts)) }
 {
+    let source = required::<String>(alloc, object, "source")?;
+    let source_id = required::<String>(alloc, object, "sourceId")?;
+    let last_updated = required::<String>(alloc, object, "lastUpdated")?;
+    let expires = required::<String>(alloc, object, "expires")?;
+    let service = required::<String>(alloc, object, "service")?;
+    read_parts_with(
+        alloc,
+        object,
+        source,
+        source_id,
+        last_updated,
+        expires,
+        service,
+    )
+}
+
+/// The parts of a mapping whose required texts were read.
+fn read_parts_with(
+    alloc: Global,
+    object: &Tree<'_, '_>,
+    source: String,
+    source_id: String,
+    last_updated: String,
+    expires: String,
+    service: String,
+) -> Option<Parts>
+    ensures { IfSome result (λ parts.
+        parts_with_texts (string_bytes source) (string_bytes source_id) (string_bytes last_updated) (string_bytes expires)
+        (string_bytes service) (members_of object.now) ≡ Some (parts_of parts)) }
+{
     Some(Parts {
-        source: required::<String>(alloc, object, "source")?,
-        source_id: required::<String>(alloc, object, "sourceId")?,
-        last_updated: required::<String>(alloc, object, "lastUpdated")?,
-        expires: required::<String>(alloc, object, "expires")?,
-        service: required::<String>(alloc, object, "service")?,
+        source,
+        source_id,
+        last_updated,
+        expires,
+        service,
         uris: required::<Vec<String>>(alloc, object, "uri")?,
         number: optional::<String>(alloc, object, "serviceNumber")?,
         regions: defaulting(alloc, object, "serviceBoundary", Vec::<Region>::new(alloc))?,
