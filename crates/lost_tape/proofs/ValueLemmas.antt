@@ -295,10 +295,12 @@ with_the_number head areas tail texts dialled same = ap (λ n. Some (parts_numbe
 mapping_parts : (head : Head) (dialled : Option Text) (tail : Tail) (regions uris : Items) (areas : List Region) (texts : List Text) → each_of region_kind regions ≡ Some areas → each_of as_str uris ≡ Some texts
     → option_copied tail.number ≡ dialled → parts_of_members (mapping_tree head regions dialled tail uris) ≡ Some (compact_parts head areas tail texts)
 mapping_parts head None tail regions uris areas texts a b same =
-    parts_made (mapping_tree head regions None tail uris) _ _ _ _ _ texts None areas false [] (Some head.key.now) refl refl refl refl refl b refl (rw a refl) refl refl refl
+    parts_made (mapping_tree head regions None tail uris) tail.source.now tail.source_id.now head.last_updated.now head.expires.now head.service.now
+    texts None areas false [] (Some head.key.now) b refl (rw a refl) refl refl refl
     ∙ with_the_number head areas tail texts None same
 mapping_parts head (Some dialled) tail regions uris areas texts a b same =
-    parts_made (mapping_tree head regions (Some dialled) tail uris) _ _ _ _ _ texts (Some dialled) areas false [] (Some head.key.now) refl refl refl refl refl b refl (rw a refl) refl refl refl
+    parts_made (mapping_tree head regions (Some dialled) tail uris) tail.source.now tail.source_id.now head.last_updated.now head.expires.now head.service.now
+    texts (Some dialled) areas false [] (Some head.key.now) b refl (rw a refl) refl refl refl
     ∙ with_the_number head areas tail texts (Some dialled) same
 
 pub mapping_text : (head : Head) (tail : Tail) (areas : List Region) (texts : List Text) (mapping : Mapping) (text r₁ t₁ r₂ r₃ t₃ r₄ : Text)

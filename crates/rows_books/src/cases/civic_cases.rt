@@ -163,6 +163,8 @@ fn shown_pattern(alloc: Global, pattern: &CivicPattern) -> Result<String, CaseEr
 /// Adds an element's comparison text, where it has one.
 fn add_text(said: &mut Gathered, element: Element, text: Option<&str>) {
     if let Some(text) = text {
-        said.add_all(&[element.name(), "=", text, ";"]);
+        said.add_all(&[element.name(), "="]);
+        said.add(text);
+        said.add(";");
     }
 }
