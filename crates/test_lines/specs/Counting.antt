@@ -3,7 +3,7 @@ use Rattle.std.specs.Prelude.{◌≡◌, Option, None, Some}
 use Rattle.lost_spec.specs.Holders.{Entry}
 use Rattle.lost_location.specs.Place.{place_of}
 use Rattle.lost_desk.specs.Sets.{entry}
-use Rattle.rows_lines.specs.declared.desks.counting.Kept.{Kept}
+use Rattle.test_lines.specs.declared.desks.counting.Kept.{Kept}
 
 -- an entry is the one that is kept
 abbrev pub IsTheOne : Option Kept → Entry → Type 0

@@ -4,7 +4,7 @@ use Rattle.lost_spec.specs.Place.{Place as Seen}
 use Rattle.lost_location.specs.Place.{place_of}
 use Rattle.lost_location.proofs.EqualPlaces.{equal_places}
 use Rattle.lost_desk.specs.Sets.{entry}
-use Rattle.rows_lines.proofs.desks.counting.Counting.set_of.Goals as goal
+use Rattle.test_lines.proofs.desks.counting.Counting.set_of.Goals as goal
 
 same_entry : (a b : ℕ) (p q : Seen) (s t : List ℕ) → a ≡ b → p ≡ q → s ≡ t → entry a p s ≡ entry b q t
 same_entry a b p q s t one two three = cc (one, two, three)

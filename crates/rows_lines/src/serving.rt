@@ -1,13 +1,8 @@
 //! A server with a desk and two clients, over connections of this machine. Two workers answer the clients, and the first
 //! line waits until the other one was answered. The desk stays meanwhile. Then a server that is told to end.
-#![tactic(auto)]
-
-mod client;
-mod ending;
-
-use client::{Client, Doors};
-use ending::ended;
-use lost_server::{ConnectionSettings, Counts, Gate, RunFault, serve};
+use crate::client::{Client, Doors};
+use crate::ending::ended;
+use lost_server::{ConnectionSettings, Counts, Gate, RunFault, System, serve};
 use std::alloc::Global;
 use std::io;
 use std::net::{Net, TcpListener, TcpStream};
@@ -31,10 +26,13 @@ const COMMIT: &[u8] = b"{\"commit\":{}}\n";
 const QUESTION: &[u8] =
     b"{\"findService\":{\"location\":[{\"id\":\"p\",\"pos\":[5000000,5000000],\"profile\":\"geodetic-2d\"}],\"service\":\"urn:service:sos.police\"}}\n";
 
-fn main(rt: HostRuntime) -> io::Result<()> {
+/// Prints what both servers answered, and their counts.
+pub(crate) fn run<
+    R: System + Print + Net<Listener = TcpListener, Stream = TcpStream> + Send + Sync,
+>(rt: &R) -> io::Result<()> {
     let setting = Setting::new(rt.alloc())?;
-    answer(&rt, &setting)?;
-    match ended(&rt, &setting.name) {
+    answer(rt, &setting)?;
+    match ended(rt, &setting.name) {
         Ok(counts) => println!(rt; "ended: lines {} faults {}", counts.lines, counts.faults),
         Err(_) => println!(rt; "not ended as told"),
     }

@@ -24,7 +24,7 @@ pub(crate) struct Counting {
 }
 
 impl Counting {
-    ghost use Rattle.rows_lines.specs.Counting.{IsTheOne};
+    ghost use Rattle.test_lines.specs.Counting.{IsTheOne};
 
     /// Nothing is kept or counted.
     pub(crate) fn new() -> Counting
@@ -56,7 +56,7 @@ impl Counting {
 }
 
 impl PlaceSets for Counting {
-    ghost use Rattle.rows_lines.specs.Counting.{IsTheOne};
+    ghost use Rattle.test_lines.specs.Counting.{IsTheOne};
 
     ghost keeps = { λ c e. IsTheOne c.kept e };
 
