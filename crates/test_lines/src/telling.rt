@@ -46,12 +46,12 @@ pub(crate) fn tell_folded<R: Print>(rt: &R, written: &[u8]) -> io::Result<()> {
     let Ok(text) = std::str::from_utf8(written) else {
         return Ok(());
     };
-    let mut last = "";
+    let mut last: &[u8] = b"";
     let mut count = 0u64;
     for line in text.lines() {
-        if line != last {
+        if line.as_bytes() != last {
             tell_repeated(rt, last, count)?;
-            last = line;
+            last = line.as_bytes();
             count = 0;
         }
         count = count.saturating_add(1);
@@ -60,7 +60,10 @@ pub(crate) fn tell_folded<R: Print>(rt: &R, written: &[u8]) -> io::Result<()> {
 }
 
 /// Prints a line that comes so many times in a row.
-fn tell_repeated<R: Print>(rt: &R, line: &str, count: u64) -> io::Result<()> {
+fn tell_repeated<R: Print>(rt: &R, line: &[u8], count: u64) -> io::Result<()> {
+    let Ok(line) = std::str::from_utf8(line) else {
+        return Ok(());
+    };
     match count {
         0 => Ok(()),
         1 => println!(rt; "{line}"),
