@@ -13,9 +13,14 @@ use std::marker::Model;
 
 /// The notes under one key: their numbers rise, and no two of one number have equal outlines. Contracts see it as their
 /// list.
-#[derive(Drop)]
 pub(crate) struct Cell<P: Profile> {
     notes: Vec<Note<P::Outline>>,
+}
+
+impl<P: Profile> Drop for Cell<P> {
+    fn drop(self) {
+        let Cell { notes: _ } = self;
+    }
 }
 
 impl<P: Profile> Model for Cell<P> {

@@ -9,9 +9,14 @@ use std::alloc::{AllocError, Global};
 use std::marker::Model;
 
 /// The regions of one number, in order. Contracts see it as their list.
-#[derive(Drop)]
 pub(crate) struct Entry<P: Profile> {
     kept: Vec<IndexedRegion<P>>,
+}
+
+impl<P: Profile> Drop for Entry<P> {
+    fn drop(self) {
+        let Entry { kept: _ } = self;
+    }
 }
 
 impl<P: Profile> Model for Entry<P> {

@@ -13,10 +13,18 @@ use std::marker::Model;
 
 /// The held numbers, each with its regions, in chunks: a number more takes little more memory than its entry. Contracts
 /// see it as the list of (number, regions), in rising order of the numbers.
-#[derive(Drop)]
 pub(crate) struct Held<P: Profile> {
     alloc: Global,
     chunks: Vec<Vec<(u64, Entry<P>)>>,
+}
+
+impl<P: Profile> Drop for Held<P> {
+    fn drop(self) {
+        let Held {
+            alloc: _,
+            chunks: _,
+        } = self;
+    }
 }
 
 impl<P: Profile> Model for Held<P> {

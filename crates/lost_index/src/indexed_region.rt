@@ -6,9 +6,14 @@ use lost_profile::Profile;
 use std::marker::Model;
 
 /// A region. Its outline and the keys of its cover are made anew where they are needed. Contracts see it as the region.
-#[derive(Drop)]
 pub(crate) struct IndexedRegion<P: Profile> {
     region: P::Region,
+}
+
+impl<P: Profile> Drop for IndexedRegion<P> {
+    fn drop(self) {
+        let IndexedRegion { region: _ } = self;
+    }
 }
 
 impl<P: Profile> Model for IndexedRegion<P> {

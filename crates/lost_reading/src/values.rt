@@ -1,7 +1,7 @@
 //! Values as trees, read from their tokens as serde_json reads them, within a budget of memory.
-ghost use Rattle.std.specs.Prelude.{◌≡◌, ◌<◌, length, Some, None, Err, IfOk, OnOk};
+ghost use Rattle.std.specs.Prelude.{◌≡◌, ◌<◌, ◌++◌, ◌∷◌, [], length, Some, None, Err, IfOk, IfErr, OnOk};
 ghost use Rattle.json.specs.Json.{value, items, members};
-ghost use Rattle.serde_json.specs.Data.{no_members};
+ghost use Rattle.serde_json.specs.Data.{no_members, string, put};
 ghost use Rattle.serde_json.specs.Read.{of_json, of_items, of_members, converted};
 ghost use Rattle.serde_json.specs.View.{view, items_view, members_view};
 
@@ -26,10 +26,7 @@ pub(crate) fn read(
 {
     let token = reader.next().ok_or(ReadError::BadRequest)?;
     match token {
-        Token::String(text) => {
-            budget.spend_text(text)?;
-            Ok(Value::String(String::from_str(alloc, text)?))
-        }
+        Token::String(text) => text_value(alloc, budget, text),
         Token::Number(text) => match number(text) {
             Some(number) => Ok(Value::Number(number)),
             None => Err(ReadError::BadRequest),
@@ -54,6 +51,16 @@ pub(crate) fn read(
     }
 }
 
+/// A text as a value.
+#[inline(never)]
+fn text_value(alloc: Global, budget: &mut Budget, text: &str) -> Result<Value, ReadError>
+    ensures ok { IfOk result (λ v. view v ≡ string text.now) }
+    ensures err { IfErr result (λ fault. fault ≡ ReadError.Memory) }
+{
+    budget.spend_text(text)?;
+    Ok(Value::String(String::from_str(alloc, text)?))
+}
+
 /// The items of an array, behind its opening bracket.
 #[cycle(read)]
 #[inline(never)]
@@ -73,10 +80,19 @@ fn read_items(
     let mut found = Vec::with_capacity(alloc, FIRST_ROOM)?;
     'items: while !reader.take_end_array() {
         let item = read(alloc, reader, budget, depth)?;
-        budget.spend_item(&found)?;
-        found.push(item)?;
+        add_item(budget, &mut found, item)?;
     }
     Ok(found)
+}
+
+/// Adds an item to those of an array.
+fn add_item(budget: &mut Budget, found: &mut Vec<Value>, item: Value) -> Result<(), ReadError>
+    ensures added { OnOk result (found.new.items ≡ found.old.items ++ item ∷ []) }
+    ensures err { IfErr result (λ fault. fault ≡ ReadError.Memory) }
+{
+    budget.spend_item(found)?;
+    found.push(item)?;
+    Ok(())
 }
 
 /// The members of an object, behind its opening bracket: of each name the last one stays.
@@ -98,10 +114,25 @@ fn read_members(
     let mut found = Map::new(alloc);
     'members: while let Some(name) = reader.next_key()? {
         budget.spend_text(name)?;
-        let key = String::from_str(alloc, name)?;
         let member = read(alloc, reader, budget, depth)?;
-        budget.spend_member(&found)?;
-        drop(found.insert(key, member)?);
+        add_member(alloc, budget, &mut found, name, member)?;
     }
     Ok(found)
+}
+
+/// Adds a member to those of an object, or puts it in the place of an earlier one of this name.
+fn add_member(
+    alloc: Global,
+    budget: &mut Budget,
+    found: &mut Map<String, Value>,
+    name: &str,
+    member: Value,
+) -> Result<(), ReadError>
+    ensures added { OnOk result (members_view found.new.entries ≡ put name.now (view member) (members_view found.old.entries)) }
+    ensures err { IfErr result (λ fault. fault ≡ ReadError.Memory) }
+{
+    budget.spend_member(found)?;
+    let key = String::from_str(alloc, name)?;
+    drop(found.insert(key, member)?);
+    Ok(())
 }

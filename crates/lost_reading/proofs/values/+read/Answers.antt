@@ -1,4 +1,5 @@
-use Rattle.std.proofs.Common.{◌≡◌, ◌-◌, [], ◌∷◌, length, Some, None, string_bytes, sym, ap, ap₂, ◌∙◌, arith, rules}
+use Rattle.std.proofs.Common.{◌≡◌, ◌-◌, [], ◌∷◌, length, Some, None, sym, ap, ap₂, ◌∙◌, arith, rules}
+use Rattle.std.proofs.lemmas.Result.{IfOk-weaker}
 use Rattle.json.specs.Token.{Token}
 use Rattle.json.specs.Json.{parse_map, after_end_array, items, members, value}
 use Rattle.json.specs.Reads.{token_of}
@@ -6,8 +7,8 @@ use Rattle.json.proofs.Grammar.{value_is, value-begin_array, value-begin_object}
 use Rattle.serde_json.specs.Data.{null, boolean, number, string, array, object, item, no_items, put}
 use Rattle.serde_json.specs.Read.{of_json, converted}
 use Rattle.serde_json.specs.View.{view, number_view, members_view}
-use Rattle.serde_json.specs.declared.value.Value.{String, Number, Bool, Null, the_lemmas}
-use Rattle.serde_json.proofs.Views.{view-Array, view-Object, members_view-insert_entry}
+use Rattle.serde_json.specs.declared.value.Value.{Number, Bool, Null, the_lemmas}
+use Rattle.serde_json.proofs.Views.{view-Array, view-Object}
 use Rattle.lost_reading.proofs.TurnLemmas.{converted-array, converted-object, items_before, items_before-no_items, items_before-push, items_begun, items_more_read, items_stopped, items_done, members_begun, members_more_read, members_stopped, keys_stopped, members_done}
 use Rattle.lost_reading.proofs.values.+read.Goals as goal
 
@@ -42,12 +43,12 @@ read-returns-in_err-read_members-in-BeginObject-clause-err t c refused =
     let opened = ap (converted of_json) (ap (value c.args.depth) (first ∙ ap (λ k. token_of k ∷ c.next.new.self) c.in-BeginObject.is) ∙ value-begin_object c.args.depth c.next.new.self (omega arith)) ∙ converted-object (members (value (c.args.depth - 1)) (length c.next.new.self) c.next.new.self) in
     opened ∙ ap (parse_map object) (c.read_members.ensures.err (grind arith))
 
-pub read-returns-in_ok-from_str-in-String-clause-ok : goal.read-returns-in_ok-from_str-in-String-clause-ok
-read-returns-in_ok-from_str-in-String-clause-ok t c =
+pub read-returns-in-String-clause-ok : goal.read-returns-in-String-clause-ok
+read-returns-in-String-clause-ok t c =
     let first : c.args.reader.now ≡ token_of c.in_ok-token.token ∷ c.next.new.self = grind arith in
     let is : c.args.reader.now ≡ Token.string c.in-String.text.now ∷ c.next.new.self = grind (arith, first) in
-    let seen : view (String c.in_ok-from_str-in-String.field-0) ≡ string c.in-String.text.now = search (rules, the_lemmas) in
-    ap (converted of_json) (ap (value c.args.depth) is ∙ value_is c.args.depth _) ∙ ap (λ d. Some (d, c.next.new.self)) (sym seen)
+    let read : converted of_json (value c.args.depth c.args.reader.now) ≡ Some (string c.in-String.text.now, c.next.new.self) = ap (converted of_json) (ap (value c.args.depth) is ∙ value_is c.args.depth _) in
+    IfOk-weaker c.text_value.result _ _ (λ v seen. read ∙ ap (λ d. Some (d, c.next.new.self)) (sym seen)) c.text_value.ensures.ok
 
 pub read-returns-in-Bool-clause-ok : goal.read-returns-in-Bool-clause-ok
 read-returns-in-Bool-clause-ok t c =
@@ -110,7 +111,7 @@ read_items-items-preserved t c =
     let v = c.in_ok-item.item in
     let going : (after_end_array l.reader ≡ None) × (c.take_end_array.new.self ≡ l.reader) = grind arith in
     items_more_read _ _ _ l.invariant c.read.new.reader (view v) going.0 (rw (← going.1) c.in_ok-item.ensures.ok) (rw (← going.1) c.in_ok-item.ensures.shorter)
-    (λ before is rest. is (item (view v) rest) ∙ items_before-push l.found.items v rest ∙ ap (λ vs. items_before vs rest) (sym c.in_ok-push.ensures.items))
+    (λ before is rest. is (item (view v) rest) ∙ items_before-push l.found.items v rest ∙ ap (λ vs. items_before vs rest) (sym c.in_ok-add_item.ensures.added))
 
 pub read_items-returns-clause-ok : goal.read_items-returns-clause-ok
 read_items-returns-clause-ok t c =
@@ -133,10 +134,7 @@ read_members-members-preserved t c =
     let k = c.in-Some.name.now in
     let done = c.in_ok-member.ensures in
     let v = c.in_ok-member.member in
-    let copied : string_bytes c.in_ok-key.key ≡ k = search rules in
-    let inserted : members_view c.insert.new.self.entries ≡ put k (view v) (members_view l.found.entries) =
-    ap members_view c.in_ok-insert.ensures.entries ∙ members_view-insert_entry l.found.entries c.in_ok-key.key v ∙ ap (λ name. put name (view v) (members_view l.found.entries)) copied in
-    members_more_read _ _ _ l.invariant k c.next_key.new.self c.read.new.reader (view v) (grind arith) done.ok done.shorter (λ all is. ap (put k (view v)) is ∙ sym inserted)
+    members_more_read _ _ _ l.invariant k c.next_key.new.self c.read.new.reader (view v) (grind arith) done.ok done.shorter (λ all is. ap (put k (view v)) is ∙ sym c.in_ok-add_member.ensures.added)
 
 pub read_members-returns-clause-ok : goal.read_members-returns-clause-ok
 read_members-returns-clause-ok t c =
