@@ -1,4 +1,4 @@
-"""Random sessions through readers that keep places: the program `rows_lines`, over a folder of sessions with the oracle's replies.
+"""Random sessions through readers that keep places: the program `rows_gate`, over a folder of sessions with the oracle's replies.
 
 With a file of limits beside a session its desk has these, and not the widest: so refusals 18, 19 and 22 come after a few edits.
 """
@@ -12,7 +12,7 @@ from comparing import TOP, kinds_of, oracle_replies
 from noticing import standing_in
 from sessions import Session
 
-PROGRAM = f"{TOP}/crates/rows_lines/out/rows_lines"
+PROGRAM = f"{TOP}/crates/rows_gate/out/rows_gate"
 NAME, NOW = "lost.example", "2026-01-01T00:00:00Z"
 
 
@@ -46,7 +46,7 @@ def write_files(folder, seed, **contents):
 def compare_written(write_one, seeds):
     """Compares the replies of the program with those that are written; how many sessions are the same, how many not, and kinds."""
     if not os.path.exists(PROGRAM):
-        sys.exit(f"{PROGRAM} is not built yet: rt run in crates/rows_lines builds it")
+        sys.exit(f"{PROGRAM} is not built yet: rt run in crates/rows_gate builds it")
     with tempfile.TemporaryDirectory() as folder:
         os.mkdir(f"{folder}/sessions")
         written = [replies for replies in (write_one(folder, seed) for seed in seeds) if replies is not None]

@@ -27,16 +27,16 @@ FURTHER = [
 ]
 # What serve_desk answers to a line whose growth is refused.
 NO_MEMORY = b'{"refused":{"code":20,"name":"Memory"}}'
-# What the command index of rows_books says of a refused call, with the answer of the index after it, and of the same call again.
+# What the command index of rows_gate says of a refused call, with the answer of the index after it, and of the same call again.
 REFUSED = {
     b"first put refused:": [b"first put again: 1"],
     b"second put refused: 1": [b"second put again: 1 2"],
     b"add refused: 1 2": [b"add again: 1 2"],
     b"holding refused": [],
 }
-# The edits of rows_books for which a growth is refused: a replacement of a plain book takes no memory.
+# The edits of rows_gate for which a growth is refused: a replacement of a plain book takes no memory.
 GROWING = [("book", "publish"), ("book", "withdraw"), ("routing", "publish"), ("routing", "replace"), ("routing", "withdraw")]
-# What an empty book answers to the questions of rows_books.
+# What an empty book answers to the questions of rows_gate.
 EMPTY = b"edition 0, held 0, keys - - - - -, not implemented, holding, at, defaults, of service, below, withdrawn - - - -"
 
 
@@ -116,13 +116,13 @@ class Program:
 
 
 class Lines(Program):
-    """A command of the program rows_lines, which answers a refused line and goes on."""
+    """A command of the program rows_gate, which answers a refused line and goes on."""
 
     # How many bytes of lines the program is given: empty lines fill them up, so that to read them always takes as many growths.
     ROOM = 16_384
 
     def __init__(self, command, library):
-        super().__init__("rows_lines", library, command)
+        super().__init__("rows_gate", library, command)
         self.file = f"{command}.lines"
         self.lines = lines_of(read(f"{self.folder}/{self.file}"))
         self.answers = lines_of(self.wanted)
@@ -261,7 +261,7 @@ class Cache(Lines):
 
 
 class Streams(Program):
-    """The command lines of the program rows_lines, over a stream of two lines, which marks the line of a refused growth."""
+    """The command lines of the program rows_gate, over a stream of two lines, which marks the line of a refused growth."""
 
     LINES = rb"text aaaaaaaaaaaa\nb\n" + b"\nserve pieces=1\n"
     must_end = ("a line answered refused",)
@@ -269,7 +269,7 @@ class Streams(Program):
     ANSWERS = (([b"12", b"1"], 0, 5), ([b"refused", b"1"], 1, 10), ([b"12", b"refused"], 1, 11))
 
     def __init__(self, library):
-        super().__init__("rows_lines", library, "lines")
+        super().__init__("rows_gate", library, "lines")
         usual, *self.marked = map(self.output, self.ANSWERS)
         self.wanted = b"".join(line + b"\n" for line in usual)
 
@@ -295,10 +295,10 @@ class Streams(Program):
 
 
 class DeskStream(Program):
-    """The command hostile of the program rows_lines, over the desk lines of some input: serve_desk marks the line of a refused growth."""
+    """The command hostile of the program rows_gate, over the desk lines of some input: serve_desk marks the line of a refused growth."""
 
     def __init__(self, library, name, lines, replies):
-        super().__init__("rows_lines", library, "hostile")
+        super().__init__("rows_gate", library, "hostile")
         self.name, self.lines, self.replies = name, lines, replies
         staged = (number for number, reply in enumerate(replies, 1) if reply.startswith(b'{"staged"'))
         self.must_end = tuple(f"line {number} answered code 20" for number in staged)
@@ -350,12 +350,12 @@ def desk_streams(library):
 
 
 class Index(Program):
-    """The covers and the row of an index of the program rows_books, which tells of a refused call and makes it again."""
+    """The covers and the row of an index of the program rows_gate, which tells of a refused call and makes it again."""
 
     must_end = tuple(line.split(b":")[0].decode() for line in REFUSED)
 
     def __init__(self, library):
-        super().__init__("rows_books", library, "covers", "index")
+        super().__init__("rows_gate", library, "covers", "index")
         self.answers = lines_of(self.wanted)
 
     def judge(self, refused):
@@ -372,12 +372,12 @@ class Index(Program):
 
 
 class Books(Program):
-    """The edits of the program rows_books, which applies a refused edit again, and asks a refused question again."""
+    """The edits of the program rows_gate, which applies a refused edit again, and asks a refused question again."""
 
     must_end = ("asked again", *(f"{name} ran out of memory in a {verb}" for name, verb in GROWING))
 
     def __init__(self, library):
-        super().__init__("rows_books", library, "edits")
+        super().__init__("rows_gate", library, "edits")
         self.answers = lines_of(self.wanted)
         self.verbs = self.verbs_of_answers()
 
@@ -426,10 +426,10 @@ class Books(Program):
 
 
 class Calls(Program):
-    """The command calls of a program: calls that take no memory, on values that are made before. The command prepared makes the values alone."""
+    """The command calls of the program rows_gate: calls that take no memory, on values made before. The command prepared makes the values alone."""
 
-    def __init__(self, name, library):
-        super().__init__(name, library, "calls")
+    def __init__(self, library):
+        super().__init__("rows_gate", library, "calls")
 
     def sweep(self):
         alone = call([self.words[0], "prepared"], self.library, 0, count=True, folder=self.folder)

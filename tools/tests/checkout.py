@@ -61,8 +61,8 @@ class Checkout(unittest.TestCase):
             root = ("main.rt", read("building/program")) if name == "lostd" else ("lib.rt", f"fn {name}() {{}}\n")
             self.write(f"{self.top}/crates/{name}/src/{root[0]}", root[1])
         for ending in ("jsonl", "expected"):
-            self.write(f"{self.top}/crates/rows_lines/data/sessions/one.{ending}", "{}\n")
-        os.symlink("crates/rows_lines/data/sessions", f"{self.top}/examples")
+            self.write(f"{self.top}/crates/rows_gate/data/sessions/one.{ending}", "{}\n")
+        os.symlink("crates/rows_gate/data/sessions", f"{self.top}/examples")
 
     def write(self, path: str, text: str) -> None:
         """Writes a file."""

@@ -27,7 +27,7 @@ class OracleTests(unittest.TestCase):
     def test_sessions(self) -> None:
         self.compare(["--sessions", SESSIONS])
 
-    @unittest.skipUnless(os.access(f"{TOP}/crates/rows_lines/out/rows_lines", os.X_OK), "rows_lines is not built")
+    @unittest.skipUnless(os.access(f"{TOP}/crates/rows_gate/out/rows_gate", os.X_OK), "rows_gate is not built")
     def test_small_limits(self) -> None:
         """A desk that may hold, accept and remember little: each of its limits is reached."""
         self.compare(["--limits", "--sessions", LIMITED])

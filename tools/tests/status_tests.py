@@ -16,7 +16,7 @@ from tests.running import TOP, lostd, question
 PYTHON = "/usr/bin/python3"
 NEEDS = "the package python3-prometheus-client of Debian is missing"
 PATIENCE = 20.0
-ROWS = f"{TOP}/crates/rows_lines/data/status.rows"
+ROWS = f"{TOP}/crates/rows_gate/data/status.rows"
 NEW_SERVER = "# the numbers of a new server\n"
 
 # Prints the families of a text on standard input: name, type and help, and of each sample its name, labels and value.

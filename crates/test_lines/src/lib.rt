@@ -1,9 +1,9 @@
-//! The commands of rows_lines that need no server: rows of lines, and streams of them.
+//! Commands of rows_gate that need no server: rows of lines, and streams of them.
 //!
 //! - `sessions`: each session of the folder `sessions` is answered by a desk and a reader that keeps 1, 2 and 1,024
 //!   places. `NAME.jsonl` has the lines, `NAME.expected` the replies. A desk has the limits that the file `NAME.limits`
 //!   gives, or the widest. (`tools/test` has the program replay these sessions.)
-//! - `worlds`: runs the worlds of standard input, and prints the events of their steps, one a line. A line
+//! - `worlds`: runs the worlds of `worlds.lines`, and prints the events of their steps, one a line. A line
 //!   `world W LIMITS` begins a world of so many workers, and each line after it is a step, until the next world:
 //!   `stage EDIT`, `publish`, `enter W`, `tell W N` or `answer W REQUEST`, with an edit and a request as lines of JSON.
 //!   (Own format.)
@@ -12,8 +12,6 @@
 //! - `cache`: the lines of `cache.lines`, for a desk and two readers: one has a cache, the other counts what it finds.
 //!   A desk line goes to the desk, any other line to both. The line `next` ends a session, and the next one has a desk
 //!   of its own.
-//! - `calls`: the calls that take no memory, on the desks of the table `calls.lines` and their readers. `prepared`
-//!   makes these alone.
 //! - `streams`: the script `streams.lines`, over a desk and two readers that stay. `desk` serves a stream by the desk,
 //!   `queries` by a reader, and `workers` by two workers whose first line waits until another was answered. `bursts
 //!   NUMBER` serves it in bursts, cut at every byte, by an output that takes so many bytes at a time, and `cut NUMBER`
@@ -72,43 +70,43 @@ use std::thread::Threads;
 use std::time::Clock;
 use std::{fs, io};
 
-/// Runs a command: prints it, and then its rows. Says whether all is as expected.
+/// Has each session answered. Prints and returns whether all replies are as expected.
+///
+/// # Errors
+/// Those of files and of standard output, and `OutOfMemory`.
+pub fn print_sessions<R: Files + Wait + Print + AllocGlobal + Clone + Drop>(
+    rt: &R,
+) -> io::Result<bool> {
+    sessions::print_sessions(rt)
+}
+
+/// Runs another command, whose output alone says whether all is as expected.
 ///
 /// # Errors
 /// Those of files and of standard output, and `OutOfMemory`.
 pub fn run<
-    R: Files
-        + Input
-        + Print
-        + Eprint
-        + RandomSource
-        + Threads
-        + Wait
-        + Clock
-        + Sync
-        + AllocGlobal
-        + Clone
-        + Drop,
->(rt: &R, command: &str) -> io::Result<bool> {
-    println!(rt; "== {command}")?;
-    if command == "sessions" {
-        return sessions::print_sessions(rt);
-    }
-    run_rows(rt, command)?;
-    Ok(true)
-}
-
-/// Runs a command whose output alone says whether all is as expected.
-fn run_rows<
     R: Files + Input + Print + Eprint + RandomSource + Threads + Wait + Clock + Sync + AllocGlobal,
 >(rt: &R, command: &str) -> io::Result<()> {
     match command {
         "worlds" => worlds::print_worlds(rt),
-        "desk" | "cache" | "calls" | "prepared" => desks::run(rt, command),
+        "desk" => desks::desk::run(rt),
+        "cache" => desks::cache::run(rt),
         "orders" => orders::run(rt),
         "status" => status::run(rt),
         script => run_script(rt, script),
     }
+}
+
+/// Makes the desks of the table `calls.lines`. If `are_made`, makes the calls on them and on their readers that take no
+/// memory too, and prints their answers.
+///
+/// # Errors
+/// Those of the table and of standard output, and `OutOfMemory`.
+pub fn print_calls<R: Files + Wait + Print + AllocGlobal>(
+    rt: &R,
+    are_made: bool,
+) -> io::Result<()> {
+    desks::calls::run(rt, are_made)
 }
 
 /// Runs the script of a command.

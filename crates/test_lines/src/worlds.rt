@@ -7,16 +7,18 @@ use lost_book::Limits;
 use lost_core::{Step, World};
 use script::Line;
 use std::alloc::Global;
-use std::io;
 use std::mem::replace;
+use std::rt::Files;
+use std::{fs, io};
 use test_parts::Setting;
 
-/// Runs the worlds of standard input, and prints their events.
-pub(crate) fn print_worlds<R: Input + Print + AllocGlobal>(rt: &R) -> io::Result<()> {
+/// Runs the worlds of `worlds.lines`, and prints their events.
+pub(crate) fn print_worlds<R: Files + Print + AllocGlobal>(rt: &R) -> io::Result<()> {
     let setting = Setting::new(rt.alloc())?;
+    let script = fs::read_to_string(rt, "worlds.lines")?;
     let mut draft = Draft::new(rt.alloc(), 0, Limits::widest());
-    for line in rt.lines(rt.alloc()) {
-        take(rt, &setting, &mut draft, line?.as_str())?;
+    for line in script.as_str().lines() {
+        take(rt, &setting, &mut draft, line)?;
     }
     run(rt, &setting, draft)
 }

@@ -1,4 +1,4 @@
-//! The lines of standard input.
+//! The lines of worlds.
 use lost_book::Limits;
 use lost_core::Step;
 use lost_json::{DeskFault, DeskLine, read_desk};
@@ -6,7 +6,7 @@ use lost_mapping::{MappingError, Moment};
 use std::alloc::{AllocError, Global};
 use test_parts::limits_of;
 
-/// A line of standard input.
+/// A line of worlds.
 #[derive(Drop)]
 pub(crate) enum Line {
     /// A world of so many workers, whose book has these limits, begins.

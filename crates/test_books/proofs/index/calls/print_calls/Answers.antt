@@ -1,7 +1,7 @@
 -- The number is held with its two regions, and still once it is cut.
 use Rattle.std.specs.List.{slice_range}
-use Rattle.rows_books.proofs.RowLemmas.{one_held, has_both, cut_held}
-use Rattle.rows_books.proofs.index.calls.print_calls.Goals as goal
+use Rattle.test_books.proofs.RowLemmas.{one_held, has_both, cut_held}
+use Rattle.test_books.proofs.index.calls.print_calls.Goals as goal
 
 pub cut-requires-clause-held : goal.cut-requires-clause-held
 cut-requires-clause-held g c =

@@ -1,6 +1,6 @@
 -- The first number is held after both puts, and has two sets after the add.
-use Rattle.rows_books.proofs.RowLemmas.{first_held, still_held, two_held}
-use Rattle.rows_books.proofs.index.sets.print_changes.Goals as goal
+use Rattle.test_books.proofs.RowLemmas.{first_held, still_held, two_held}
+use Rattle.test_books.proofs.index.sets.print_changes.Goals as goal
 
 pub add-requires : goal.add-requires
 add-requires g c =

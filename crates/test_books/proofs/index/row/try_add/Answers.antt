@@ -1,6 +1,6 @@
 -- The first number is held after both puts.
-use Rattle.rows_books.proofs.RowLemmas.{first_held}
-use Rattle.rows_books.proofs.index.row.try_add.Goals as goal
+use Rattle.test_books.proofs.RowLemmas.{first_held}
+use Rattle.test_books.proofs.index.row.try_add.Goals as goal
 
 pub add-requires : goal.add-requires
 add-requires g c =

@@ -48,7 +48,7 @@ pub(crate) fn print_calls<R: Files + Print + AllocGlobal, A: Kind, B: Kind>(
     rt: &R,
     are_made: bool,
 ) -> io::Result<()> {
-    let table = fs::read_to_string(rt, "calls.rows")?;
+    let table = fs::read_to_string(rt, "calls.lines")?;
     let prepared = Prepared::<A, B>::read(rt.alloc(), table.as_str())?;
     println!(rt; "prepared")?;
     if are_made {
