@@ -1,20 +1,24 @@
 -- What the row's index holds after its steps.
 use Rattle.std.proofs.Common.{◌≡◌, ℕ, ◌≤◌, List, [], ◌∷◌, ◌++◌, length, refl, arith, length-append}
 use Rattle.std.proofs.lemmas.List.Elements.{All-nil, All-cons, All-contains}
+use Rattle.std.specs.List.{slice_range}
 use Rattle.lost_index.specs.Entries.{IsHeld, HasRegions, with_number}
+use Rattle.test_books.specs.Rows.{HoldsTwo, HoldsOne}
 
 module _ {R : Type 0} where
-  -- of the two numbers that are put, the first is held
-  pub first_held : (none one both : List (ℕ × List R)) (near twice : List R)
-      → none ≡ [] → one ≡ none ++ (1, near) ∷ [] → both ≡ one ++ (2, twice) ∷ [] → IsHeld 1 both
-  first_held none one both near twice empty first second = rw (second, first, empty) (0, omega arith, refl)
+  -- ---- of two numbers
 
-  -- and it still is once it has one region more
-  pub still_held : (none one both more : List (ℕ × List R)) (near twice far : List R)
-      → none ≡ [] → one ≡ none ++ (1, near) ∷ [] → both ≡ one ++ (2, twice) ∷ []
-      → more ≡ with_number 1 (λ held. held ++ far) both → IsHeld 1 more
-  still_held none one both more near twice far empty first second added =
-      rw (added, second, first, empty) (0, omega arith, refl)
+  pub both_put : (none one both : List (ℕ × List R)) (first second : List R)
+      → none ≡ [] → one ≡ none ++ (1, first) ∷ [] → both ≡ one ++ (2, second) ∷ [] → length first ≡ 1 → HoldsTwo both
+  both_put none one both first second empty put then single = (first, second, rw (then, put, empty) refl, single)
+
+  pub first_held : (both : List (ℕ × List R)) → HoldsTwo both → IsHeld 1 both
+  first_held both two = rw two.2 (0, omega arith, refl)
+
+  -- the first is still held once it has one region more
+  pub still_held : (both more : List (ℕ × List R)) (far : List R)
+      → HoldsTwo both → more ≡ with_number 1 (λ held. held ++ far) both → IsHeld 1 more
+  still_held both more far two added = rw (added, two.2) (0, omega arith, refl)
 
   two_of_first : (near twice far : List R) → length near ≡ 1 → length far ≡ 1 → HasRegions 2 1 ((1, near ++ far) ∷ (2, twice) ∷ [])
   two_of_first near twice far single further regions stands =
@@ -26,25 +30,31 @@ module _ {R : Type 0} where
       stands refl
 
   -- and then it has two
-  pub two_held : (none one both more : List (ℕ × List R)) (near twice far : List R)
-      → none ≡ [] → one ≡ none ++ (1, near) ∷ [] → both ≡ one ++ (2, twice) ∷ []
-      → more ≡ with_number 1 (λ held. held ++ far) both → length near ≡ 1 → length far ≡ 1 → HasRegions 2 1 more
-  two_held none one both more near twice far empty first second added single further =
-      rw (added, second, first, empty) (two_of_first near twice far single further)
+  pub two_held : (both more : List (ℕ × List R)) (far : List R)
+      → HoldsTwo both → more ≡ with_number 1 (λ held. held ++ far) both → length far ≡ 1 → HasRegions 2 1 more
+  two_held both more far two added further = rw (added, two.2) (two_of_first two.0 two.1 far two.3 further)
 
-  -- ---- of one number that is put with two regions
-  pub one_held : (none one : List (ℕ × List R)) (both : List R) → none ≡ [] → one ≡ none ++ (1, both) ∷ [] → IsHeld 1 one
-  one_held none one both empty put = rw (put, empty) (0, omega arith, refl)
+  -- the second is still held once the first is cut
+  pub second_held : (both more less : List (ℕ × List R)) (far : List R)
+      → HoldsTwo both → more ≡ with_number 1 (λ held. held ++ far) both → less ≡ with_number 1 (λ held. slice_range held 1 2) more → IsHeld 2 less
+  second_held both more less far two added cut = rw (cut, added, two.2) (1, omega arith, refl)
 
-  two_of_one : (both : List R) → length both ≡ 2 → HasRegions 2 1 ((1, both) ∷ [])
-  two_of_one both two regions stands =
+  -- ---- of one number
+
+  pub one_put : (none one : List (ℕ × List R)) (regions : List R) → none ≡ [] → one ≡ none ++ (1, regions) ∷ [] → length regions ≡ 2 → HoldsOne one
+  one_put none one regions empty put two = (regions, rw (put, empty) refl, two)
+
+  pub one_held : (one : List (ℕ × List R)) → HoldsOne one → IsHeld 1 one
+  one_held one is = rw is.1 (0, omega arith, refl)
+
+  two_of_one : (regions : List R) → length regions ≡ 2 → HasRegions 2 1 ((1, regions) ∷ [])
+  two_of_one regions two some stands =
       let enough = λ (e : ℕ × List R). e.0 ≡ 1 → 2 ≤ length e.1 in
-      All-contains enough ((1, both) ∷ []) (1, regions) (All-cons enough (1, both) [] (λ _. omega arith) (All-nil enough)) stands refl
+      All-contains enough ((1, regions) ∷ []) (1, some) (All-cons enough (1, regions) [] (λ _. omega arith) (All-nil enough)) stands refl
 
-  pub has_both : (none one : List (ℕ × List R)) (both : List R) → none ≡ [] → one ≡ none ++ (1, both) ∷ [] → length both ≡ 2 → HasRegions 2 1 one
-  has_both none one both empty put two = rw (put, empty) (two_of_one both two)
+  pub has_both : (one : List (ℕ × List R)) → HoldsOne one → HasRegions 2 1 one
+  has_both one is = rw is.1 (two_of_one is.0 is.2)
 
   -- and it is held once it is cut
-  pub cut_held : (none one less : List (ℕ × List R)) (both : List R) (change : List R → List R)
-      → none ≡ [] → one ≡ none ++ (1, both) ∷ [] → less ≡ with_number 1 change one → IsHeld 1 less
-  cut_held none one less both change empty put cut = rw (cut, put, empty) (0, omega arith, refl)
+  pub cut_held : (one less : List (ℕ × List R)) (change : List R → List R) → HoldsOne one → less ≡ with_number 1 change one → IsHeld 1 less
+  cut_held one less change is cut = rw (cut, is.1) (0, omega arith, refl)

@@ -1,6 +1,7 @@
 //! Calls that take no memory, over each profile: whether a region contains a location, and the cut and the take of an
 //! index. Their values are made first.
 ghost use Rattle.std.specs.Prelude.{◌≡◌, IfOk, length};
+ghost use Rattle.test_books.specs.Rows.{HoldsOne};
 
 use super::reading::{address, pattern, required};
 use super::rings::{FAR, NEAR, point, square};
@@ -56,8 +57,7 @@ fn print_tokens<R: Print + AllocGlobal>(rt: &R, are_made: bool) -> io::Result<()
     print_calls::<R, Tokens>(rt, kept, &asked, &place, are_made)
 }
 
-/// Makes an index of two regions. If `are_made`, prints which of the others contain a location, cuts one of the two
-/// away, and takes the other one out.
+/// Makes an index of two regions. If `are_made`, makes the calls too and prints their answers.
 fn print_calls<R: Print + AllocGlobal, P: Profile>(
     rt: &R,
     kept: Vec<P::Region>,
@@ -73,6 +73,18 @@ fn print_calls<R: Print + AllocGlobal, P: Profile>(
     if !are_made {
         return Ok(());
     }
+    make_calls(rt, &mut index, asked, location)
+}
+
+/// Prints which regions contain a location, cuts one of the index's two away, and takes the other one out.
+fn make_calls<R: Print, P: Profile>(
+    rt: &R,
+    index: &mut Index<P>,
+    asked: &[P::Region],
+    location: &P::Location,
+) -> io::Result<()>
+    requires { HoldsOne index.old }
+{
     print_contained::<R, P>(rt, asked, location)?;
     index.cut(1, 1, 2);
     index.take(1);

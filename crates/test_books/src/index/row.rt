@@ -1,5 +1,7 @@
 //! A row of edits of an index, over any kind of location.
-ghost use Rattle.std.specs.Prelude.{◌≡◌, [], IfOk, length};
+ghost use Rattle.std.specs.Prelude.{◌≡◌, [], IfOk, OnOk, length};
+ghost use Rattle.lost_index.specs.Entries.{IsAbove};
+ghost use Rattle.test_books.specs.Rows.{HoldsTwo};
 
 use super::rings::{FAR, NEAR, point, square};
 use super::sets::{print_found, set, token};
@@ -7,7 +9,7 @@ use lost_geo::Polygon;
 use lost_grid::Geodetic2d;
 use lost_index::Index;
 use lost_profile::{Profile, TokenSet, Tokens};
-use std::alloc::Global;
+use std::alloc::{AllocError, Global};
 use std::io;
 
 /// A kind of location, with the regions and the question of the row.
@@ -78,9 +80,35 @@ fn print_row<R: Print + AllocGlobal, P: Row>(
     requires single { length first.items ≡ 1 }
     requires further { length more.items ≡ 1 }
 {
+    put_both(index, first, second)?;
+    print_asked(rt, "put", index)?;
+    print_changes(rt, index, more)
+}
+
+/// Puts numbers 1 and 2, with the first and the second regions.
+pub(super) fn put_both<P: Profile>(
+    index: &mut Index<P>,
+    first: Vec<P::Region>,
+    second: Vec<P::Region>,
+) -> Result<(), AllocError>
+    requires empty { index.old ≡ [] }
+    requires single { length first.items ≡ 1 }
+    ensures { OnOk result (HoldsTwo index.new) }
+{
     index.put(1, first)?;
     index.put(2, second)?;
-    print_asked(rt, "put", index)?;
+    Ok(())
+}
+
+/// Prints what the index answers after an add, a cut and a take.
+fn print_changes<R: Print + AllocGlobal, P: Row>(
+    rt: &R,
+    index: &mut Index<P>,
+    more: Vec<P::Region>,
+) -> io::Result<()>
+    requires two { HoldsTwo index.old }
+    requires further { length more.items ≡ 1 }
+{
     index.add(1, more)?;
     print_asked(rt, "add", index)?;
     index.cut(1, 1, 2);
@@ -107,6 +135,13 @@ fn try_second_put<R: Print + AllocGlobal, P: Row>(rt: &R, index: &mut Index<P>) 
     requires { index.old ≡ [] }
 {
     index.put(1, near::<P>(rt.alloc())?)?;
+    try_put_of_two(rt, index)
+}
+
+/// Does the second put, after the first one.
+fn try_put_of_two<R: Print + AllocGlobal, P: Row>(rt: &R, index: &mut Index<P>) -> io::Result<()>
+    requires { IsAbove 2 index.old }
+{
     if index.put(2, near_twice::<P>(rt.alloc())?).is_ok() {
         return Ok(());
     }
@@ -119,20 +154,16 @@ fn try_second_put<R: Print + AllocGlobal, P: Row>(rt: &R, index: &mut Index<P>) 
 fn try_last_step<R: Print + AllocGlobal, P: Row>(rt: &R) -> io::Result<()> {
     let alloc = rt.alloc();
     let first = near::<P>(alloc)?;
-    try_add::<R, P>(rt, &mut Index::new(alloc), first, near_twice::<P>(alloc)?)
+    let second = near_twice::<P>(alloc)?;
+    let mut index = Index::new(alloc);
+    put_both(&mut index, first, second)?;
+    try_add::<R, P>(rt, &mut index)
 }
 
-/// Puts the first and the second regions, and does the same with the add.
-fn try_add<R: Print + AllocGlobal, P: Row>(
-    rt: &R,
-    index: &mut Index<P>,
-    first: Vec<P::Region>,
-    second: Vec<P::Region>,
-) -> io::Result<()>
-    requires { index.old ≡ [] }
+/// Does the add, after both puts.
+fn try_add<R: Print + AllocGlobal, P: Row>(rt: &R, index: &mut Index<P>) -> io::Result<()>
+    requires { HoldsTwo index.old }
 {
-    index.put(1, first)?;
-    index.put(2, second)?;
     if index.add(1, far::<P>(rt.alloc())?).is_ok() {
         return Ok(());
     }

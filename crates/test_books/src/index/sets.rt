@@ -1,6 +1,8 @@
 //! Indexes of token sets: which numbers hold each token, while sets are put, added, cut and taken.
 ghost use Rattle.std.specs.Prelude.{◌≡◌, [], IfOk, length};
+ghost use Rattle.test_books.specs.Rows.{HoldsTwo};
 
+use super::row::put_both;
 use lost_index::Index;
 use lost_profile::{Token, TokenError, TokenSet, Tokens};
 use std::alloc::{AllocError, Global};
@@ -18,7 +20,7 @@ const ASKED_AGAIN: [&str; 3] = ["t1", "t2", "t3"];
 /// Prints which numbers hold each token, of three numbers that are put, and then of two of which one changes.
 pub(crate) fn print_all<R: Print + AllocGlobal>(rt: &R) -> io::Result<()> {
     print_three(rt, &mut Index::new(rt.alloc()))?;
-    print_changes(rt, &mut Index::new(rt.alloc()))
+    print_two(rt, &mut Index::new(rt.alloc()))
 }
 
 /// Puts three numbers: with a set of two tokens, with two sets, and with one of 64.
@@ -32,15 +34,21 @@ fn print_three<R: Print + AllocGlobal>(rt: &R, index: &mut Index<Tokens>) -> io:
     print_holders(rt, "three", index, &ASKED)
 }
 
-/// Puts two numbers, changes the first one's set to another by an add and a cut, and takes the second one.
-fn print_changes<R: Print + AllocGlobal>(rt: &R, index: &mut Index<Tokens>) -> io::Result<()>
+/// Puts two numbers, and changes them.
+fn print_two<R: Print + AllocGlobal>(rt: &R, index: &mut Index<Tokens>) -> io::Result<()>
     requires { index.old ≡ [] }
 {
     let alloc = rt.alloc();
-    index.put(1, one(alloc, "t1 t2")?)?;
-    index.put(2, two(alloc, "t2", "t4")?)?;
+    put_both(index, one(alloc, "t1 t2")?, two(alloc, "t2", "t4")?)?;
     print_holders(rt, "put", index, &ASKED_AGAIN)?;
-    index.add(1, one(alloc, "t3")?)?;
+    print_changes(rt, index)
+}
+
+/// Changes the first number's set to another by an add and a cut, and takes the second number.
+fn print_changes<R: Print + AllocGlobal>(rt: &R, index: &mut Index<Tokens>) -> io::Result<()>
+    requires { HoldsTwo index.old }
+{
+    index.add(1, one(rt.alloc(), "t3")?)?;
     print_holders(rt, "add", index, &ASKED_AGAIN)?;
     index.cut(1, 1, 2);
     print_holders(rt, "cut", index, &ASKED_AGAIN)?;

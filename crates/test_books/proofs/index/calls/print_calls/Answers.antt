@@ -1,17 +1,7 @@
--- The number is held with its two regions, and still once it is cut.
-use Rattle.std.specs.List.{slice_range}
-use Rattle.test_books.proofs.RowLemmas.{one_held, has_both, cut_held}
+-- The index holds one number, with two regions.
+use Rattle.test_books.proofs.RowLemmas.{one_put}
 use Rattle.test_books.proofs.index.calls.print_calls.Goals as goal
 
-pub cut-requires-clause-held : goal.cut-requires-clause-held
-cut-requires-clause-held g c =
-    one_held c.new-index.result c.put.new.self c.args.kept.items c.new-index.ensures c.in_ok-put.ensures.put
-
-pub cut-requires-clause-within : goal.cut-requires-clause-within
-cut-requires-clause-within g c =
-    has_both c.new-index.result c.put.new.self c.args.kept.items c.new-index.ensures c.in_ok-put.ensures.put c.requires
-
-pub take-requires : goal.take-requires
-take-requires g c =
-    cut_held c.new-index.result c.put.new.self c.cut.new.self c.args.kept.items (λ regions. slice_range regions 1 2)
-    c.new-index.ensures c.in_ok-put.ensures.put c.cut.ensures
+pub make_calls-requires : goal.make_calls-requires
+make_calls-requires g c =
+    one_put c.new-index.result c.put.new.self c.args.kept.items c.new-index.ensures c.in_ok-put.ensures.put c.requires
