@@ -1,9 +1,11 @@
 // Loaded before the C library: refuses one growth of a program's memory, and counts them. A program of the kit takes memory by
-// malloc and realloc alone (`nm -D` shows it).
+// malloc and realloc alone (`nm -D` shows it). What makes a block smaller is no growth; nor, since it looks the same, is what
+// makes one of less than 8 bytes larger, up to 8.
 //
 // REFUSE is the number of the growth that is refused, from 1; with no such growth none is. Where COUNT is set, the number
 // of growths stands on standard error at the end.
 #define _GNU_SOURCE
+#include <malloc.h>
 #include <stdio.h>
 #include <stdlib.h>
 #include <sys/syscall.h>
@@ -11,6 +13,9 @@
 
 extern void *__libc_malloc(size_t size);
 extern void *__libc_realloc(void *block, size_t size);
+
+// A block of more than 8 bytes has less than so many bytes more than were asked for.
+#define ROUNDING 16
 
 static long refused, made;
 
@@ -40,7 +45,14 @@ void *malloc(size_t size)
     return __atomic_add_fetch(&made, 1, __ATOMIC_RELAXED) == refused ? NULL : __libc_malloc(size);
 }
 
+static int is_smaller(void *block, size_t size)
+{
+    return size + ROUNDING <= malloc_usable_size(block);
+}
+
 void *realloc(void *block, size_t size)
 {
+    if (is_smaller(block, size))
+        return __libc_realloc(block, size);
     return __atomic_add_fetch(&made, 1, __ATOMIC_RELAXED) == refused ? NULL : __libc_realloc(block, size);
 }
