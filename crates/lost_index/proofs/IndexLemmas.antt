@@ -1,5 +1,5 @@
 -- That what is held stays noted, and nothing else, change by change.
-use Rattle.std.proofs.Common.{◌≡◌, ℕ, ◌⊎◌, inl, inr, ⊎_elim, Bool, true, false, cond, Option, None, Some, List, [], ◌++◌, All, Contains, nat_eq, ◌&&◌, ◌||◌, refl, sym, ap, subst, arith, ◌∙◌}
+use Rattle.std.proofs.Common.{◌≡◌, ℕ, ◌⊎◌, inl, inr, ⊎_elim, Bool, true, false, cond, Option, None, Some, List, [], ◌++◌, All, Contains, nat_eq, ◌&&◌, ◌||◌, Result, Ok, Err, OnOk, OnErr, refl, sym, ap, subst, arith, ◌∙◌}
 use Rattle.std.specs.HashMap.{HashMap}
 use Rattle.std.specs.List.{list_any}
 use Rattle.std.proofs.lemmas.Bool.{false≢true, or_left, or_right}
@@ -21,6 +21,12 @@ some_same x y same = cc
 
 none_some : {X : Type 0} (x : X) → None ≡ Some x → ⊥
 none_some x h = cc
+
+-- by whether memory was refused
+pub by_refusal : {T E A B C D F Z : Type 0} (r : Result T E) → OnOk r A → OnOk r B → OnErr r C → OnErr r D → OnErr r F
+    → (A → B → Z) → (C → D → F → Z) → Z
+by_refusal (Ok value) a b c d f given refused = given a b
+by_refusal (Err error) a b c d f given refused = refused c d f
 
 -- by whether a number is the one that changed
 module _ {X : Type 0} (P : ℕ → X → Type 0) (n : ℕ) where

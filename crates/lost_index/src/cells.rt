@@ -1,5 +1,5 @@
 //! The cells: the notes under each key.
-ghost use Rattle.std.specs.Prelude.{◌≡◌, ◌≢◌, ◌&&◌, [], false, OnOk, IfSome, IsTrue, IsFalse};
+ghost use Rattle.std.specs.Prelude.{◌≡◌, ◌≢◌, ◌&&◌, [], None, false, OnOk, IfSome, IsTrue, IsFalse};
 ghost use Rattle.std.specs.HashMap.{get};
 ghost use Rattle.lost_index.specs.Notes.{notes_of, HasNote, KeepsNotes, AddsAtMost, TakesBack, TakesOut};
 
@@ -24,6 +24,21 @@ pub(crate) fn add_note<P: Profile>(
     if let Some(cell) = cells.get_mut(&key) {
         return cell.add(note);
     }
+    insert_cell(cells, alloc, key, note)
+}
+
+/// Adds a cell of one note under a key that has none.
+fn insert_cell<P: Profile>(
+    cells: &mut HashMap<P::Key, Cell<P>>,
+    alloc: Global,
+    key: P::Key,
+    note: Note<P::Outline>,
+) -> Result<(), AllocError>
+    requires { get P.Key.eq cells.old key ≡ None }
+    ensures added { OnOk result (HasNote P.Key.eq P.Outline.eq cells.new key note.number note.outline) }
+    ensures keeps { KeepsNotes P.Key.eq P.Outline.eq cells.old cells.new }
+    ensures only { AddsAtMost P.Key.eq P.Outline.eq note.number (λ other outline. P.Outline.eq outline note.outline && P.Key.eq other key) cells.old cells.new }
+{
     cells.insert(key, Cell::of(alloc, note)?)?;
     Ok(())
 }

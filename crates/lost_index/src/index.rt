@@ -3,6 +3,7 @@ ghost use Rattle.std.specs.Prelude.{◌≡◌, ◌≤◌, ◌++◌, ◌∷◌, �
 ghost use Rattle.std.specs.List.{slice_range};
 ghost use Rattle.std.specs.List.Sorted.{IsStrictlyIncreasing};
 ghost use Rattle.lost_index.specs.Entries.{numbers, IsHeld, IsAbove, HasRegions, with_number, without, holders};
+ghost use Rattle.lost_index.specs.Notes.{covers, TakesBack, TakesOut};
 
 use crate::cell::Cell;
 use crate::entry::Entry;
@@ -77,11 +78,7 @@ impl<P: Profile> Index<P> {
             none(entry.kept()),
         )?;
         kinds::mark_covers(&mut self.kinds, entry.kept());
-        if let Err(entry) = self.held.put(number, entry) {
-            notes::remove_notes(&mut self.cells, number, entry.kept(), none(entry.kept()));
-            return Err(AllocError);
-        }
-        Ok(())
+        hold(&mut self.held, &mut self.cells, number, entry)
     }
 
     /// Adds regions to a held number. If memory is refused, the list is unchanged and the new regions are dropped.
@@ -157,4 +154,27 @@ fn none<P: Profile>(kept: &[IndexedRegion<P>]) -> &[IndexedRegion<P>]
     ensures { result.now ≡ [] }
 {
     &kept[..0]
+}
+
+/// Holds a number, above all that are held, with its regions, under whose keys it was noted. If memory is refused, the
+/// number is not held, and its notes are removed.
+fn hold<P: Profile>(
+    held: &mut Held<P>,
+    cells: &mut HashMap<P::Key, Cell<P>>,
+    number: u64,
+    entry: Entry<P>,
+) -> Result<(), AllocError>
+    requires { IsAbove number held.old }
+    ensures put { OnOk result (held.new ≡ held.old ++ (number, entry) ∷ []) }
+    ensures noted { OnOk result (cells.new ≡ cells.old) }
+    ensures refused { OnErr result (held.new ≡ held.old) }
+    ensures taken { OnErr result (TakesOut P.Key.eq P.Outline.eq P.cover_of P.outline_of number []
+        (covers P.Key.eq P.cover_of entry) cells.old cells.new) }
+    ensures fewer { OnErr result (TakesBack P.Key.eq P.Outline.eq cells.old cells.new) }
+{
+    let Err(entry) = held.put(number, entry) else {
+        return Ok(());
+    };
+    notes::remove_notes(cells, number, entry.kept(), none(entry.kept()));
+    Err(AllocError)
 }
