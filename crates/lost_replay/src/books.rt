@@ -23,10 +23,13 @@ ghost use Rattle.lost_replay.specs.Replay.{replay_terms};
 use crate::outcome::Outcome;
 use crate::pair::Pair;
 use lost_book::{Edit, EditError, Limits};
-use lost_json::{DeskFault, DeskReply, bad_request, desk_answer, internal_error, reply_request};
+use lost_json::{
+    DeskFault, DeskLine, DeskReply, bad_request, desk_answer, internal_error, reply_request,
+};
 use lost_lines::{Answer, Text as ReplyText};
 use lost_mapping::{MappingError, Moment, Source};
 use lost_query::Request;
+use lost_reading::Line;
 use lost_routing::Routing;
 use lost_spec::Coded;
 use std::alloc::{AllocError, Global};
@@ -129,6 +132,29 @@ impl Books {
         ensures { result.now ≡ self.now.staged }
     {
         self.pair.staged()
+    }
+
+    /// Judges a line that was kept whole and read so.
+    pub(crate) fn judge(
+        &mut self,
+        alloc: Global,
+        name: &Source,
+        moment: &Moment,
+        read: Result<Line<'_>, DeskFault>,
+    ) -> Judged
+        ensures answered { (line : Text) → GivesWhole read.entry (desk_line line) (line_request line)
+            → BooksStep (replay_terms name.now moment.now) self.old (Whole line) (reply_of result.answer) self.new }
+        ensures outcome { (line : Text) → GivesWhole read.entry (desk_line line) (line_request line)
+            → IsOutcomeOf result.outcome line (reply_of result.answer).text }
+        ensures listed { IsListed result.outcome }
+    {
+        match read {
+            Ok(Line::Request(request)) => self.request(alloc, name, moment, &request),
+            Ok(Line::Desk(DeskLine::Edit(edit))) => self.stage(edit),
+            Ok(Line::Desk(DeskLine::Commit)) => self.commit(),
+            Ok(Line::Neither) => self.neither(),
+            Err(fault) => Judged::of_fault(fault),
+        }
     }
 
     /// Stages an edit: its refusal, or the number of edits staged and not published. A memory refusal is code 20.

@@ -9,10 +9,8 @@ ghost use Rattle.lost_replay.specs.Replayer.{Begins, books_of, outcome_of};
 
 use crate::books::{Books, Judged};
 use crate::outcome::Outcome;
-use lost_json::DeskLine;
 use lost_lines::{Answer, Answerer};
 use lost_mapping::{Moment, Source};
-use lost_reading::Line;
 use lost_routing::Routing;
 use lost_tape::{Scratch, read_line};
 use std::alloc::{AllocError, Global};
@@ -82,15 +80,8 @@ impl Replayer<'_> {
         ensures outcome { IsOutcomeOf result.outcome line.now (reply_of result.answer).text }
         ensures listed { IsListed result.outcome }
     {
-        match read_line(alloc, line, &mut self.scratch) {
-            Ok(Line::Request(request)) => {
-                self.books.request(alloc, self.name, &self.moment, &request)
-            }
-            Ok(Line::Desk(DeskLine::Edit(edit))) => self.books.stage(edit),
-            Ok(Line::Desk(DeskLine::Commit)) => self.books.commit(),
-            Ok(Line::Neither) => self.books.neither(),
-            Err(fault) => Judged::of_fault(fault),
-        }
+        let read = read_line(alloc, line, &mut self.scratch);
+        self.books.judge(alloc, self.name, &self.moment, read)
     }
 
     /// Keeps the outcome of a line.
