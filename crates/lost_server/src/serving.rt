@@ -76,13 +76,26 @@ fn in_threads<R: Threads + Wait + Clock + Eprint + Drop + Send + Sync, G: Gate +
             let handed = hand_over_all(shared, &doors.queries, &sender, connections);
             shared.is_over.store(true, Ordering::SeqCst);
             drop(sender);
-            let counts = sum_of(shared.rt, threads);
-            if !desk_thread.join(shared.rt) {
-                return Err(RunFault::Accept);
-            }
-            Ok(counts.plus(handed?))
+            join_all(shared.rt, threads, desk_thread, handed)
         },
     )
+}
+
+/// Waits for the threads of all workers and of desks. Gives the sum of all counts, if all were served.
+fn join_all<R: Threads + Wait>(
+    rt: &R,
+    threads: Vec<JoinHandle<Counts>>,
+    desk_thread: JoinHandle<bool>,
+    handed: Result<Counts, RunFault>,
+) -> Result<Counts, RunFault>
+    requires { handed ≢ Err RunFault.Workers }
+    ensures { result ≢ Err RunFault.Workers }
+{
+    let counts = sum_of(rt, threads);
+    if !desk_thread.join(rt) {
+        return Err(RunFault::Accept);
+    }
+    Ok(counts.plus(handed?))
 }
 
 /// Waits for all workers to end, and gives the sum of their counts.

@@ -21,7 +21,7 @@ use std::random::RandomSource;
 use std::sync::Wait;
 use std::sync::atomic::Ordering;
 use std::thread;
-use std::thread::Threads;
+use std::thread::{JoinHandle, Threads};
 use std::time::Clock;
 
 /// One worker: its number, from 0, its reader, and the connections that it watches.
@@ -111,21 +111,30 @@ fn in_threads<R: Threads + Wait + Clock + Eprint + Drop + Send + Sync, G: Sync>(
                     Err(_) => is_short = true,
                 }
             }
-            let desks = scope.spawn(move || edit(shared, doors, desk));
-            let handed = if is_short || desks.is_err() {
+            let desks = scope.spawn(move || edit(shared, doors, desk)).ok();
+            let handed = if is_short || desks.is_none() {
                 Err(RunFault::Memory)
             } else {
                 let_in_all(shared, hall, &doors.queries, entrances.as_slice())
             };
             shared.is_over.store(true, Ordering::SeqCst);
             close_all(&mut entrances);
-            let counts = sum_of(rt, threads);
-            if let Ok(desks) = desks {
-                desks.join(rt);
-            }
-            Ok(counts.plus(handed?))
+            Ok(join_all(rt, threads, desks).plus(handed?))
         },
     )
+}
+
+/// Waits for the threads of all workers and of desks. Gives the sum of the workers' counts.
+fn join_all<R: Threads + Wait>(
+    rt: &R,
+    threads: Vec<JoinHandle<Counts>>,
+    desks: Option<JoinHandle<()>>,
+) -> Counts {
+    let counts = sum_of(rt, threads);
+    if let Some(desks) = desks {
+        desks.join(rt);
+    }
+    counts
 }
 
 /// Tells each worker that no further connections come.

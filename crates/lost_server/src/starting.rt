@@ -136,17 +136,25 @@ where
     fn start(&self, desk: &mut Desk, readers: Readers) -> Ran
         requires { readers.each.opening ≡ desk.old.opening }
     {
+        self.load(desk)?;
+        tell_book(self.status, desk);
+        let doors = open_doors(self.rt, &self.order.addresses)?;
+        let result = self.answer(&doors, desk, readers);
+        remove_sockets(self.rt, &self.order.addresses);
+        result
+    }
+
+    /// Reads the map, if there is one, and tells the status when.
+    fn load(&self, desk: &mut Desk) -> Result<(), ServerFault>
+        ensures { IsSameDesk desk.old desk.new }
+    {
         if let Some(path) = self.order.map {
             load_from(self.rt, path, self.order, desk)?;
             if let Ok(since) = self.rt.since_1970() {
                 self.status.set_commit(since);
             }
         }
-        tell_book(self.status, desk);
-        let doors = open_doors(self.rt, &self.order.addresses)?;
-        let result = self.answer(&doors, desk, readers);
-        remove_sockets(self.rt, &self.order.addresses);
-        result
+        Ok(())
     }
 
     /// Tells that it is ready, and answers connections.

@@ -16,6 +16,7 @@ use mio::{Events, Interest, Poll, Token};
 use std::alloc::{AllocError, Global};
 use std::collections::VecDeque;
 use std::io::Eprint;
+use std::os::fd::RawFd;
 use std::sync::Wait;
 use std::thread::sleep;
 use std::time::{Clock, Duration};
@@ -66,7 +67,6 @@ impl ConnectionState {
 }
 
 /// The connections that one worker watches: the arriving ones, all of them, and those to serve at once.
-#[derive(Drop)]
 pub(crate) struct Watcher {
     arrivals: Receiver<Arrival>,
     poll: Poll,
@@ -82,6 +82,23 @@ pub(crate) struct Watcher {
     is_closing: bool,
     counts: Counts,
     ghost room: { 0 < length chunk.items },
+}
+
+impl Drop for Watcher {
+    fn drop(self) {
+        let Watcher {
+            arrivals: _,
+            poll: _,
+            events: _,
+            clients: _,
+            queue: _,
+            chunk: _,
+            now: _,
+            swept: _,
+            is_closing: _,
+            counts: _,
+        } = self;
+    }
 }
 
 impl Watcher {
@@ -222,38 +239,36 @@ impl Watcher {
     /// Watches a connection from here on. Says whether that succeeded; if not, it is closed.
     fn seat(&mut self, alloc: Global, stream: Stream, state: ConnectionState) -> bool {
         let fd = stream.raw_fd();
-        if stream.set_nonblocking(true).is_err() {
-            return false;
-        }
-        let Ok((input, output)) = halves_of(alloc, stream) else {
+        let Some(key) = self.hold(alloc, stream, state) else {
             return false;
         };
-        // Each is queued once at most, so there is room for all.
-        if self
-            .queue
-            .reserve(self.clients.len().saturating_add(1))
-            .is_err()
-        {
-            return false;
-        }
-        let Ok(key) = self
-            .clients
-            .insert(Client::new(alloc, input, output), state)
-        else {
-            return false;
-        };
-        let interest = Interest::READABLE | Interest::WRITABLE;
-        if self
-            .poll
-            .registry()
-            .register(&mut SourceFd(&fd), Token(key), interest)
-            .is_err()
-        {
+        if !self.is_polled(fd, key) {
             let _closed = self.clients.remove(key);
             return false;
         }
         queue_once(&mut self.clients, &mut self.queue, key);
         true
+    }
+
+    /// Holds a connection, and makes room in the queue for it. The key, or nothing if it could not be held and is closed.
+    fn hold(&mut self, alloc: Global, stream: Stream, state: ConnectionState) -> Option<usize> {
+        // Each is queued once at most, so there is room for all.
+        let all = self.clients.len().saturating_add(1);
+        if stream.set_nonblocking(true).is_err() || self.queue.reserve(all).is_err() {
+            return None;
+        }
+        let (input, output) = halves_of(alloc, stream).ok()?;
+        let client = Client::new(alloc, input, output);
+        self.clients.insert(client, state).ok()
+    }
+
+    /// Asks for the events of a connection under its key. Says whether they will come.
+    fn is_polled(&self, fd: RawFd, key: usize) -> bool {
+        let interest = Interest::READABLE | Interest::WRITABLE;
+        let registry = self.poll.registry();
+        registry
+            .register(&mut SourceFd(&fd), Token(key), interest)
+            .is_ok()
     }
 
     /// Serves a burst of each queued connection.
