@@ -4,6 +4,7 @@ ghost use Rattle.lost_json.specs.Line.{line_reply};
 ghost use Rattle.lost_spec.specs.Text.{Text};
 ghost use Rattle.lost_mapping.specs.Request.{request_of};
 ghost use Rattle.lost_location.specs.Place.{place_of};
+ghost use Rattle.lost_reading.specs.Gives.{Gives};
 ghost use Rattle.lost_reading.specs.Requests.{line_request};
 ghost use Rattle.lost_spec.specs.Holders.{holders_of};
 ghost use Rattle.lost_writing.specs.Replies.{reply_text};
@@ -12,35 +13,17 @@ ghost use Rattle.lost_desk.specs.Sets.{AreRightIn, KeepsOnly};
 
 use crate::sets::PlaceSets;
 use crate::with_holders::WithHolders;
-use lost_json::{reply_asked, reply_request, reply_to_unread};
+use lost_json::{reply_asked, reply_to_unread};
 use lost_mapping::{Moment, Source};
-use lost_query::{Asked, Holdings, Place, Request};
+use lost_query::{Asked, Place, Request};
+use lost_reading::ReadError;
 use lost_routing::Routing;
 use lost_tape::{Scratch, read_request};
 use std::alloc::{AllocError, Global};
 
-/// The reply to a line over these holdings by the server of this name at an instant, as [`lost_json::reply_line`] gives
-/// it. `scratch` is kept from line to line, but holds nothing of the lines.
-#[tactic(auto, unfolding(lost_json::specs::Line::line_reply))]
-pub(crate) fn reply_over<H: Holdings>(
-    alloc: Global,
-    holdings: &H,
-    name: &Source,
-    moment: &Moment,
-    line: &[u8],
-    scratch: &mut Scratch,
-) -> Result<Vec<u8>, AllocError>
-    ensures { IfOk result (λ reply. reply.items ≡ line_reply (H.book holdings.now) name.now moment.now line.now) }
-{
-    match &read_request(alloc, line, scratch) {
-        Ok(request) => reply_request(alloc, holdings, name, moment, request),
-        Err(error) => reply_to_unread(alloc, *error),
-    }
-}
-
-/// The reply to a line over this book, as [`reply_over`] gives it. If the request is answered at a place, the place's
-/// set is taken from `sets`, or made and kept there if wanted.
-#[tactic(auto, unfolding(lost_json::specs::Line::line_reply))]
+/// The reply to a line over this book by the server of this name at an instant, as [`lost_json::reply_line`] gives it.
+/// If the request is answered at a place, the place's set is taken from `sets`, or made and kept there if wanted.
+/// `scratch` is kept from line to line, but holds nothing of the lines.
 pub(crate) fn reply_over_sets<S: PlaceSets>(
     alloc: Global,
     sets: &mut S,
@@ -54,7 +37,26 @@ pub(crate) fn reply_over_sets<S: PlaceSets>(
     ensures reply { IfOk result (λ reply. reply.items ≡ line_reply book.now name.now moment.now line.now) }
     ensures kept { KeepsOnly (S.keeps sets.old) book.now (S.keeps sets.new) }
 {
-    match &read_request(alloc, line, scratch) {
+    let read = read_request(alloc, line, scratch);
+    reply_to_read(alloc, sets, book, name, moment, &read)
+}
+
+/// The reply to a line over this book, given what was read of it.
+#[tactic(auto, unfolding(lost_json::specs::Line::line_reply))]
+fn reply_to_read<S: PlaceSets>(
+    alloc: Global,
+    sets: &mut S,
+    book: &Routing,
+    name: &Source,
+    moment: &Moment,
+    read: &Result<Request, ReadError>,
+) -> Result<Vec<u8>, AllocError>
+    requires { AreRightIn (S.keeps sets.old) book.now }
+    ensures reply { IfOk result (λ reply. (line : Text) → Gives request_of read.now (line_request line)
+        → reply.items ≡ line_reply book.now name.now moment.now line) }
+    ensures kept { KeepsOnly (S.keeps sets.old) book.now (S.keeps sets.new) }
+{
+    match read {
         Ok(request) => answer_request(alloc, sets, book, name, moment, request),
         Err(error) => reply_to_unread(alloc, *error),
     }

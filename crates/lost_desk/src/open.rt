@@ -81,7 +81,7 @@ fn open_copies<R: Wait>(
     }
 }
 
-#[tactic(auto, using(crate::proofs::StepLemmas::opens_first, crate::proofs::StepLemmas::opening_names))]
+#[tactic(auto, using(crate::proofs::StepLemmas::opening_names))]
 /// The writer of two copies of an empty book. Its seat knows the copies' limits and opening.
 fn open_writer<R: Wait>(
     rt: &R,
@@ -95,15 +95,30 @@ fn open_writer<R: Wait>(
     ensures waiting { IfOk result (λ w. drop w.behind w.log.items ≡ []) }
     ensures named { IfOk result (λ w. view w.desk.place ≡ named (first_version front.now.opening limits)) }
 {
-    let first = open_version(alloc, limits, front)?;
-    let second = open_version(alloc, limits, front)?;
-    let writer: CopyWriter = CopyWriter::new(alloc, first, second, workers as usize)?;
+    let writer = new_writer(alloc, limits, front, workers)?;
     let (writer, result) = writer.publish_as::<Naming, R>(rt);
     if result.is_err() {
         let _shown = writer.take(rt);
         return Err(AllocError);
     }
     Ok(writer)
+}
+
+#[tactic(auto, using(crate::proofs::StepLemmas::opens_first))]
+/// The writer of two copies of an empty book.
+fn new_writer(
+    alloc: Global,
+    limits: Limits,
+    front: &Front,
+    workers: u32,
+) -> Result<CopyWriter, AllocError>
+    requires { (0 < workers) × (workers ≤ 64) × (front.now.list ≡ []) }
+    ensures shown { IfOk result (λ w. w.desk.shown.value ≡ first_version front.now.opening limits) }
+    ensures waiting { IfOk result (λ w. drop w.behind w.log.items ≡ []) }
+{
+    let first = open_version(alloc, limits, front)?;
+    let second = open_version(alloc, limits, front)?;
+    CopyWriter::new(alloc, first, second, workers as usize)
 }
 
 /// A copy of an empty book.

@@ -8,8 +8,8 @@ ghost use Rattle.left_right.specs.Sides.{view};
 ghost use Rattle.lost_desk.specs.Seen.{seen_book, with_seen};
 ghost use Rattle.lost_desk.specs.States.{IsSeated, reader_seen};
 
-use crate::answering::reply_over;
-use crate::rule::{Entering, OneList};
+use crate::rule::OneList;
+use crate::sets::NoSets;
 use crate::told::Told;
 use crate::version::Version;
 use crate::view::View;
@@ -66,7 +66,6 @@ impl Reader {
         }
     }
 
-    #[tactic(auto, using(crate::proofs::StepLemmas::enters))]
     /// Answers a line from the copy that is published when it enters: reads the request, answers it as the server of
     /// this name at an instant, and writes the reply's line. It waits for nobody.
     ///
@@ -88,26 +87,7 @@ impl Reader {
         ensures one_list { OnOk result (IsTrue (is_accepted self.new.limits self.new.seen)) }
         ensures same { (self.new.opening ≡ self.old.opening) × (self.new.limits ≡ self.old.limits) }
     {
-        let seat = take_seat(&mut self.seat);
-        match seat.enter_as::<Entering>() {
-            Ok(reading) => {
-                let reply = reply_from(
-                    alloc,
-                    reading.get(),
-                    &mut self.latest,
-                    name,
-                    moment,
-                    line,
-                    &mut self.scratch,
-                );
-                put_seat(&mut self.seat, reading.leave());
-                reply
-            }
-            Err(seat) => {
-                put_seat(&mut self.seat, seat);
-                Err(AllocError)
-            }
-        }
+        self.reply_line_over(alloc, &mut NoSets, name, moment, line)
     }
 
     #[tactic(auto, using(crate::proofs::SeatLemmas::still_reader))]
@@ -146,29 +126,4 @@ pub(crate) fn put_seat(place: &mut Option<Seat>, seat: Seat)
     ensures { place.new ≡ Some seat }
 {
     *place = Some(seat);
-}
-
-#[tactic(auto, using(crate::proofs::ListLemmas::begins_whole))]
-/// Answers a line from a copy, if the copy's list is the longest that the reader has seen or was told.
-fn reply_from(
-    alloc: Global,
-    version: &Version,
-    latest: &mut Front,
-    name: &Source,
-    moment: &Moment,
-    line: &[u8],
-    scratch: &mut Scratch,
-) -> Result<Vec<u8>, AllocError>
-    requires { version.now.front.opening ≡ latest.old.opening }
-    ensures reply { IfOk result (λ reply. reply.items ≡ line_reply version.now.book name.now moment.now line.now) }
-    ensures list { OnOk result (latest.new.list ≡ version.now.front.list) }
-    ensures begins { BeginsWith latest.new.list latest.old.list }
-    ensures copy { BeginsWith latest.new.list version.now.front.list }
-    ensures opening { latest.new.opening ≡ latest.old.opening }
-{
-    latest.learn(&version.front);
-    if version.front.len() < latest.len() {
-        return Err(AllocError);
-    }
-    reply_over(alloc, &version.book, name, moment, line, scratch)
 }

@@ -32,3 +32,21 @@ pub trait PlaceSets {
     fn keep(&mut self, edition: u64, place: Place, set: Vec<usize>)
         ensures { (e : Entry) → keeps self.new e → keeps self.old e ⊎ (e ≡ entry edition (place_of place) set.items) };
 }
+
+/// Keeps no sets.
+#[derive(Drop)]
+pub(crate) struct NoSets;
+
+impl PlaceSets for NoSets {
+    ghost keeps = { λ _ _. ⊥ };
+
+    fn find(&mut self, _edition: u64, _place: &Place) -> Option<&[usize]> {
+        None
+    }
+
+    fn is_wanted(&mut self) -> bool {
+        false
+    }
+
+    fn keep(&mut self, _edition: u64, _place: Place, _set: Vec<usize>) {}
+}

@@ -9,4 +9,4 @@ pub publish_as-writer-requires : goal.publish_as-writer-requires
 publish_as-writer-requires g c =
     let place = c.in_ok-writer.writer.desk.place in
     let shown = c.in_ok-writer.writer.desk.shown.value in
-    λ next is. subst (λ n. TurnsAt IsOneList place.id place.me.0.client shown n names) (sym (is ∙ ap (taken_all shown) c.in_ok-writer.ensures.1)) (opening_names place.id place.me.0.client shown)
+    λ next is. subst (λ n. TurnsAt IsOneList place.id place.me.0.client shown n names) (sym (is ∙ ap (taken_all shown) c.in_ok-writer.ensures.waiting)) (opening_names place.id place.me.0.client shown)
