@@ -3,8 +3,9 @@
 //! something is not as expected, and 2 where there is no word, or an unknown one.
 //!
 //! `serve` runs servers ([`serving`]). `calls` makes the calls that take no memory, on values, books, indexes and desks
-//! made before; `prepared` makes these alone. test_books says what the commands from `book.cases` to `sets` do, and
-//! test_lines says it of the others. All but `prepared` run in the gate.
+//! made before; `prepared` makes these alone. The other libraries say what their commands do: test_cases of `NAME.cases`,
+//! test_books of `edits`, test_index from `covers` to `sets`, test_desks from `sessions` to `cache`, test_lines from
+//! `streams` to `lines`, test_status of `orders` and `status`. All but `prepared` run in the gate.
 #![tactic(auto)]
 
 mod client;
@@ -15,6 +16,8 @@ use lost_server::System;
 use std::io;
 use std::net::{Net, TcpListener, TcpStream};
 use std::process::ExitCode;
+use std::rt::Files;
+use std::sync::Wait;
 use test_parts::given;
 
 /// The commands.
@@ -67,15 +70,22 @@ fn run<R: System + Print + Net<Listener = TcpListener, Stream = TcpStream> + Sen
     println!(rt; "== {command}")?;
     match command {
         "serve" => serving::run(rt)?,
-        "calls" | "prepared" => {
-            test_books::print_calls(rt, command == "calls")?;
-            test_lines::print_calls(rt, command == "calls")?;
-        }
-        "sessions" => return test_lines::print_sessions(rt),
-        "worlds" | "desk" | "cache" | "streams" | "hostile" | "lines" | "orders" | "status" => {
-            test_lines::run(rt, command)?;
-        }
-        _ => return test_books::run(rt, command),
+        "calls" | "prepared" => print_calls(rt, command == "calls")?,
+        "edits" => test_books::print_edits(rt)?,
+        "covers" | "index" | "keys" | "chunks" | "sets" => return test_index::run(rt, command),
+        "sessions" => return test_desks::print_sessions(rt),
+        "worlds" | "desk" | "cache" => test_desks::run(rt, command)?,
+        "streams" | "hostile" | "lines" => test_lines::run(rt, command)?,
+        "orders" | "status" => test_status::run(rt, command)?,
+        _ => return test_cases::print_table(rt, command),
     }
     Ok(true)
+}
+
+/// Makes values, books, indexes and desks. If `are_made`, makes the calls on them that take no memory too, and prints
+/// their answers.
+fn print_calls<R: Files + Wait + Print + AllocGlobal>(rt: &R, are_made: bool) -> io::Result<()> {
+    test_books::print_calls(rt, are_made)?;
+    test_index::print_calls(rt, are_made)?;
+    test_desks::print_calls(rt, are_made)
 }
