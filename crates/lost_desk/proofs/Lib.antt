@@ -1,4 +1,5 @@
 pub mod DeskLemmas
+pub mod EnterLemmas
 pub mod ListLemmas
 pub mod SeatLemmas
 pub mod SetLemmas

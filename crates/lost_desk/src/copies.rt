@@ -4,6 +4,7 @@ ghost use Rattle.lost_desk.specs.declared.version.Operation.TheVariants.{Mark};
 ghost use Rattle.lost_desk.specs.States.{MayFollow, next_of, with_published, with_waiting};
 
 use crate::rule::{OneList, Showing};
+use crate::taking::{put_back, take_out};
 use crate::version::{Operation, Version};
 use crate::view::View;
 use left_right::writer::Writer;
@@ -80,16 +81,10 @@ impl Copies {
         requires { MayFollow self.old.shown (next_of self.old) }
         ensures { MatchResult result (λ _. self.new ≡ with_published self.old) (λ _. self.new ≡ self.old) }
     {
-        match self.writer.take() {
-            Some(writer) => {
-                let (writer, result) = writer.publish_as::<Showing, R>(rt);
-                match self.writer.replace(writer) {
-                    None => result,
-                    Some(_) => unreachable!(),
-                }
-            }
-            None => unreachable!(),
-        }
+        let writer = take_out(&mut self.writer);
+        let (writer, result) = writer.publish_as::<Showing, R>(rt);
+        put_back(&mut self.writer, writer);
+        result
     }
 
     /// Ends the copies. Operations that wait are dropped.

@@ -15,6 +15,7 @@ mod reader;
 mod readers;
 mod rule;
 mod sets;
+mod taking;
 mod told;
 mod version;
 mod view;

@@ -8,9 +8,10 @@ ghost use Rattle.lost_desk.specs.Copies.{IsBookOfItsList};
 ghost use Rattle.lost_desk.specs.Sets.{AreRightFor};
 
 use crate::answering::reply_over_sets;
-use crate::reader::{Reader, put_seat, take_seat};
+use crate::reader::Reader;
 use crate::rule::Entering;
 use crate::sets::PlaceSets;
+use crate::taking::{put_back, take_out};
 use crate::version::Version;
 use lost_history::Front;
 use lost_mapping::{Moment, Source};
@@ -45,7 +46,7 @@ impl Reader {
         ensures same { (self.new.opening ≡ self.old.opening) × (self.new.limits ≡ self.old.limits) }
         ensures right { AreRightFor (S.keeps sets.new) self.new.limits self.new.seen }
     {
-        let seat = take_seat(&mut self.seat);
+        let seat = take_out(&mut self.seat);
         match seat.enter_as::<Entering>() {
             Ok(reading) => {
                 let reply = reply_from_over(
@@ -58,11 +59,11 @@ impl Reader {
                     line,
                     &mut self.scratch,
                 );
-                put_seat(&mut self.seat, reading.leave());
+                put_back(&mut self.seat, reading.leave());
                 reply
             }
             Err(seat) => {
-                put_seat(&mut self.seat, seat);
+                put_back(&mut self.seat, seat);
                 Err(AllocError)
             }
         }

@@ -1,5 +1,5 @@
 //! A reader, which answers from the copy published last.
-ghost use Rattle.std.specs.Prelude.{◌≡◌, ◌+◌, Some, None, IsSome, IsTrue, length, IfOk, OnOk};
+ghost use Rattle.std.specs.Prelude.{◌≡◌, ◌+◌, Some, IsTrue, length, IfOk, OnOk};
 ghost use Rattle.lost_spec.specs.Laws.{BeginsWith};
 ghost use Rattle.lost_spec.specs.Book.{is_accepted};
 ghost use Rattle.lost_history.specs.History.{longer};
@@ -107,23 +107,4 @@ impl Reader {
     {
         self.latest.len()
     }
-}
-
-/// Takes the seat, which is there, out of its place.
-pub(crate) fn take_seat(place: &mut Option<Seat>) -> Seat
-    requires { IsSome place.old }
-    ensures taken { place.old ≡ Some result }
-    ensures left { place.new ≡ None }
-{
-    match place.take() {
-        Some(seat) => seat,
-        None => unreachable!(),
-    }
-}
-
-/// Puts a seat in its place.
-pub(crate) fn put_seat(place: &mut Option<Seat>, seat: Seat)
-    ensures { place.new ≡ Some seat }
-{
-    *place = Some(seat);
 }
