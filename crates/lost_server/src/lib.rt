@@ -17,6 +17,7 @@ mod shared;
 mod standing;
 mod starting;
 mod system;
+mod threads;
 mod watching;
 mod workers;
 

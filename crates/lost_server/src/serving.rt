@@ -1,21 +1,21 @@
-//! The threads of a server.
+//! The threads of a server with a number of connections.
 ghost use Rattle.std.specs.Prelude.{◌≡◌, ◌≢◌, Err};
 
 use crate::desks::serve_one_desk;
 use crate::queries::{Query, hand_over_all};
 use crate::run_fault::RunFault;
 use crate::shared::Shared;
-use crate::workers::{WorkerParts, work, workers_of};
+use crate::threads::{Entry, Task, run_threads};
+use crate::workers::{cached_readers, workers_of};
 use crossbeam_channel::{Sender, bounded};
 use lost_desk::{Desk, Readers};
 use lost_lines::{Counts, Gate};
 use lost_listening::Doors;
+use lost_sockets::Listener;
 use std::io::Eprint;
 use std::random::RandomSource;
 use std::sync::Wait;
-use std::sync::atomic::Ordering;
-use std::thread;
-use std::thread::{JoinHandle, Threads};
+use std::thread::Threads;
 use std::time::Clock;
 
 /// How many query connections may wait for a worker.
@@ -37,84 +37,61 @@ pub(crate) fn serve_all<
 {
     // Further connections wait to be accepted.
     let (sender, queries) = bounded(shared.alloc, MAX_WAITING)?;
-    let workers = workers_of(shared.rt, shared.alloc, desk, readers, queries)?;
-    in_threads(shared, workers, doors, desk, sender, connections)
-}
-
-/// Starts a thread for each worker and one for desks, accepts the query connections in this thread, and waits for all
-/// threads. Gives the sum of their counts.
-fn in_threads<R: Threads + Wait + Clock + Eprint + Drop + Send + Sync, G: Gate + Sync>(
-    shared: &Shared<'_, R, G>,
-    workers: Vec<WorkerParts<R>>,
-    doors: &Doors,
-    desk: &mut Desk,
-    sender: Sender<Query<R>>,
-    connections: u32,
-) -> Result<Counts, RunFault>
-    ensures { result ≢ Err RunFault.Workers }
-{
-    thread::scope(
-        thread::scope_env(),
+    let readers = cached_readers(shared.rt, shared.alloc, desk, readers)?;
+    let workers = workers_of(shared, readers, queries)?;
+    run_threads(
         shared.rt,
-        |scope| -> Result<Counts, RunFault>
-            ensures { result ≢ Err RunFault.Workers }
-        {
-            // It is dropped on each way out, so the workers end.
-            let sender = sender;
-            let mut threads = Vec::new(shared.alloc);
-            for worker in workers {
-                let Ok(thread) = scope.spawn(move || work(shared, worker)) else {
-                    return Err(RunFault::Memory);
-                };
-                if threads.push(thread).is_err() {
-                    return Err(RunFault::Memory);
-                }
-            }
-            let Ok(desk_thread) = scope.spawn(move || edit(shared, doors, desk)) else {
-                return Err(RunFault::Memory);
-            };
-            let handed = hand_over_all(shared, &doors.queries, &sender, connections);
-            shared.is_over.store(true, Ordering::SeqCst);
-            drop(sender);
-            join_all(shared.rt, threads, desk_thread, handed)
+        shared.alloc,
+        shared.is_over,
+        workers,
+        OneDesk {
+            shared,
+            listener: doors.desk.as_ref(),
+            desk,
+        },
+        QueryEntry {
+            shared,
+            listener: &doors.queries,
+            connections,
+            sender,
         },
     )
 }
 
-/// Waits for the threads of all workers and of desks. Gives the sum of all counts, if all were served.
-fn join_all<R: Threads + Wait>(
-    rt: &R,
-    threads: Vec<JoinHandle<Counts>>,
-    desk_thread: JoinHandle<bool>,
-    handed: Result<Counts, RunFault>,
-) -> Result<Counts, RunFault>
-    requires { handed ≢ Err RunFault.Workers }
-    ensures { result ≢ Err RunFault.Workers }
-{
-    let counts = sum_of(rt, threads);
-    if !desk_thread.join(rt) {
-        return Err(RunFault::Accept);
-    }
-    Ok(counts.plus(handed?))
+/// Serves one desk, if there is a listener for desks. False if one was expected and none came.
+#[derive(Drop)]
+struct OneDesk<'s, 'n, R: Wait + Clock + Eprint + Drop, G> {
+    shared: &'s Shared<'n, R, G>,
+    listener: Option<&'s Listener>,
+    desk: &'s mut Desk,
 }
 
-/// Waits for all workers to end, and gives the sum of their counts.
-pub(crate) fn sum_of<R: Threads + Wait>(rt: &R, threads: Vec<JoinHandle<Counts>>) -> Counts {
-    let mut sum = Counts::default();
-    for thread in threads {
-        sum = sum.plus(thread.join(rt));
+impl<R: Wait + Clock + Eprint + Drop, G> Task for OneDesk<'_, '_, R, G> {
+    type Output = bool;
+
+    fn run(self) -> bool {
+        match self.listener {
+            Some(listener) => serve_one_desk(self.shared, listener, self.desk),
+            None => true,
+        }
     }
-    sum
 }
 
-/// The thread of the desk: it serves one desk. False if one was expected and none came.
-fn edit<R: Wait + Clock + Eprint + Drop, G>(
-    shared: &Shared<'_, R, G>,
-    doors: &Doors,
-    desk: &mut Desk,
-) -> bool {
-    match &doors.desk {
-        Some(listener) => serve_one_desk(shared, listener, desk),
-        None => true,
+/// Hands so many query connections to the workers, through a channel.
+#[derive(Drop)]
+struct QueryEntry<'s, 'n, R: Wait + Clock + Eprint + Drop, G> {
+    shared: &'s Shared<'n, R, G>,
+    listener: &'s Listener,
+    connections: u32,
+    sender: Sender<Query<R>>,
+}
+
+impl<R: Wait + Clock + Eprint + Drop, G> Entry for QueryEntry<'_, '_, R, G> {
+    fn let_all_in(&self) -> Result<Counts, RunFault> {
+        hand_over_all(self.shared, self.listener, &self.sender, self.connections)
+    }
+
+    fn close(self) {
+        drop(self);
     }
 }

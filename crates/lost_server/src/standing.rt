@@ -5,32 +5,21 @@ use crate::arrivals::{Entrance, entrance_of, let_in_all};
 use crate::counting::Counting;
 use crate::desks::serve_desks;
 use crate::run_fault::RunFault;
-use crate::serving::sum_of;
 use crate::shared::Shared;
+use crate::threads::{Entry, Task, run_threads};
 use crate::watching::Watcher;
-use crate::workers::cached_readers;
+use crate::workers::{KeyedReader, cached_readers};
 use lost_desk::{Desk, Readers};
 use lost_lines::Counts;
 use lost_listening::{ClientLimits, Doors, Hall};
-use lost_worker::CachedReader;
-use std::alloc::{AllocError, Global};
-use std::hash::RandomState;
+use lost_sockets::Listener;
+use std::alloc::AllocError;
 use std::io::Eprint;
 use std::net::Net;
 use std::random::RandomSource;
 use std::sync::Wait;
-use std::sync::atomic::Ordering;
-use std::thread;
-use std::thread::{JoinHandle, Threads};
+use std::thread::Threads;
 use std::time::Clock;
-
-/// One worker: its number, from 0, its reader, and the connections that it watches.
-#[derive(Drop)]
-struct StandingWorker {
-    number: usize,
-    reader: CachedReader<RandomState>,
-    watcher: Watcher,
-}
 
 /// Watches all connections, with one worker for each reader, until the server is over, and meanwhile serves desks.
 pub(crate) fn watch_all<
@@ -47,130 +36,130 @@ pub(crate) fn watch_all<
     ensures { result ≢ Err RunFault.Workers }
 {
     doors.queries.let_more_wait();
-    let mut entrances = Vec::new(shared.alloc);
-    let workers = standing_workers(shared.rt, shared.alloc, desk, readers, &mut entrances)?;
+    let readers = cached_readers(shared.rt, shared.alloc, desk, readers)?;
     let hall = Hall::new(
         shared.rt,
         shared.alloc,
         shared.settings.idle,
         limits,
-        workers.len(),
+        readers.len(),
     )?;
-    in_threads(shared, &hall, workers, doors, desk, entrances)
+    let mut entrances = Vec::new(shared.alloc);
+    let workers = standing_workers(shared, &hall, readers, &mut entrances)?;
+    run_threads(
+        shared.rt,
+        shared.alloc,
+        shared.is_over,
+        workers,
+        Desks {
+            shared,
+            listener: doors.desk.as_ref(),
+            desk,
+        },
+        HallEntry {
+            shared,
+            hall: &hall,
+            listener: &doors.queries,
+            entrances,
+        },
+    )
+}
+
+/// One worker: its number, from 0, its reader, and the connections that it watches.
+#[derive(Drop)]
+struct StandingWorker<'s, 'n, R: Wait + Clock + Eprint + Drop, G, P> {
+    shared: &'s Shared<'n, R, G>,
+    hall: &'s Hall,
+    number: usize,
+    reader: P,
+    watcher: Watcher,
 }
 
 /// A worker for each reader. Adds the entrance of each.
-fn standing_workers<R: RandomSource + Net>(
-    rt: &R,
-    alloc: Global,
-    desk: &mut Desk,
-    readers: Readers,
+fn standing_workers<'s, 'n, R: Wait + Clock + Eprint + Net + Drop, G, P: Drop>(
+    shared: &'s Shared<'n, R, G>,
+    hall: &'s Hall,
+    readers: Vec<P>,
     entrances: &mut Vec<Entrance>,
-) -> Result<Vec<StandingWorker>, AllocError>
-    requires { readers.each.opening ≡ desk.old.opening }
-    ensures { desk.new ≡ desk.old }
-{
-    let mut workers = Vec::new(alloc);
-    for reader in cached_readers(rt, alloc, desk, readers)? {
-        let (entrance, arrivals, poll) = entrance_of(rt, alloc)?;
+) -> Result<Vec<StandingWorker<'s, 'n, R, G, P>>, AllocError> {
+    let mut workers = Vec::new(shared.alloc);
+    for reader in readers {
+        let (entrance, arrivals, poll) = entrance_of(shared.rt, shared.alloc)?;
         entrances.push(entrance)?;
         workers.push(StandingWorker {
+            shared,
+            hall,
             number: workers.len(),
             reader,
-            watcher: Watcher::new(alloc, arrivals, poll)?,
+            watcher: Watcher::new(shared.alloc, arrivals, poll)?,
         })?;
     }
     Ok(workers)
 }
 
-/// Starts a thread for each worker and one for desks, accepts connections in this thread until the server is over, and
-/// waits for all threads. Gives the sum of their counts.
-fn in_threads<R: Threads + Wait + Clock + Eprint + Drop + Send + Sync, G: Sync>(
-    shared: &Shared<'_, R, G>,
-    hall: &Hall,
-    workers: Vec<StandingWorker>,
-    doors: &Doors,
-    desk: &mut Desk,
-    entrances: Vec<Entrance>,
-) -> Result<Counts, RunFault>
-    ensures { result ≢ Err RunFault.Workers }
-{
-    let rt = shared.rt;
-    thread::scope(
-        thread::scope_env(),
-        rt,
-        |scope| -> Result<Counts, RunFault>
-            ensures { result ≢ Err RunFault.Workers }
-        {
-            let mut entrances = entrances;
-            let mut threads = Vec::new(shared.alloc);
-            let mut is_short = false;
-            for worker in workers {
-                match scope.spawn(move || watch(shared, hall, worker)) {
-                    Ok(thread) => is_short = threads.push(thread).is_err() || is_short,
-                    Err(_) => is_short = true,
-                }
+/// It serves connections until no more come, and gives its counts.
+impl<R: Wait + Clock + Eprint + Drop, G> Task for StandingWorker<'_, '_, R, G, KeyedReader> {
+    type Output = Counts;
+
+    fn run(self) -> Counts {
+        let StandingWorker {
+            shared,
+            hall,
+            number,
+            mut reader,
+            mut watcher,
+        } = self;
+        match shared.status.worker(number) {
+            Some(counts) if shared.counts_replies => {
+                let mut counting = Counting::of(&mut reader, counts);
+                watcher.watch(shared, hall, Some(counts), &mut counting)
             }
-            let desks = scope.spawn(move || edit(shared, doors, desk)).ok();
-            let handed = if is_short || desks.is_none() {
-                Err(RunFault::Memory)
-            } else {
-                let_in_all(shared, hall, &doors.queries, entrances.as_slice())
-            };
-            shared.is_over.store(true, Ordering::SeqCst);
-            close_all(&mut entrances);
-            Ok(join_all(rt, threads, desks).plus(handed?))
-        },
-    )
-}
-
-/// Waits for the threads of all workers and of desks. Gives the sum of the workers' counts.
-fn join_all<R: Threads + Wait>(
-    rt: &R,
-    threads: Vec<JoinHandle<Counts>>,
-    desks: Option<JoinHandle<()>>,
-) -> Counts {
-    let counts = sum_of(rt, threads);
-    if let Some(desks) = desks {
-        desks.join(rt);
-    }
-    counts
-}
-
-/// Tells each worker that no further connections come.
-fn close_all(entrances: &mut Vec<Entrance>) {
-    for entrance in entrances.iter_mut() {
-        entrance.close();
-    }
-}
-
-/// The thread of a worker: it serves connections until no more come, and gives its counts.
-fn watch<R: Wait + Clock + Eprint + Drop, G>(
-    shared: &Shared<'_, R, G>,
-    hall: &Hall,
-    worker: StandingWorker,
-) -> Counts {
-    let StandingWorker {
-        number,
-        mut reader,
-        mut watcher,
-    } = worker;
-    match shared.status.worker(number) {
-        Some(counts) if shared.counts_replies => {
-            let mut counting = Counting::of(&mut reader, counts);
-            watcher.watch(shared, hall, Some(counts), &mut counting)
+            _ => watcher.watch(shared, hall, None, &mut reader),
         }
-        _ => watcher.watch(shared, hall, None, &mut reader),
     }
 }
 
-/// The thread of the desk: it serves one desk after another, if there is a listener for desks.
-fn edit<R: Wait + Clock + Eprint + Drop, G>(
-    shared: &Shared<'_, R, G>,
-    doors: &Doors,
-    desk: &mut Desk,
-) {
-    if let Some(listener) = &doors.desk {
-        serve_desks(shared, listener, desk);
+/// Serves one desk after another, if there is a listener for desks.
+#[derive(Drop)]
+struct Desks<'s, 'n, R: Wait + Clock + Eprint + Drop, G> {
+    shared: &'s Shared<'n, R, G>,
+    listener: Option<&'s Listener>,
+    desk: &'s mut Desk,
+}
+
+impl<R: Wait + Clock + Eprint + Drop, G> Task for Desks<'_, '_, R, G> {
+    type Output = bool;
+
+    fn run(self) -> bool {
+        if let Some(listener) = self.listener {
+            serve_desks(self.shared, listener, self.desk);
+        }
+        true
+    }
+}
+
+/// Admits connections to a hall, and gives each to a worker in turn.
+#[derive(Drop)]
+struct HallEntry<'s, 'n, R: Wait + Clock + Eprint + Drop, G> {
+    shared: &'s Shared<'n, R, G>,
+    hall: &'s Hall,
+    listener: &'s Listener,
+    entrances: Vec<Entrance>,
+}
+
+impl<R: Wait + Clock + Eprint + Drop, G> Entry for HallEntry<'_, '_, R, G> {
+    fn let_all_in(&self) -> Result<Counts, RunFault> {
+        let_in_all(
+            self.shared,
+            self.hall,
+            self.listener,
+            self.entrances.as_slice(),
+        )
+    }
+
+    fn close(mut self) {
+        for entrance in self.entrances.iter_mut() {
+            entrance.close();
+        }
     }
 }

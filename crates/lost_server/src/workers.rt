@@ -6,6 +6,7 @@ use crate::clock::MachineClock;
 use crate::counting::Counting;
 use crate::queries::Queries;
 use crate::shared::Shared;
+use crate::threads::Task;
 use lost_desk::{Desk, Reader, Readers};
 use lost_worker::{CachedReader, Counts, Gate, Replier, Turns, worker_loop};
 use std::alloc::{AllocError, Global};
@@ -21,28 +22,28 @@ const MAX_WORKERS: u32 = 64;
 /// How many places each worker's cache has room for.
 const PLACES: u32 = 1_024;
 
+/// A reader with a cache whose hashes have keys of its own.
+pub(crate) type KeyedReader = CachedReader<RandomState>;
+
 /// One worker: its number, from 0, its reader, and where it takes connections from.
 #[derive(Drop)]
-pub(crate) struct WorkerParts<R: Wait + Clock + Eprint + Drop> {
+pub(crate) struct Worker<'s, 'n, R: Wait + Clock + Eprint + Drop, G, P> {
+    shared: &'s Shared<'n, R, G>,
     number: usize,
-    reader: CachedReader<RandomState>,
+    reader: P,
     queries: Queries<R>,
 }
 
 /// A worker for each reader. All take query connections from one channel.
-pub(crate) fn workers_of<R: Wait + Clock + Eprint + RandomSource + Drop>(
-    rt: &R,
-    alloc: Global,
-    desk: &mut Desk,
-    readers: Readers,
+pub(crate) fn workers_of<'s, 'n, R: Wait + Clock + Eprint + Drop, G, P: Drop>(
+    shared: &'s Shared<'n, R, G>,
+    readers: Vec<P>,
     queries: Queries<R>,
-) -> Result<Vec<WorkerParts<R>>, AllocError>
-    requires { readers.each.opening ≡ desk.old.opening }
-    ensures { desk.new ≡ desk.old }
-{
-    let mut workers = Vec::new(alloc);
-    for reader in cached_readers(rt, alloc, desk, readers)? {
-        workers.push(WorkerParts {
+) -> Result<Vec<Worker<'s, 'n, R, G, P>>, AllocError> {
+    let mut workers = Vec::new(shared.alloc);
+    for reader in readers {
+        workers.push(Worker {
+            shared,
             number: workers.len(),
             reader,
             queries: queries.clone()?,
@@ -58,7 +59,7 @@ pub(crate) fn cached_readers<R: RandomSource>(
     alloc: Global,
     desk: &mut Desk,
     mut readers: Readers,
-) -> Result<Vec<CachedReader<RandomState>>, AllocError>
+) -> Result<Vec<KeyedReader>, AllocError>
     requires { readers.each.opening ≡ desk.old.opening }
     ensures { desk.new ≡ desk.old }
 {
@@ -90,22 +91,24 @@ fn told_reader(desk: &mut Desk, readers: &mut Readers) -> Option<Reader>
     Some(reader)
 }
 
-/// The thread of a worker: it serves query connections until there are no more, and gives its counts.
-pub(crate) fn work<R: Wait + Clock + Eprint + Drop, G: Gate>(
-    shared: &Shared<'_, R, G>,
-    worker: WorkerParts<R>,
-) -> Counts {
-    let WorkerParts {
-        number,
-        mut reader,
-        queries,
-    } = worker;
-    match shared.status.worker(number) {
-        Some(counts) if shared.counts_replies => {
-            let mut counting = Counting::of(&mut reader, counts);
-            answer_queries(shared, &queries, &mut counting)
+/// It serves query connections until there are no more, and gives its counts.
+impl<R: Wait + Clock + Eprint + Drop, G: Gate> Task for Worker<'_, '_, R, G, KeyedReader> {
+    type Output = Counts;
+
+    fn run(self) -> Counts {
+        let Worker {
+            shared,
+            number,
+            mut reader,
+            queries,
+        } = self;
+        match shared.status.worker(number) {
+            Some(counts) if shared.counts_replies => {
+                let mut counting = Counting::of(&mut reader, counts);
+                answer_queries(shared, &queries, &mut counting)
+            }
+            _ => answer_queries(shared, &queries, &mut reader),
         }
-        _ => answer_queries(shared, &queries, &mut reader),
     }
 }
 
