@@ -28,8 +28,13 @@ pub(crate) trait Entry {
     fn close(self);
 }
 
-/// Runs each worker and the desks in a thread of their own, lets connections in in this thread until the server is
-/// over, and waits for all threads. Gives the sum of all counts, if all were served.
+/// Runs each worker in a thread of its own, and desks in one more. Lets connections in from this thread until the server
+/// is over, and waits for all threads. Gives the sum of all counts.
+///
+/// # Errors
+///
+/// [`RunFault::Memory`] if a thread was refused. [`RunFault::Accept`] if `desks` says that one was expected and none
+/// came. Those of [`Entry::let_all_in`].
 pub(crate) fn run_threads<
     R: Threads + Wait,
     W: Task<Output = Counts> + Send + Drop,
@@ -77,7 +82,8 @@ pub(crate) fn run_threads<
     )
 }
 
-/// Waits for the threads of all workers and of desks. Gives the sum of all counts, if all were served.
+/// Waits for the threads of all workers and of desks. Gives the sum of all counts, if no desk was missed and all were
+/// let in.
 fn join_all<R: Threads + Wait>(
     rt: &R,
     threads: Vec<JoinHandle<Counts>>,
