@@ -53,7 +53,7 @@ pub(crate) fn serve_all<
             shared,
             listener: &doors.queries,
             connections,
-            sender,
+            sender: Some(sender),
         },
     )
 }
@@ -83,15 +83,19 @@ struct QueryEntry<'s, 'n, R: Wait + Clock + Eprint + Drop, G> {
     shared: &'s Shared<'n, R, G>,
     listener: &'s Listener,
     connections: u32,
-    sender: Sender<Query<R>>,
+    /// Nothing once it is closed.
+    sender: Option<Sender<Query<R>>>,
 }
 
 impl<R: Wait + Clock + Eprint + Drop, G> Entry for QueryEntry<'_, '_, R, G> {
     fn let_all_in(&self) -> Result<Counts, RunFault> {
-        hand_over_all(self.shared, self.listener, &self.sender, self.connections)
+        match &self.sender {
+            Some(sender) => hand_over_all(self.shared, self.listener, sender, self.connections),
+            None => Ok(Counts::default()),
+        }
     }
 
-    fn close(self) {
-        drop(self);
+    fn close(&mut self) {
+        self.sender = None;
     }
 }

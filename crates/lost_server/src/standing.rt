@@ -157,7 +157,7 @@ impl<R: Wait + Clock + Eprint + Drop, G> Entry for HallEntry<'_, '_, R, G> {
         )
     }
 
-    fn close(mut self) {
+    fn close(&mut self) {
         for entrance in self.entrances.iter_mut() {
             entrance.close();
         }

@@ -24,8 +24,8 @@ pub(crate) trait Entry {
     fn let_all_in(&self) -> Result<Counts, RunFault>
         ensures { result ≢ Err RunFault.Workers };
 
-    /// Tells the workers that no further connections come.
-    fn close(self);
+    /// Tells the workers that no further connections come. They are woken by what this has, so it outlives them.
+    fn close(&mut self);
 }
 
 /// Runs each worker in a thread of its own, and desks in one more. Lets connections in from this thread until the server
@@ -56,6 +56,7 @@ pub(crate) fn run_threads<
         |scope| -> Result<Counts, RunFault>
             ensures { result ≢ Err RunFault.Workers }
         {
+            let mut entry = entry;
             let mut threads = Vec::new(alloc);
             let mut is_short = false;
             for worker in workers {
