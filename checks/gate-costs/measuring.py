@@ -87,7 +87,7 @@ def sums(took, all, verdict):
     """A line that says how long a gate took, the minutes of processor time by kind, and its verdict."""
     spent = all.code + all.tests + all.edits
     kinds = f"{all.code:.1f} for code, {all.tests:.1f} for tests, {all.edits:.1f} for {all.tried} edits"
-    return f"{took:.0f} minutes on {os.cpu_count()} cores: {spent:.1f} minutes of processor time, {kinds}. {verdict}"
+    return f"{took:.0f} minutes on {len(os.sched_getaffinity(0))} cores: {spent:.1f} minutes of processor time, {kinds}. {verdict}"
 
 
 def slowest(used, name):
