@@ -1,7 +1,7 @@
 #!/usr/bin/env python3
-"""Draws the pictures of the documents: house.svg, boundary.svg and copies.svg, beside this file.
+"""Draws the pictures of the documents: house.svg, boundary.svg, copies.svg, question.svg and threads.svg, beside this file.
 
-Usage: docs/pictures/draw.py          writes the three files
+Usage: docs/pictures/draw.py          writes the five files
        docs/pictures/draw.py --check  writes nothing, and ends with status 1 where a file is not what it would write
 """
 import sys
@@ -168,9 +168,57 @@ def copies():
     return p.write()
 
 
+def question():
+    """A question and its answer: a call's place goes in, and the centre that takes the call comes out."""
+    p = Picture(860, 230, "A question and its answer")
+    for x, fill, name in ((30, "#e8f0fa", "A"), (130, "#fbf3df", "B")):
+        p.area([(x, 30), (x + 100, 30), (x + 100, 170), (x, 170)], fill)
+        p.line([(x, 30), (x + 100, 30), (x + 100, 170), (x, 170), (x, 30)], BLUE)
+        p.text(x + 50, 56, name, size=20, bold=True)
+    p.dot(80, 110, RED)
+    p.text(80, 134, "a call", color=RED)
+    p.text(130, 196, "the map: a boundary for each centre", size=12)
+    p.box(400, 75, 130, 60, "lostd", "finds the boundary")
+    p.box(720, 75, 120, 60, "centre A", "takes the call", fill="#e8f0fa", stroke=BLUE)
+    p.line([(90, 108), (398, 103)], RED, arrow="red")
+    p.text(316, 60, "police, for this place?", color=RED)
+    p.text(316, 80, "0.5 north, 0.5 east", color=RED, size=11)
+    p.line([(532, 105), (718, 105)], GREEN, arrow="green")
+    p.text(625, 60, "sip:A@map.example", color=GREEN)
+    p.text(625, 80, "by boundary A-1, edition 1", color=GREEN, size=11)
+    p.line([(465, 200), (465, 137)], BLUE, arrow="blue")
+    p.text(465, 218, "a map desk edits the boundaries meanwhile", color=BLUE)
+    return p.write()
+
+
+def threads():
+    """The threads of a server, and what passes between them."""
+    p = Picture(860, 400, "The threads of a server, and what passes between them")
+    p.box(40, 60, 150, 54, "accepting", "admits connections")
+    for k in range(3):
+        p.box(320, 40 + 66 * k, 170, 54, ("worker 1", "worker 2", "worker K")[k], "answers its connections", fill="#e8f0fa", stroke=BLUE)
+        p.line([(192, 87), (318, 67 + 66 * k)], INK, arrow="ink")
+        p.line([(588, 128), (492, 67 + 66 * k)], BLUE, arrow="blue")
+    p.text(252, 36, "connections: a queue", size=11)
+    p.text(252, 50, "and a wake-up each", size=11)
+    p.box(590, 95, 230, 66, "two copies of the book", "readers enter one without a lock", fill="white", stroke=BLUE, dash="4 3")
+    p.box(620, 240, 170, 54, "desk", "stages and commits", fill="#fbf3df", stroke=RED)
+    p.line([(705, 238), (705, 163)], RED, arrow="red")
+    p.text(715, 205, "a commit swaps them", color=RED, anchor="start", size=11)
+    p.box(320, 240, 170, 54, "status", "health and metrics, over HTTP")
+    p.line([(405, 226), (405, 238)], INK, dash="4 3", arrow="ink")
+    p.text(300, 238, "counters, without a lock", size=11, anchor="end")
+    p.box(320, 330, 170, 54, "log writer", "standard error")
+    p.line([(618, 280), (492, 350)], INK, arrow="ink")
+    p.line([(115, 116), (115, 357), (318, 357)], INK, arrow="ink")
+    p.text(125, 350, "lines: a queue that nobody waits for", size=11, anchor="start")
+    p.text(500, 372, "workers log here too", size=11, anchor="start")
+    return p.write()
+
+
 def main():
     here = Path(__file__).resolve().parent
-    pictures = {"house.svg": house(), "boundary.svg": boundary(), "copies.svg": copies()}
+    pictures = {"house.svg": house(), "boundary.svg": boundary(), "copies.svg": copies(), "question.svg": question(), "threads.svg": threads()}
     if sys.argv[1:] == ["--check"]:
         stale = [name for name, text in pictures.items() if not (here / name).exists() or (here / name).read_text() != text]
         for name in stale:
