@@ -8,7 +8,7 @@ from typing import Any, Dict, Iterable, List, Set
 from maptools.meridian import Unfit
 from maptools.templates import NoValue
 
-OWN_NAMES = ("@number", "@source-id", "@regions")
+OWN_NAMES = ("@number", "@district", "@source-id", "@regions")
 
 
 class Mistake(Unfit):
