@@ -13,7 +13,7 @@ from tests.geojson_files import collection, feature
 from tests.running import run_tool
 
 WORDS = ["--source", "map.example", "--service", "urn:service:sos.police", "--uri", "sip:{@id}@map.example", "--source-id", "{@id}",
-         "--display", "en={name?}"]  # fmt: skip
+         "--display", "en={shown?}"]  # fmt: skip
 EARLY, LATE = "2026-01-02T00:00:00Z", "2026-01-03T00:00:00Z"
 
 
@@ -24,7 +24,7 @@ def square(place: float, size: float = 1) -> List[Any]:
 
 def named(name: str, place: float = 0, size: float = 1, shown: str = "x") -> Dict[str, Any]:
     """A feature."""
-    return feature(square(place, size), name, name=shown)
+    return feature(square(place, size), name, shown=shown)
 
 
 class Against(unittest.TestCase):
@@ -78,8 +78,8 @@ class Against(unittest.TestCase):
         self.assertEqual((status, edits), (0, []))
 
     def test_a_key_that_goes_from_one_to_another(self) -> None:
-        self.write(run_tool("geojson-to-desk", [*WORDS, "--updated", EARLY, "--commit", "--key", "{name}"], collection([named("a", 0, 1, "k1"), named("b", 2, 1, "k2")]))[1])
-        status, edits, output, _ = self.edits([named("a", 5, 1, "k2"), named("b", 7, 1, "k3")], "--key", "{name}")
+        self.write(run_tool("geojson-to-desk", [*WORDS, "--updated", EARLY, "--commit", "--key", "{shown}"], collection([named("a", 0, 1, "k1"), named("b", 2, 1, "k2")]))[1])
+        status, edits, output, _ = self.edits([named("a", 5, 1, "k2"), named("b", 7, 1, "k3")], "--key", "{shown}")
         self.assertEqual((status, edits), (0, [("replace", "b"), ("replace", "a"), ("commit", "")]))
         self.write(output, "a")
         self.assertEqual({name: value["key"] for name, value in self.held().items()}, {"a": "k2", "b": "k3"})
