@@ -69,10 +69,14 @@ def regions_in_order(mapping: Dict[str, Any]) -> List[Region]:
 
 
 def properties_to_show(mapping: Dict[str, Any]) -> Properties:
-    """The members of a mapping as properties; what is not there is null, so that each feature has each."""
+    """The members of a mapping as properties; what is not there is null, so that each feature has each.
+
+    Several URIs are the JSON text of a list, since many formats have no lists of texts.
+    """
     regions = regions_in_order(mapping)
     return {
-        **{name: mapping[name] for name in ("source", "sourceId", "service", "uri", "lastUpdated", "expires")},
+        **{name: mapping[name] for name in ("source", "sourceId", "service", "lastUpdated", "expires")},
+        "uri": mapping["uri"][0] if len(mapping["uri"]) == 1 else line_of(mapping["uri"]),
         "default": mapping.get("default") is True,
         "serviceNumber": mapping.get("serviceNumber"),
         "displayName": mapping.get("displayName") or None,

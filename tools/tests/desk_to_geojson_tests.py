@@ -119,14 +119,18 @@ class ThereAndBack(unittest.TestCase):
         self.assertEqual([name for name in shown if shown[name]["geometry"] is None], ["rest", "civic"])
         self.assertEqual(len({tuple(feature["properties"]) for feature in shown.values()}), 1)
         self.assertEqual(len(shown["outside"]["geometry"]["coordinates"][0]), 1)
+        uris = [shown[name]["properties"]["uri"] for name in ("plain", "rest")]
+        self.assertEqual(uris, ["sip:plain@map.example", '["sip:a@map.example","tel:+1"]'])
 
     def test_lists_that_a_tool_wrote_as_text_are_read(self) -> None:
         given = self.lines([mapping("a", polygon(*OUTER), {"profile": "civic", "pattern": {"A3": "T"}}, {"profile": "x-token", "tokens": ["x"]},
                                     displayName=[{"lang": "en", "text": "A"}])])  # fmt: skip
         document = json.loads(run_tool("desk-to-geojson", [], given)[1])
         properties = document["features"][0]["properties"]
-        properties.update({name: json.dumps(value) for name, value in properties.items() if isinstance(value, list)})
-        self.assertEqual(self.outlines(self.back(json.dumps(document))), self.outlines(given))
+        as_text = {name: json.dumps(value) for name, value in properties.items() if isinstance(value, list)}
+        for written in ({**as_text, "default": None}, {**as_text, "uri": ["sip:a@map.example"]}):
+            properties.update(written)
+            self.assertEqual(self.outlines(self.back(json.dumps(document))), self.outlines(given))
 
     def test_what_was_changed_in_the_features_is_an_edit(self) -> None:
         path = f"{self.folder}/map.jsonl"
