@@ -56,7 +56,8 @@ class EditWriter(Writer):
             mapping["lastUpdated"] = stamp_after(before)
         elif is_constant(options.updated):
             name = " ".join(identity_of(mapping))
-            raise Mistake("--updated", f"{stamp} is not after {before}, which {options.against} has for {name}, and that changed: give a later time, or now")
+            what = f"{stamp} is not after {before}, which {options.against} has for {name}, and that changed"
+            raise Mistake("--updated", f"{what}: give a later time, or now")
 
     def take(self, place: int, mapping: Dict[str, Any]) -> None:
         """Keeps what is to be done of a mapping; Unfit where the server would refuse it."""

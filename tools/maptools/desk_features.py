@@ -109,7 +109,7 @@ def list_of(properties: Properties, name: str) -> List[Any]:
     return value
 
 
-def desk_regions(options: argparse.Namespace, feature: Dict[str, Any], properties: Properties) -> List[Region]:
+def desk_regions(feature: Dict[str, Any], properties: Properties) -> List[Region]:
     """The regions of a feature."""
     geometry = feature.get("geometry")
     polygons = [] if geometry is None else polygons_of(geometry, is_flat=True)
@@ -128,7 +128,7 @@ def mapping_of_desk_feature(options: argparse.Namespace, feature: Dict[str, Any]
     head = head_of(options, properties)
     head["uri"] = head["uri"] or list_of(properties, "uri")
     head["displayName"] = head["displayName"] or list_of(properties, "displayName") or None
-    regions = desk_regions(options, feature, properties)
+    regions = desk_regions(feature, properties)
     if properties.get("default") is True:
         if regions:
             raise Unfit("is a default, and has a geometry, patterns or tokens")

@@ -8,6 +8,9 @@ from typing import Any, Dict, Iterable, List, Set
 from maptools.meridian import Unfit
 from maptools.templates import NoValue
 
+# After so many rows a terminal is told again how many there are.
+STEP = 1000
+CLEAR = "\r\x1b[K"
 OWN_NAMES = ("@number", "@district", "@source-id", "@regions")
 
 
@@ -38,14 +41,23 @@ class LeftOut:
         self.known: List[str] = []
         self.said: Set[str] = set()
         self.count, self.looked = 0, 0
+        self.shows_progress, self.is_line_open = sys.stderr.isatty() and not sys.stdout.isatty(), False
 
     def say(self, text: str) -> None:
         """One line on standard error."""
-        print(f"{self.program}: {text}", file=sys.stderr)
+        print(f"{CLEAR if self.is_line_open else ''}{self.program}: {text}", file=sys.stderr)
+        self.is_line_open = False
+
+    def show_progress(self) -> None:
+        """Says now and then how far it is, in a line that the next one overwrites."""
+        if self.shows_progress and self.looked % STEP == 0:
+            print(f"{CLEAR}{self.program}: {self.looked:,} {self.noun}s", end="", file=sys.stderr, flush=True)
+            self.is_line_open = True
 
     def look(self, properties: Dict[str, Any]) -> None:
         """Notes which properties a feature has."""
         self.looked += 1
+        self.show_progress()
         self.known = self.known or [name for name in properties if not name.startswith("@")]
         for name in [name for name in self.unseen if has_value(properties, name)]:
             self.unseen.discard(name)

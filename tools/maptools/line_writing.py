@@ -82,8 +82,8 @@ def short_line(kind: str, mapping: Dict[str, Any]) -> str:
 
 
 def write_commit(options: argparse.Namespace, left_out: LeftOut) -> None:
-    """Writes the commit line, unless something was left out and that is not asked for."""
-    if left_out.count and not options.without_faulty:
+    """Writes the commit line, unless something was left out: by a mistake of the command line, or without being asked for."""
+    if left_out.count and not left_out.said and not options.without_faulty:
         left_out.say("no commit line is written, since something was left out; --without-faulty writes it all the same")
-    else:
+    elif not left_out.said:
         print(COMMIT_LINE)

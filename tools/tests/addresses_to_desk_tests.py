@@ -5,12 +5,15 @@ import csv
 import io
 import itertools
 import json
+import os
+import pty
 import random
+import subprocess
 import unittest
 from typing import Any, Dict, FrozenSet, List, Sequence, Tuple
 
 from maptools.set_cover import fewest
-from tests.running import found_in, lostd, replay, run_tool
+from tests.running import TOOLS, found_in, lostd, replay, run_tool
 
 COMMON = ["--district", "{esn}", "--source", "map.example", "--service", "urn:service:sos.police", "--updated", "2026-01-02T00:00:00Z",
           "--uri", "sip:police@map.example"]  # fmt: skip
@@ -271,6 +274,18 @@ class Faults(unittest.TestCase):
         street = {"A2": "Bergen", "A3": "Leonia", "RD": "MAIN ST", "HNO": "1"}
         found = [patterns_of(json.loads(line)["publish"]) for line in output.splitlines()]
         self.assertEqual(found, [[address(**street, UNIT="2")], [address(**street, UNIT="3")]])
+
+    def test_a_terminal_is_told_how_far_it_is(self) -> None:
+        text = "A3,RD,HNO,esn\n" + "".join(f"T,Main,{number},A\n" for number in range(2500))
+        ours, its = pty.openpty()
+        words = [f"{TOOLS}/addresses-to-desk", *COMMON]
+        subprocess.run(words, input=text.encode(), stdout=subprocess.DEVNULL, stderr=its, timeout=60, check=True)
+        os.close(its)
+        said = os.read(ours, 10_000).decode().replace("\r\n", "\n")
+        os.close(ours)
+        clear = "\r\x1b[K"
+        progress = f"{clear}addresses-to-desk: 1,000 rows{clear}addresses-to-desk: 2,000 rows{clear}"
+        self.assertTrue(said.startswith(f"{progress}addresses-to-desk: A: 1 of 256 patterns, for district A, from 2,500 rows\n"), said)
 
     def test_mistakes_of_the_command_line(self) -> None:
         text = csv_of([(address(A3="T", RD="a"), "A"), (address(A3="U", RD="a"), "B")])

@@ -5,7 +5,7 @@ import glob
 import json
 import os
 import unittest
-from typing import Any, Dict, List
+from typing import Any, List
 
 from maptools.desk_rules import apply_edit, contents_of, edit_fault, empty_book
 from tests.geojson_files import COMMON, RING, collection, feature
@@ -293,7 +293,7 @@ class CommandLine(unittest.TestCase):
             (["--key", "one"], 1, "--key: 'one' is the same for every feature: write a property into it, such as {code}"),
         ):
             with self.subTest(said):
-                status, output, errors = run_tool("geojson-to-desk", [*COMMON, *words], text)
+                status, output, errors = run_tool("geojson-to-desk", [*COMMON, *words, "--commit", "--without-faulty"], text)
                 self.assertEqual((status, output.count("\n")), (2, taken))
                 self.assertEqual(errors, f"geojson-to-desk: {said}\n{count.format(taken)}")
 
