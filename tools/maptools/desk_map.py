@@ -34,10 +34,13 @@ class Parsed(NamedTuple):
 
 
 class DeskMap:
-    """The book after some lines, the line that gave each mapping, and what was wrong with the lines."""
+    """The book after some lines, the line that gave each mapping, and what was wrong with the lines.
 
-    def __init__(self, path: str) -> None:
-        self.path, self.book = path, empty_book()
+    The noun says what the numbers of the lines count.
+    """
+
+    def __init__(self, path: str, noun: str = "line") -> None:
+        self.path, self.noun, self.book = path, noun, empty_book()
         self.given: Dict[Identity, Given] = {}
         self.complaints: List[str] = []
         self.is_committed, self.server = True, ""

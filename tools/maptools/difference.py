@@ -89,7 +89,7 @@ def place_of(edit: Edit, wanted: DeskMap) -> str:
     """The mapping that an edit is about, and where the map file has it."""
     if edit.kind == "withdraw":
         return f"{name_of(edit.value)}, which {wanted.path} no longer has"
-    return f"{wanted.path}, line {wanted.given[identity_of(edit.value)].number}: {name_of(edit.value)}"
+    return f"{wanted.path}, {wanted.noun} {wanted.given[identity_of(edit.value)].number}: {name_of(edit.value)}"
 
 
 def difference_of(book: Book, wanted: DeskMap, now: str) -> Difference:

@@ -34,12 +34,8 @@ def system_of(document: Dict[str, Any]) -> str:
     return str(properties.get("name", crs)) if isinstance(properties, dict) else "" if crs is None else str(crs)
 
 
-def features_of(text: str) -> List[Any]:
-    """The features of a file of GeoJSON."""
-    try:
-        document = json.loads(text, parse_float=decimal_of, parse_constant=refuse_constant)
-    except (ValueError, RecursionError) as error:
-        raise NoGeojson(f"the input is not JSON: {error}") from None
+def features_in(document: Any) -> List[Any]:
+    """The features of a value of JSON: a collection, or one feature."""
     kind = document.get("type") if isinstance(document, dict) else None
     if kind not in ("Feature", "FeatureCollection"):
         raise NoGeojson("the input is neither a Feature nor a FeatureCollection")
@@ -51,6 +47,15 @@ def features_of(text: str) -> List[Any]:
     if not isinstance(document.get("features"), list):
         raise NoGeojson("the FeatureCollection has no list of features")
     return document["features"]
+
+
+def features_of(text: str) -> List[Any]:
+    """The features of a file of GeoJSON."""
+    try:
+        document = json.loads(text, parse_float=decimal_of, parse_constant=refuse_constant)
+    except (ValueError, RecursionError) as error:
+        raise NoGeojson(f"the input is not JSON: {error}") from None
+    return features_in(document)
 
 
 def position_of(value: Any) -> Any:

@@ -14,6 +14,14 @@ NO_URI_BYTE = re.compile(rb"[^!-~]")
 Template = List[Tuple[bool, str]]
 
 
+class NoValue(Unfit):
+    """A property without a value that a template needs."""
+
+    def __init__(self, name: str) -> None:
+        super().__init__(f"has no value of the property {name!r}")
+        self.name = name
+
+
 def template_of(text: str) -> Template:
     """The pieces of a template, each with whether it is the name of a property."""
     pieces = []
@@ -53,7 +61,7 @@ def fill(template: Template, properties: Dict[str, Any], for_uri: bool = False) 
         if text is None and is_optional:
             return None
         if text is None:
-            raise Unfit(f"has no value of the property {name!r}")
+            raise NoValue(name)
         result += uri_text(text) if for_uri else text
     return result
 
@@ -61,3 +69,8 @@ def fill(template: Template, properties: Dict[str, Any], for_uri: bool = False) 
 def uri_text(text: str) -> str:
     """A text with each byte that no URI has, such as a space, written as % and two digits."""
     return NO_URI_BYTE.sub(lambda byte: b"%%%02X" % byte[0][0], text.encode()).decode()
+
+
+def names_of(template: Template) -> List[str]:
+    """The properties that a template names."""
+    return [piece[:-1] if piece.endswith("?") else piece for is_name, piece in template if is_name]

@@ -5,12 +5,12 @@ import glob
 import json
 import os
 import unittest
-from typing import Any, Dict, List
+from typing import Any, List
 
 from maptools.desk_rules import apply_edit, contents_of, edit_fault, empty_book
+from tests.geojson_files import COMMON, RING, collection, feature
 from tests.running import CASES, found_in, lostd, question, read, replay, run_tool, token_question
 
-COMMON = read("geojson/common.args").splitlines()
 D = 10_000_000
 
 # Points on and beside the edges of the cases, and what they find, worked out by hand.
@@ -56,16 +56,6 @@ def arguments_of(name: str) -> List[str]:
     path = f"{CASES}/geojson/{name}.args"
     own = read(f"geojson/{name}.args").splitlines() if os.path.exists(path) else COMMON
     return [*own, f"{CASES}/geojson/{name}.geojson"]
-
-
-def feature(coordinates: Any, name: Any = "a", kind: str = "Polygon", **properties: Any) -> Dict[str, Any]:
-    """A feature of coordinates."""
-    return {"type": "Feature", "id": name, "properties": properties, "geometry": {"type": kind, "coordinates": coordinates}}
-
-
-def collection(features: List[Any]) -> str:
-    """A file of features."""
-    return json.dumps({"type": "FeatureCollection", "features": features})
 
 
 def staircase(steps: int) -> List[List[float]]:
@@ -126,26 +116,26 @@ class Limits(unittest.TestCase):
         self.assertIn("it makes a line of more than 1,048,576 bytes", said)
 
     def test_texts_that_the_desk_refuses_are_left_out_by_code(self) -> None:
-        ring = [[[0, 0], [1, 0], [1, 1], [0, 0]]]
-        for words, code in (
-            (["--source", "map..example"], "code 2, BadSource"),
-            (["--source-id", "x" * 129], "code 3, BadSourceId"),
-            (["--updated", "2026-02-29T00:00:00Z"], "code 4, BadStamp"),
-            (["--expires", "never"], "code 5, BadExpires"),
-            (["--service", "sos.police"], "code 6, BadService"),
-            (["--uri", "SIP:b@map.example"], "code 7, BadUri"),
-            (["--service-number", "9-1-1"], "code 8, BadNumber"),
-            (["--display", "en=" + "x" * 1025], "code 11, TooLarge"),
-            (["--key", "a\x7f"], "code 12, BadKey"),
+        for option, value, code in (
+            ("--source", "map..example", "code 2, BadSource"),
+            ("--source-id", "x" * 129, "code 3, BadSourceId"),
+            ("--updated", "2026-02-29T00:00:00Z", "code 4, BadStamp"),
+            ("--expires", "never", "code 5, BadExpires"),
+            ("--service", "sos.police", "code 6, BadService"),
+            ("--uri", "SIP:b@map.example", "code 7, BadUri"),
+            ("--service-number", "9-1-1", "code 8, BadNumber"),
+            ("--display", "x" * 1025, "code 11, TooLarge"),
+            ("--key", "a\x7f", "code 12, BadKey"),
         ):
             with self.subTest(code):
-                status, output, said = self.convert([feature(ring)], *words)
+                template = "en={given}" if option == "--display" else "{given}"
+                status, output, said = self.convert([feature(RING, given=value)], option, template)
                 self.assertEqual((status, output), (3, ""))
                 self.assertIn(code, said)
 
     def test_one_key_for_two_features_is_said(self) -> None:
-        ring = [[[0, 0], [1, 0], [1, 1], [0, 0]]]
-        status, _, said = self.convert([feature(ring, "a"), feature(ring, "b")], "--key", "one")
+        features = [feature(RING, "a", code="one"), feature(RING, "b", code="one")]
+        status, _, said = self.convert(features, "--key", "{code}")
         self.assertEqual(status, 3)
         self.assertIn("feature 2 (id 'b'): it would be refused with code 16, KeyHeld: feature 1 has the same key, 'one'", said)
 
@@ -270,3 +260,61 @@ class CommandLine(unittest.TestCase):
             (COMMON, '{"type":"FeatureCollection","features":[]}', 0),
         ):
             self.assertEqual(run_tool("geojson-to-desk", words, given)[0], status, (words[-2:], given[:20]))
+
+    def test_a_mistake_is_said_once_and_nothing_is_written(self) -> None:
+        text = collection([feature(RING, number, code=f"c{number}", empty=None) for number in range(300)])
+        for words, said in (
+            (["--source", "map..example"], "--source: 'map..example' is not a source: write labels joined by dots, such as map.example"),
+            (["--source-id", ""], "--source-id: '' is not a sourceId: it has 1 to 128 bytes, and no control byte"),
+            (["--service", "sos.police"], "--service: 'sos.police' is not a service URN, such as urn:service:sos.police"),
+            (["--updated", "2026-02-29T00:00:00Z"], "--updated: '2026-02-29T00:00:00Z' is not a time, such as 2026-11-23T00:00:00Z or 2026-11-23T00:00:00-05:00"),
+            (["--updated", "2026-02-28"], "--updated: '2026-02-28' has no offset: write a time in UTC, such as 2026-11-23T00:00:00Z, or add an offset such as -05:00"),
+            (["--expires", "never"], "--expires: 'never' is not a time, such as 2026-11-23T00:00:00Z or 2026-11-23T00:00:00-05:00, nor NO-CACHE or NO-EXPIRATION"),
+            (["--uri", "sip a:{code}"], "--uri: 'sip a:a' is not a URI: write a scheme, a colon, and no spaces, such as sip:a@psap.example"),
+            (["--uri", "police"], "--uri: 'police' is not a URI: write a scheme, a colon, and no spaces, such as sip:a@psap.example"),
+            (["--uri", "SIP:b@map.example"], "--uri: two URIs have the scheme sip: a mapping has one for each"),
+            (["--service-number", "9-1-1"], "--service-number: '9-1-1' is not a number of 1 to 64 digits, * and #"),
+            (["--display", "en=" + "x" * 1025], "--display: it has 1,025 bytes, and at most 1,024 are allowed"),
+            (["--display", "en=x"] * 17, "--display: there are 17, and at most 16 are allowed"),
+            (["--key", "a\x7f"], "--key: 'a\\x7f' is not a key: it has 1 to 128 bytes, and no control byte"),
+            (["--against", "x", "--replace"], "--replace and --against do not go together: --against finds out what is to be replaced"),
+        ):
+            with self.subTest(said):
+                self.assertEqual(run_tool("geojson-to-desk", [*COMMON, *words], text), (2, "", f"geojson-to-desk: {said}\n"))
+
+    def test_a_mistake_that_shows_at_the_features_is_said_once(self) -> None:
+        text = collection([feature(RING, number, code=f"c{number}", empty=None) for number in range(300)])
+        count = "geojson-to-desk: {} of 300 features became lines\n"
+        for words, taken, said in (
+            (["--source-id", "{coed}"], 0, "no feature has a value of the property 'coed': did you mean 'code'?"),
+            (["--source-id", "{empty}"], 0, "no feature has a value of the property 'empty'"),
+            (["--source-id", "{7}"], 0, "no feature has a value of the property '7': there are 'code', 'empty'"),
+            (["--source-id", "police"], 1, "--source-id: 'police' is the same for every feature: write a property into it, such as {code}"),
+            (["--key", "one"], 1, "--key: 'one' is the same for every feature: write a property into it, such as {code}"),
+        ):
+            with self.subTest(said):
+                status, output, errors = run_tool("geojson-to-desk", [*COMMON, *words, "--commit", "--without-faulty"], text)
+                self.assertEqual((status, output.count("\n")), (2, taken))
+                self.assertEqual(errors, f"geojson-to-desk: {said}\n{count.format(taken)}")
+
+    def test_a_property_that_is_missing_here_and_there_is_said_each_time(self) -> None:
+        features = [feature(RING, number, code=code) for number, code in enumerate((None, "", "c", None))]
+        status, output, said = run_tool("geojson-to-desk", [*COMMON, "--source-id", "{code}"], collection(features))
+        lines = [f"geojson-to-desk: feature {number} (id '{number - 1}'): it has no value of the property 'code'" for number in (1, 2, 4)]
+        self.assertEqual((status, output.count("\n"), said.splitlines()[:-1]), (3, 1, lines))
+
+    def test_an_optional_property_that_nothing_has_is_noted(self) -> None:
+        status, output, said = run_tool("geojson-to-desk", [*COMMON, "--service-number", "{dail?}"], collection([feature(RING, dial="1")]))
+        self.assertEqual((status, output.count("\n")), (0, 1))
+        self.assertIn("geojson-to-desk: note: no feature has a value of the property 'dail': did you mean 'dial'?\n", said)
+
+    def test_no_commit_where_a_feature_was_left_out(self) -> None:
+        text = collection([feature(RING, "a"), feature([[[0, 0], [1, 1]]], "b")])
+        for words, commits, said in (
+            ([], 0, "no commit line is written, since something was left out; --without-faulty writes it all the same\n"),
+            (["--without-faulty"], 1, ""),
+        ):
+            status, output, errors = run_tool("geojson-to-desk", [*COMMON, "--commit", *words], text)
+            self.assertEqual((status, output.count('{"commit":{}}')), (3, commits))
+            self.assertIn(said, errors)
+        self.assertEqual(run_tool("geojson-to-desk", [*COMMON, "--commit"], collection([feature(RING)]))[1].count('{"commit":{}}'), 1)
