@@ -1,33 +1,20 @@
-"""Looks for the mistakes of a map, in the terms of what a caller would get: `check` is the call, `Finding` what it gives."""
+"""Looks for the mistakes of a map, in the terms of what a caller would get.
+
+`check(mappings, options)` is the call, a list of `Finding` what it gives. It needs Debian's python3-shapely, which is only
+read when it is called.
+"""
 from __future__ import annotations
 
-from typing import Any, Callable, Dict, Iterable, List, NamedTuple, Optional
+from typing import Any, Dict, Iterable, List
 
-from maptools.checking.findings import SEVERITIES, Finding, counts_of
+from maptools.checking.findings import KINDS, SEVERITIES, Finding, counts_of
+from maptools.checking.options import Options
 
-__all__ = ["Finding", "Options", "SEVERITIES", "check", "counts_of"]
-
-
-def be_silent(what: str, done: int, total: int) -> None:
-    """Shows no progress."""
-
-
-class Options(NamedTuple):
-    """How a map is checked.
-
-    `now` is a stamp; None for the clock. `within_days` is how soon a mapping that expires is told of. `tolerance` is in metres:
-    what is narrower is left out. `outline` is the path of a GeoJSON file. `lostd` is the path of the program that is asked for
-    answers; None leaves them out. `progress` is told what is done, how much of it, and of how much.
-    """
-
-    now: Optional[str] = None
-    within_days: float = 30
-    tolerance: float = 0
-    outline: Optional[str] = None
-    lostd: Optional[str] = None
-    progress: Callable[[str, int, int], None] = be_silent
+__all__ = ["KINDS", "Finding", "Options", "SEVERITIES", "check", "counts_of"]
 
 
 def check(mappings: Iterable[Dict[str, Any]], options: Options = Options()) -> List[Finding]:
-    """The findings about mappings, each as the value of a publish line; the worst first. It needs Debian's python3-shapely."""
-    return []
+    """The findings about mappings, each as the value of a publish line; the worst first. ValueError where one is none."""
+    from maptools.checking.checks import check_mappings
+
+    return check_mappings(mappings, options)
