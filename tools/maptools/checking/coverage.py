@@ -10,15 +10,14 @@ from collections import defaultdict
 from typing import Any, Dict, FrozenSet, Iterator, List, NamedTuple, Set, Tuple
 
 import numpy
-from shapely.geometry import box
 from shapely.ops import unary_union
 
 from maptools.checking.areas import faces_of, lines_between, polygons_in, rings_in
 from maptools.checking.edges import leftover
 from maptools.checking.layers import Layer
 
-# How near an area is to a face for it to be beside it, in units.
-BESIDE = 0.01
+# How near an edge is to a face for it to be beside it, and how long it is there, in units.
+BESIDE, LEAST_EDGE = 0.01, 0.5
 
 Owners = FrozenSet[int]
 
@@ -94,7 +93,7 @@ def parts_of(faces: List[Any]) -> List[Any]:
 
 
 def owners_beside(layer: Layer, place: Any) -> Tuple[int, ...]:
-    """The mappings whose areas touch a place."""
-    west, south, east, north = place.bounds
-    near = layer.near(box(west - 1, south - 1, east + 1, north + 1))
-    return tuple(sorted({layer.pieces[number].owner for number in near if layer.pieces[number].area.distance(place) < BESIDE}))
+    """The mappings whose areas have an edge with a place, and more than a corner."""
+    strip = place.boundary.buffer(BESIDE, resolution=1)
+    near = {number: layer.pieces[number] for number in layer.near(strip)}
+    return tuple(sorted({piece.owner for piece in near.values() if strip.intersection(piece.area.boundary).length > LEAST_EDGE}))

@@ -43,7 +43,8 @@ def ring_findings(layer: Layer, piece: Piece) -> Iterator[Finding]:
         is_twice = piece.tangle is not None and piece.tangle.is_repeated
         text = "is drawn twice, which cancels it: it holds nothing" if is_twice else "has no area: it holds nothing"
         yield finding("ring-twice" if is_twice else "no-area", ERROR, text, first)
-    elif piece.tangle is not None and piece.tangle.is_repeated:
+        return
+    if piece.tangle is not None and piece.tangle.is_repeated:
         yield finding("ring-twice", ERROR, "runs along some edges twice in the same direction, which cancels them", first)
     crossings = [(round(y), round(x)) for x, y in piece.tangle.crossings] if piece.tangle is not None else []
     if crossings:
