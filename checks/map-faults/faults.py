@@ -206,27 +206,27 @@ def own_overlap(cut, row, column):
     cut.want("own-overlap", name)
 
 
-def service(cut, row, column):
+def service(cut, row, column, written=("sos.polcie", "sos.polic", "sos.plice")):
     """A misspelt service."""
     name = cut.name(row, column)
-    cut.mappings[name]["service"] = cut.dice.choice(("urn:service:sos.polcie", "urn:service:sos.polic", "urn:service:sos.plice"))
+    cut.mappings[name]["service"] = f"urn:service:{cut.dice.choice(written)}"
     cut.want("service-spelling", name)
     cut.answer_is_open(row, column)
     cut.allow(["no-default"], [])
 
 
-def scheme(cut, row, column):
+def scheme(cut, row, column, written=("spi", "si", "sipp", "tell")):
     """A misspelt scheme."""
     name = cut.name(row, column)
-    cut.mappings[name]["uri"] = [f"{cut.dice.choice(('spi', 'si', 'sipp', 'tell'))}:{name}@police.example"]
+    cut.mappings[name]["uri"] = [f"{cut.dice.choice(written)}:{name}@police.example"]
     cut.want("uri-scheme", name)
 
 
-def tokens(cut, row, column):
+def tokens(cut, row, column, written=(("space", "space "), ("Hall 7", "hall 7"), ("a b", "a  b"))):
     """Tokens that differ in white space or case."""
     names = pair(cut, row, column)
-    for name, token in zip(names, cut.dice.choice((("space", "space "), ("Hall 7", "hall 7"), ("a b", "a  b")))):
-        cut.mappings[name]["serviceBoundary"].append({"profile": "x-token", "tokens": [f"{token}"]})
+    for name, token in zip(names, cut.dice.choice(written)):
+        cut.mappings[name]["serviceBoundary"].append({"profile": "x-token", "tokens": [token]})
     cut.want("token-alike", *names)
 
 
