@@ -269,6 +269,12 @@ class Values(Findings):
         self.finds([mapping("A", regions=having(town)), mapping("B", regions=having(town), service=FIRE)])
 
 
+def smaller(one: Dict[str, Any]) -> Dict[str, Any]:
+    """A square of the grid without the northern fifth."""
+    south, west = one["serviceBoundary"][0]["polygon"][0]
+    return {**one, "serviceBoundary": [{"profile": "geodetic-2d", "polygon": square(south, west, south + 8000, west + 10_000)}]}
+
+
 @unittest.skipUnless(has_shapely(), "/usr/bin/python3 lacks python3-shapely")
 class Command(unittest.TestCase):
     """The command: its options, its output and its statuses."""
@@ -323,13 +329,15 @@ class Command(unittest.TestCase):
         lines = [json.dumps({**one, "reason": "a lake", "date": "2026-11-30"}) for one in findings]
         known = self.write("known.jsonl", "\n".join(lines) + "\n")
         self.assertEqual(self.found(["--accept", known], desk_lines(mappings)), (0, []))
-        # Another gap is told of, and so is one that has grown.
-        self.assertEqual(self.found(["--accept", known], desk_lines(grid(3, 3)[:4] + grid(3, 3)[5:] + [mapping("x", square(0, 0, 9, 9))]))[0], 3)
-        grown = [{**one, "serviceBoundary": [{"profile": "geodetic-2d", "polygon": square(0, 10_000, 8000, 20_000)}]} if one["sourceId"] == "0.1" else one for one in mappings]
-        self.assertEqual([one["kind"] for one in self.found(["--accept", known], desk_lines(grown))[1]], ["gap"] if not lostd() else [])
+        # Another gap is told of, and so is one that has grown by a fifth.
+        other = [one for one in grid(3, 4) if one["sourceId"] not in ("1.1", "1.2")]
+        for mappings in (other, [smaller(one) if one["sourceId"] == "0.1" else one for one in mappings]):
+            status, out, said = run_check(["--accept", known], desk_lines(mappings))
+            self.assertEqual((status, out.count("error: gap"), len(out.splitlines())), (3, 1, 2), out)
+            self.assertIn("known.jsonl, line 1: this accepts nothing that is found", said)
         status, out, said = run_check(["--accept", known], desk_lines(grid(3, 3)))
         self.assertEqual((status, out), (0, "0 errors, 0 warnings, 0 notes, 1 accepted\n"))
-        self.assertIn("known.jsonl, line 1: nothing is found any more that this accepts: drop it\n", said)
+        self.assertIn("known.jsonl, line 1: this accepts nothing that is found\n", said)
 
     def test_a_bad_file_of_accepted_findings(self) -> None:
         for text, cause in (("{", "not JSON"), ('{"kind":"gap","identities":[],"reason":"","date":"2026-11-30"}', "no reason"),

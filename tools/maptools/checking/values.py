@@ -81,9 +81,9 @@ def is_more(other: str, scheme: str, groups: Groups) -> bool:
 def alike_findings(kind: str, what: str, groups: Groups) -> Iterator[Finding]:
     """Texts that differ only in case or white space."""
     for texts in alike(groups):
-        having = list(dict.fromkeys((subject.identity, subject.service) for text in texts for subject in groups[text]))
+        having = {(subject.identity, subject.service) for text in texts for subject in groups[text]}
         services = {service for _, service in having}
-        identities = tuple(dict.fromkeys(identity for identity, _ in having))
+        identities = tuple(sorted({identity for identity, _ in having}))
         shown = " and ".join(repr(text) for text in texts[:4])
         text = f"the {what} {shown} differ only in case or white space: {names_of(identities)}"
         yield Finding(kind, WARNING, services.pop() if len(services) == 1 else None, identities, text)
