@@ -100,6 +100,12 @@ class Boundaries(Findings):
         self.assertIn("in 2 places", sliver["text"])
         self.answers(sliver, "map.example A and map.example B")
 
+    def test_a_polygon_that_is_a_sliver_by_itself(self) -> None:
+        strip = square(20_000, 20_000, 20_500, 60_000)
+        (sliver,) = self.finds([mapping("A", square(0, 0, 10_000, 10_000), strip)], ("sliver", "warning", ("A",)))
+        self.assertAlmostEqual(sliver["width_m"], 500 * UNIT, delta=500 * UNIT / 80)
+        self.finds([mapping("A", square(0, 0, 10_000, 10_000), strip)], tolerance=6.0)
+
     def test_the_same_area_under_two_identities(self) -> None:
         ring = square(0, 0, 10_000, 10_000)
         again = [*ring[2:], *ring[1:3]][::-1]

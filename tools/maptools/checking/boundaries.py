@@ -10,14 +10,14 @@ from maptools.checking.coverage import Coverage, Owners, coverage_of, owners_bes
 from maptools.checking.findings import ERROR, WARNING, Finding
 from maptools.checking.geometries import in_degrees
 from maptools.checking.layers import Layer
-from maptools.checking.metres import area_of, area_text, greatest_width, length_of, width_text
+from maptools.checking.metres import area_of, area_text, greatest_width, is_sliver, width_text
 from maptools.checking.progress import Progress
 from maptools.checking.rule import whole_point
 from maptools.checking.subjects import names_of
 from maptools.texts import Point
 
-# Metres: one and a half units, which no rounding of an edge's ends exceeds; and what is narrower is a sliver, if it is long.
-CRACK, SLIVER, SLENDER = 0.0167, 10.0, 10.0
+# Metres: one and a half units, which no rounding of an edge's ends exceeds.
+CRACK = 0.0167
 # The share of both areas from which on two mappings have the same one.
 SAME = 0.99
 
@@ -44,7 +44,7 @@ def form_of(polygon: Any, width: float) -> str:
     """Whether a place is a crack, a sliver, or neither."""
     if width <= CRACK:
         return "crack"
-    return "sliver" if width < SLIVER and length_of(polygon) >= SLENDER * width else ""
+    return "sliver" if is_sliver(polygon, width) else ""
 
 
 def spots_in(parts: List[Any], is_wanted: Callable[[Point], bool]) -> Iterator[Spot]:

@@ -73,7 +73,7 @@ def layer_findings(service: str, subjects: List[Subject], outline: Any, options:
         findings.append(finding)
         again |= pieces
     boundaries = Boundaries(layer, outline, options.tolerance, options.progress)
-    findings += [*all_ring_findings(layer), *far_findings(layer), *boundaries.findings(again)]
+    findings += [*all_ring_findings(layer, options.tolerance), *far_findings(layer), *boundaries.findings(again)]
     return findings, boundaries.narrow
 
 

@@ -15,6 +15,8 @@ RADIANS = math.pi / 180 / 1e7
 METRES = RADIUS * RADIANS
 # How far the bounds of a width may be apart, as a ratio.
 CLOSE = 1.01
+# Metres: what is narrower is a sliver, if it is so many times as long.
+SLIVER, SLENDER = 10.0, 10.0
 
 
 def area_of(geometry: Any) -> float:
@@ -57,6 +59,11 @@ def greatest_width(polygon: Any) -> float:
 def length_of(polygon: Any) -> float:
     """Half of the length of a polygon's boundary in metres: how long it is where it is narrow."""
     return in_metres(polygon).length / 2
+
+
+def is_sliver(polygon: Any, width: float) -> bool:
+    """Whether a polygon of a width is narrow and long."""
+    return width < SLIVER and length_of(polygon) >= SLENDER * width
 
 
 def area_text(area: float) -> str:

@@ -1,12 +1,14 @@
 """Mistakes in single rings."""
 from __future__ import annotations
 
-from typing import Iterator, List
+import math
+from typing import Any, Iterator, List
 
 from maptools.checking.areas import polygons_in
 from maptools.checking.findings import ERROR, NOTE, WARNING, Finding
-from maptools.checking.geometries import dot_of
+from maptools.checking.geometries import dot_of, in_degrees
 from maptools.checking.layers import Layer, Piece
+from maptools.checking.metres import METRES, RADIANS, SLIVER, area_of, area_text, greatest_width, is_sliver, width_text
 from maptools.checking.rule import holds, whole_point
 from maptools.texts import Point
 from maptools.units import text_of
@@ -57,8 +59,30 @@ def ring_findings(layer: Layer, piece: Piece) -> Iterator[Finding]:
         yield finding("repeated-position", NOTE, f"repeats {positions}", first)
 
 
-def all_ring_findings(layer: Layer) -> Iterator[Finding]:
+def is_narrow(area: Any) -> bool:
+    """Whether an area may be a sliver: the greatest circle in it is at least as wide as twice its area by its edge's length."""
+    latitude = max(map(abs, area.bounds[1::2]))
+    return 2 * area.area * METRES * math.cos(latitude * RADIANS) < SLIVER * area.length
+
+
+def sliver_findings(layer: Layer, piece: Piece, tolerance: float) -> Iterator[Finding]:
+    """A polygon that is a sliver by itself."""
+    widths = [(greatest_width(part), part) for part in polygons_in(piece.area)]
+    width, part = max(widths, key=lambda one: one[0])
+    if width <= tolerance or not all(is_sliver(polygon, one) for one, polygon in widths):
+        return
+    subject, point = layer.subjects[piece.owner], whole_point(part, lambda place: holds(piece.ring, place))
+    area = sum(area_of(polygon) for _, polygon in widths)
+    text = f"polygon {piece.number} of {subject.name} is a sliver, {area_text(area)}, at most {width_text(width)} wide"
+    geometry = in_degrees([polygon for _, polygon in widths])
+    yield Finding("sliver", WARNING, layer.service, (subject.identity,), text, point, None, area, width, geometry)
+
+
+def all_ring_findings(layer: Layer, tolerance: float) -> Iterator[Finding]:
     """What is wrong with all rings."""
     for piece in layer.pieces:
-        if piece.tangle is not None or piece.tips or piece.repeated or piece.area.area <= TINY:
+        is_small = piece.area.area <= TINY
+        if piece.tangle is not None or piece.tips or piece.repeated or is_small:
             yield from ring_findings(layer, piece)
+        if not is_small and is_narrow(piece.area):
+            yield from sliver_findings(layer, piece, tolerance)
