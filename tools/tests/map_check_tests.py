@@ -142,8 +142,9 @@ class Cracks(Findings):
 
     def pair(self, low: Tuple[int, int], middle: Tuple[int, int], high: Tuple[int, int]) -> List[Dict[str, Any]]:
         """Neighbours of which only the right one names a position between the ends of their edge."""
-        left = ring_of(low, high, (high[0], -100_000), (low[0], -100_000))
-        right = ring_of(low, (low[0], 100_000), (high[0], 100_000), high, middle)
+        width = 4 * high[0]
+        left = ring_of(low, high, (high[0], -width), (low[0], -width))
+        right = ring_of(low, (low[0], width), (high[0], width), high, middle)
         return [mapping("left", left), mapping("right", right)]
 
     def test_a_position_off_the_edge_opens_a_crack(self) -> None:

@@ -48,7 +48,7 @@ def signatures_of(layer: Layer) -> Dict[Tuple[int, ...], List[List[Piece]]]:
     for own in pieces.values():
         courses = [piece.course for piece in own]
         if None not in courses:
-            groups.setdefault(tuple(sorted(course.signature() for course in courses)), []).append(own)
+            groups.setdefault(tuple(sorted(course.signature for course in courses)), []).append(own)
     return groups
 
 

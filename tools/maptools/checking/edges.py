@@ -1,11 +1,11 @@
 """Which edges areas have between them, and which are left, exactly."""
 from __future__ import annotations
 
-from typing import Any, NamedTuple, Sequence, Tuple
+from typing import Any, Iterator, NamedTuple, Sequence, Tuple
 
 import numpy
 
-from maptools.checking.loops import Loops, begins_of, begun_at_turns, double_areas, mirrored, turns_of
+from maptools.checking.loops import Loops, begins_of, begun_at_turns, double_areas, mirrored
 
 # Odd numbers that mix the bits of positions into those of an edge.
 MIX = numpy.array([0x9E3779B97F4A7C15, 0xC2B2AE3D27D4EB4F, 0x165667B19E3779F9], dtype=numpy.uint64)
@@ -16,14 +16,14 @@ Array = Any
 
 
 class Course(NamedTuple):
-    """A ring against the clock, begun at a turn: its positions, each as one number, and which the ring runs straight through."""
+    """A ring against the clock, begun at a turn: its positions, each as one number, and which the ring runs straight through.
+
+    `signature` is a number that is the same wherever the ring begins and whichever way it is given.
+    """
 
     codes: Array
     is_straight: Array
-
-    def signature(self) -> int:
-        """A number that is the same wherever the ring begins and whichever way it is given."""
-        return int(keys_of(self.codes, numpy.roll(self.codes, -1)).sum())
+    signature: int
 
 
 def codes_of(at: Array) -> Array:
@@ -37,12 +37,14 @@ def positions_of(codes: Array) -> Array:
     return numpy.stack([latitude.astype(numpy.int64) - SOUTHMOST, longitude.astype(numpy.int64) - WESTMOST], axis=1)
 
 
-def courses_of(loops: Loops) -> Sequence[Course]:
-    """The course of each ring."""
-    straight = turns_of(loops).is_straight
+def courses_of(loops: Loops, straight: Array) -> Iterator[Course]:
+    """The course of each ring; straight are the positions that it runs straight through."""
     order = mirrored(loops, double_areas(loops) < 0)
     order = order[begun_at_turns(loops, straight[order])]
-    return [Course(*both) for both in zip(loops.split(codes_of(loops.at[order])), loops.split(straight[order]))]
+    codes = codes_of(loops.at[order])
+    sums = numpy.append(numpy.uint64(0), numpy.cumsum(keys_of(codes, codes[loops.following()]), dtype=numpy.uint64))
+    signatures = sums[loops.begin[1:]] - sums[loops.begin[:-1]]
+    return map(Course, loops.split(codes), loops.split(straight[order]), map(int, signatures))
 
 
 def keys_of(one: Array, other: Array) -> Array:

@@ -42,14 +42,15 @@ class Piece(NamedTuple):
 
 def tips_in(open_ring: Any, is_tip: Any) -> List[Point]:
     """The tips of a ring that it comes by only once: the ways to its holes and back begin at the others."""
-    tips = [(int(latitude), int(longitude)) for latitude, longitude in open_ring[is_tip]]
+    tips = [(int(latitude), int(longitude)) for latitude, longitude in open_ring[is_tip]] if is_tip.any() else []
     return [tip for tip in tips if numpy.count_nonzero((open_ring == tip).all(axis=1)) == 1]
 
 
 def pieces_of(rings: Sequence[Tuple[int, int, Ring]]) -> Iterator[Piece]:
     """The pieces of some rings, each with its owner and its number."""
     loops, repeated = loops_of([ring for _, _, ring in rings])
-    parts = zip(rings, loops.split(loops.at), courses_of(loops), repeated, loops.split(turns_of(loops).is_tip))
+    turns = turns_of(loops)
+    parts = zip(rings, loops.split(loops.at), courses_of(loops, turns.is_straight), repeated, loops.split(turns.is_tip))
     for (owner, number, ring), open_ring, course, times, is_tip in parts:
         area = simple_area(open_ring)
         tangle = untangled(open_ring) if area is None else None

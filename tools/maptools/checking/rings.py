@@ -2,7 +2,7 @@
 from __future__ import annotations
 
 import math
-from typing import Any, Iterator, List
+from typing import Iterator, List
 
 from maptools.checking.areas import polygons_in
 from maptools.checking.findings import ERROR, NOTE, WARNING, Finding
@@ -59,10 +59,10 @@ def ring_findings(layer: Layer, piece: Piece) -> Iterator[Finding]:
         yield finding("repeated-position", NOTE, f"repeats {positions}", first)
 
 
-def is_narrow(area: Any) -> bool:
-    """Whether an area may be a sliver: the greatest circle in it is at least as wide as twice its area by its edge's length."""
-    latitude = max(map(abs, area.bounds[1::2]))
-    return 2 * area.area * METRES * math.cos(latitude * RADIANS) < SLIVER * area.length
+def is_narrow(piece: Piece) -> bool:
+    """Whether a polygon may be a sliver: the greatest circle in it is at least as wide as twice its area by its edge's length."""
+    least = METRES * math.cos(int(piece.ring[0][0]) * RADIANS) / 2
+    return 2 * piece.area.area * least < SLIVER * piece.area.length
 
 
 def sliver_findings(layer: Layer, piece: Piece, tolerance: float) -> Iterator[Finding]:
@@ -84,5 +84,5 @@ def all_ring_findings(layer: Layer, tolerance: float) -> Iterator[Finding]:
         is_small = piece.area.area <= TINY
         if piece.tangle is not None or piece.tips or piece.repeated or is_small:
             yield from ring_findings(layer, piece)
-        if not is_small and is_narrow(piece.area):
+        if not is_small and is_narrow(piece):
             yield from sliver_findings(layer, piece, tolerance)
