@@ -314,7 +314,7 @@ class Command(unittest.TestCase):
         self.assertTrue(first.startswith(f"error: gap ({POLICE}): nobody serves 12,3"), first)
         self.assertTrue(second.startswith(f"note: no-default ({POLICE}): "), second)
         if lostd():
-            self.assertIn("; at 0.0015,0.0015 findService answers notFound", first)
+            self.assertTrue(first.endswith(". At 0.0015,0.0015 findService answers notFound."), first)
 
     def test_fail_on(self) -> None:
         sliver = [mapping("A", square(0, 0, 90_000, 10_010)), mapping("B", square(0, 10_000, 90_000, 20_000))]
@@ -387,4 +387,4 @@ class Command(unittest.TestCase):
     def test_a_program_that_is_none(self) -> None:
         status, out, said = run_check(["--lostd", os.devnull], desk_lines([one for one in grid(3, 3) if one["sourceId"] != "1.1"]), True)
         self.assertEqual((status, said), (3, f"map-check: the program lostd was not asked: {os.devnull} is no program\n"))
-        self.assertIn("; at 0.0015,0.0015\n", out)
+        self.assertIn(". At 0.0015,0.0015.\n", out)

@@ -142,7 +142,7 @@ class Boundaries:
         if what == OVERHANG and len(owners) == 1:
             text = text.replace(" serve ", " serves ", 1)
         if what == OPEN and owners:
-            text += f" beside {names}"
+            text += f", beside {names}"
         kind = spot.form or what
         if spot.form == "crack":
             text += ": they give their edge by different end points"
