@@ -22,7 +22,7 @@ class Cut:
     def __init__(self, county):
         self.county, self.dice = county, county.dice
         self.mappings = {one["sourceId"]: one for one in county.mappings()}
-        self.must, self.may = [], []
+        self.must, self.may, self.spelt = [], [], {}
 
     def name(self, row, column):
         """The sourceId of a district."""
@@ -35,6 +35,14 @@ class Cut:
     def want(self, kind, *names):
         """A finding that is wanted."""
         self.must.append((kind, frozenset(names)))
+
+    def want_spelling(self, kind, spelling, name):
+        """A misspelling, which is one finding for all that have it."""
+        names = self.spelt.setdefault((kind, spelling), set())
+        if names:
+            self.must.remove((kind, frozenset(names)))
+        names.add(name)
+        self.want(kind, *names)
 
     def allow(self, kinds, names):
         """Findings that may come, too."""
@@ -209,8 +217,9 @@ def own_overlap(cut, row, column):
 def service(cut, row, column, written=("sos.polcie", "sos.polic", "sos.plice")):
     """A misspelt service."""
     name = cut.name(row, column)
-    cut.mappings[name]["service"] = f"urn:service:{cut.dice.choice(written)}"
-    cut.want("service-spelling", name)
+    spelling = cut.dice.choice(written)
+    cut.mappings[name]["service"] = f"urn:service:{spelling}"
+    cut.want_spelling("service-spelling", spelling, name)
     cut.answer_is_open(row, column)
     cut.allow(["no-default"], [])
 
@@ -218,8 +227,9 @@ def service(cut, row, column, written=("sos.polcie", "sos.polic", "sos.plice")):
 def scheme(cut, row, column, written=("spi", "si", "sipp", "tell")):
     """A misspelt scheme."""
     name = cut.name(row, column)
-    cut.mappings[name]["uri"] = [f"{cut.dice.choice(written)}:{name}@police.example"]
-    cut.want("uri-scheme", name)
+    spelling = cut.dice.choice(written)
+    cut.mappings[name]["uri"] = [f"{spelling}:{name}@police.example"]
+    cut.want_spelling("uri-scheme", spelling, name)
 
 
 def tokens(cut, row, column, written=(("space", "space "), ("Hall 7", "hall 7"), ("a b", "a  b"))):
