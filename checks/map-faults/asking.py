@@ -3,15 +3,17 @@ import json
 import math
 import subprocess
 
-from county import NOW
-from shapely.geometry import LineString, shape
+from county import NOW, POLICE
+from shapely.geometry import LineString, Point, Polygon, shape
 from shapely.ops import transform
+from shapely.prepared import prep
 
 POINTS = 50
 # Points nearer to an edge are not drawn, in units: the geometry of a finding is rounded to a tenth of a unit.
 MARGIN = 1.0
 MOST_TRIES = 200
-ERRORS = ("notFound", "serviceNotImplemented")
+# The kinds that say of an area that it is open or served twice.
+AREAS = ("gap", "overlap", "sliver", "crack", "same-area")
 
 
 def in_units(geometry):
@@ -51,6 +53,32 @@ def found_at(lostd, mappings, questions):
     return [{one["sourceId"] for one in reply.get("findServiceResponse", {}).get("mapping", [])} for reply in replies]
 
 
+def points_within(ring, count, dice):
+    """Random whole points inside a ring."""
+    area = prep(Polygon([position[::-1] for position in ring]))
+    latitudes, longitudes = zip(*ring)
+    found = []
+    while len(found) < count:
+        point = dice.randint(min(latitudes), max(latitudes)), dice.randint(min(longitudes), max(longitudes))
+        if area.contains(Point(point[::-1])):
+            found.append(point)
+    return found
+
+
+def unexplained(lostd, mappings, findings, ring, count, dice):
+    """Points inside a ring where not just one mapping is found, and no finding says so; and how many find none, and several."""
+    points = points_within(ring, count, dice)
+    answers = found_at(lostd, mappings, [question(point, POLICE) for point in points])
+    areas = [in_units(finding.geometry) for finding in findings if finding.kind in AREAS]
+    odd = [(point, found) for point, found in zip(points, answers) if len(found) != 1]
+    wrong = [
+        f"at {point} lostd finds {sorted(found)}, and no finding says so"
+        for point, found in odd
+        if all(area.distance(Point(point[::-1])) > MARGIN for area in areas)
+    ]
+    return wrong, sum(not found for _, found in odd), sum(len(found) > 1 for _, found in odd)
+
+
 def is_open(finding):
     """Whether a finding says that nobody serves a place."""
     return finding.kind == "gap" or (finding.kind in ("sliver", "crack") and "nobody serves" in finding.text)
@@ -60,7 +88,7 @@ def wrong_answers(lostd, mappings, findings, dice):
     """What the program finds otherwise than the findings say, at random points and at the point of each; and how many were asked."""
     asked = []
     for finding in findings:
-        if finding.kind in ("gap", "overlap", "sliver", "crack", "same-area"):
+        if finding.kind in AREAS:
             asked += [(finding, point) for point in [finding.point, *points_in(finding, dice)]]
     answers = found_at(lostd, mappings, [question(point, finding.service) for finding, point in asked])
     wrong = []

@@ -232,11 +232,11 @@ def scheme(cut, row, column, written=("spi", "si", "sipp", "tell")):
     cut.want_spelling("uri-scheme", spelling, name)
 
 
-def tokens(cut, row, column, written=(("space", "space "), ("Hall 7", "hall 7"), ("a b", "a  b"))):
+def tokens(cut, row, column, written=(("space {0}", "space {0} "), ("Hall {0}", "hall {0}"), ("a {0}", "a  {0}"))):
     """Tokens that differ in white space or case."""
     names = pair(cut, row, column)
     for name, token in zip(names, cut.dice.choice(written)):
-        cut.mappings[name]["serviceBoundary"].append({"profile": "x-token", "tokens": [token]})
+        cut.mappings[name]["serviceBoundary"].append({"profile": "x-token", "tokens": [token.format(names[0])]})
     cut.want("token-alike", *names)
 
 

@@ -7,7 +7,7 @@ import subprocess
 import tempfile
 import time
 
-from asking import wrong_answers
+from asking import unexplained, wrong_answers
 from county import NOW, County
 from faults import Cut, crossed, double, drawn_twice, gap, missing, no_area, overlap, scheme, service, sliver, spike, swapped, tokens
 from findings import differences
@@ -15,6 +15,7 @@ from maptools.checking import Finding
 
 TOP = os.path.dirname(os.path.dirname(os.path.dirname(os.path.realpath(__file__))))
 ROWS, COLUMNS, SEED = 15, 20, 1
+POINTS = 20_000
 # What is cut, each at the row and the column of a district far from the others.
 FAULTS = [
     ("a gap", gap, (1, 2)),
@@ -135,6 +136,9 @@ def check_county(lostd):
         outline = ["--outline", f"{folder}/outline.geojson"]
         forms = [[f"{folder}/county.jsonl"], [f"{folder}/county.jsonl", *outline], [f"{folder}/county.geojson", "--", *CONVERSION]]
         failed = sum(check_form(folder, lostd, cut, words) for words in forms)
+        findings, _, _ = run_tool(folder, lostd, forms[0])
+    odd, none, several = unexplained(lostd, list(cut.mappings.values()), findings, cut.county.outline(), POINTS, random.Random(SEED))
+    print(f"of {POINTS:,} points in it {none} find nothing and {several} find two centres: {'WRONG' if odd else 'all are in a finding'}", *odd[:5], sep="\n    ")
     for name, kinds in wants:
         print(f"    {name}: {', '.join(kind for kind, _ in kinds)}")
-    return failed
+    return failed + len(odd)
