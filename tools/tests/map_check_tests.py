@@ -3,14 +3,15 @@ from __future__ import annotations
 
 import json
 import os
+import subprocess
 import tempfile
 import unittest
 from typing import Any, Dict, List, Sequence, Tuple
 
 from tests.map_checking import (
-    FIRE, POLICE, Checker, default, desk_lines, grid, has_shapely, kinds_of, mapping, ring_of, run_check, square,
+    FIRE, POLICE, PYTHON, Checker, default, desk_lines, grid, has_shapely, kinds_of, mapping, ring_of, run_check, square,
 )  # fmt: skip
-from tests.running import lostd
+from tests.running import TOOLS, lostd
 
 # Metres by a unit of latitude, on the sphere that areas are measured on.
 UNIT = 6_371_007.2 * 3.141592653589793 / 180 / 1e7
@@ -175,6 +176,15 @@ class Cracks(Findings):
         self.finds([mapping("left", left), mapping("right", right)])
 
 
+@unittest.skipUnless(has_shapely(), "/usr/bin/python3 lacks python3-shapely")
+class Rule(unittest.TestCase):
+    """Which whole points areas hold."""
+
+    def test_against_plain_walks(self) -> None:
+        ran = subprocess.run([PYTHON, "-B", f"{TOOLS}/tests/map_rule.py"], capture_output=True, text=True, timeout=300)
+        self.assertEqual((ran.returncode, ran.stderr), (0, ""))
+
+
 class Rings(Findings):
     """Rings by themselves."""
 
@@ -329,6 +339,25 @@ class Command(unittest.TestCase):
         self.assertEqual((status, [one["kind"] for one in findings]), (3, ["refused", "refused", "no-default"]))
         self.assertIn("line 4: refused with code 13, IdentityHeld", findings[0]["text"])
         self.assertIn("line 5: refused with code 1, BadLine", findings[1]["text"])
+
+    def test_long_rings_in_any_spelling(self) -> None:
+        ring = ring_of(*[(number * number, -number) for number in range(80)])
+        usual = json.dumps({"publish": mapping("A", ring)}, separators=(",", ":"))
+        first, second = "[[0,0],", "[1,-1],"
+        odd = [
+            (usual, 0), (usual.replace(second, "[ 1, -1 ] , "), 0), (usual.replace(second, '"0.0000001 -0.0000001",'), 0),
+            (usual.replace(second, "[1,-0],"), 9), (usual.replace(second, "[1.0,-1],"), 9), (usual.replace(second, "[true,-1],"), 9),
+            (usual.replace(second, "[900000001,-1],"), 9), (usual.replace(second, "[1,-1,0],"), 9), (usual.replace(second, "[99999999999999999999,-1],"), 9),
+            (usual.replace(second, "[01,-1],"), 1), (usual.replace(second, "[1,--1],"), 1), (usual.replace(second, "[1,],"), 1),
+            (usual.replace(first, "[[7,0],"), 9), (usual.replace('"geodetic-2d"', '"civic"'), 9), (usual.replace('"source":', '"polygon":[[1,1]],"source":'), 0),
+        ]  # fmt: skip
+        lines = [line.replace('"A"', f'"A{number}"').replace("key of A", f"key {number}") for number, (line, _) in enumerate(odd, 1)]
+        findings = self.found([], "\n".join(lines))[1]
+        refused = {one["text"].split("line ")[1].split(":")[0] for one in findings if one["kind"] == "refused"}
+        codes = [(number, one) for number, one in ((str(number), code) for number, (_, code) in enumerate(odd, 1)) if number in refused]
+        self.assertEqual({str(number) for number, (_, code) in enumerate(odd, 1) if code}, refused)
+        for number, code in codes:
+            self.assertTrue(any(f"line {number}: refused with code {code}," in one["text"] for one in findings), (number, code))
 
     def test_accepted_findings(self) -> None:
         mappings = [one for one in grid(3, 3) if one["sourceId"] != "1.1"]
