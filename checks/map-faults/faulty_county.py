@@ -138,7 +138,8 @@ def check_county(lostd):
         failed = sum(check_form(folder, lostd, cut, words) for words in forms)
         findings, _, _ = run_tool(folder, lostd, forms[0])
     odd, none, several = unexplained(lostd, list(cut.mappings.values()), findings, cut.county.outline(), POINTS, random.Random(SEED))
-    print(f"of {POINTS:,} points in it {none} find nothing and {several} find two centres: {'WRONG' if odd else 'all are in a finding'}", *odd[:5], sep="\n    ")
+    verdict = "WRONG" if odd else "all are in a finding"
+    print(f"of {POINTS:,} points in it {none} find nothing and {several} find two centres: {verdict}", *odd[:5], sep="\n    ")
     for name, kinds in wants:
         print(f"    {name}: {', '.join(kind for kind, _ in kinds)}")
     return failed + len(odd)

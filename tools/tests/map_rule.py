@@ -18,6 +18,7 @@ from maptools.places import is_inside
 
 ROUNDS = 400
 SIZE = 9
+WALK = range(-1, SIZE + 1)
 
 
 def random_ring(dice: random.Random) -> List[Tuple[int, int]]:
@@ -29,14 +30,14 @@ def random_ring(dice: random.Random) -> List[Tuple[int, int]]:
 def held_by(ring: List[Tuple[int, int]]) -> List[Tuple[int, int]]:
     """The whole points that a ring holds, by a walk over all."""
     edges = list(zip(ring, ring[1:]))
-    return [(row, column) for row in range(-1, SIZE + 1) for column in range(-1, SIZE + 1) if is_inside(edges, (row, column))]
+    return [(row, column) for row in WALK for column in WALK if is_inside(edges, (row, column))]
 
 
 def compare_rings(dice: random.Random) -> None:
     """That a ring holds what it should, and that a whole point is found exactly where there is one."""
     ring = random_ring(dice)
     array, held = numpy.array(ring, dtype=numpy.int32), held_by(ring)
-    assert [point for row in range(-1, SIZE + 1) for point in ((row, column) for column in range(-1, SIZE + 1)) if holds(array, point)] == held, ring
+    assert [(row, column) for row in WALK for column in WALK if holds(array, (row, column))] == held, ring
     loops, _ = loops_of([array])
     open_ring = loops.split(loops.at)[0]
     area = simple_area(open_ring) or untangled(open_ring).area

@@ -58,13 +58,17 @@ def is_number(value: Any) -> bool:
     return isinstance(value, (int, float)) and not isinstance(value, bool)
 
 
+def is_identity(value: Any) -> bool:
+    """An object with the texts source and sourceId."""
+    return isinstance(value, dict) and all(isinstance(value.get(part), str) for part in ("source", "sourceId"))
+
+
 def entry_fault(value: Any) -> str:
     """What is wrong with an entry; empty where nothing is."""
     if not isinstance(value, dict) or value.get("kind") not in KINDS:
         return "this is no finding: its kind is missing or not known"
     identities, point = value.get("identities"), value.get("point")
-    parts = ("source", "sourceId")
-    if not isinstance(identities, list) or not all(isinstance(one, dict) and all(isinstance(one.get(part), str) for part in parts) for one in identities):
+    if not isinstance(identities, list) or not all(map(is_identity, identities)):
         return "identities is not a list of objects with source and sourceId"
     if point is not None and not (isinstance(point, list) and len(point) == 2 and all(map(is_number, point))):
         return "point is not two numbers"

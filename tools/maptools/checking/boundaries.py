@@ -129,7 +129,8 @@ class Boundaries:
 
     def are_same(self, owners: Owners, area: float) -> bool:
         """Whether mappings that have an area in common have hardly any other."""
-        areas = [sum(area_of(piece.area) for piece in self.layer.pieces if piece.owner == owner and not piece.area.is_empty) for owner in owners]
+        pieces = [piece for piece in self.layer.pieces if piece.owner in owners and not piece.area.is_empty]
+        areas = [sum(area_of(piece.area) for piece in pieces if piece.owner == owner) for owner in owners]
         return area >= SAME * max(areas)
 
     def finding(self, what: str, owners: Sequence[int], spots: List[Spot]) -> Finding:

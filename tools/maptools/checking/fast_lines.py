@@ -68,7 +68,8 @@ def shortened(line: bytes) -> Optional[Shortened]:
 def rings_of(value: Any, rings: List[Ring]) -> Optional[List[Ring]]:
     """The rings of a mapping that was read with stand-ins; None where one stands elsewhere than in a region."""
     regions = value.get("serviceBoundary") or [] if isinstance(value, dict) else []
-    found = [region["polygon"] for region in regions if isinstance(region, dict) and region.get("profile") == GEODETIC and "polygon" in region]
+    polygons = [region for region in regions if isinstance(region, dict) and region.get("profile") == GEODETIC]
+    found = [region["polygon"] for region in polygons if "polygon" in region]
     if found != [[[number, 0], [0, 0], [0, 0], [number, 0]] for number in range(len(rings))]:
         return None
     return rings

@@ -51,7 +51,8 @@ def ring_findings(layer: Layer, piece: Piece) -> Iterator[Finding]:
     crossings = [(round(y), round(x)) for x, y in piece.tangle.crossings] if piece.tangle is not None else []
     if crossings:
         times = "" if len(crossings) == 1 else f" {len(crossings)} times,"
-        yield finding("self-crossing", ERROR, f"crosses itself{times} at {places_text(crossings)}: parts of it may be left out", crossings[0])
+        text = f"crosses itself{times} at {places_text(crossings)}: parts of it may be left out"
+        yield finding("self-crossing", ERROR, text, crossings[0])
     if piece.tips:
         yield finding("spike", WARNING, f"has a spike at {places_text(piece.tips)}", piece.tips[0])
     if piece.repeated:

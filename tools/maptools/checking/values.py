@@ -61,16 +61,19 @@ def scheme_findings(subjects: Sequence[Subject]) -> Iterator[Finding]:
     """Schemes of URIs that only one mapping has, or that are one letter off."""
     groups = grouped(subjects, schemes_of)
     for scheme, having in sorted(groups.items()):
-        if scheme in KNOWN_SCHEMES:
-            meant = None
-        else:
-            usual = sorted(groups, key=lambda other: (-len(groups[other]), other))
-            meant = next((other for other in [*usual, *sorted(KNOWN_SCHEMES)] if is_one_off(scheme, other) and is_more(other, scheme, groups)), None)
+        meant = meant_scheme(scheme, groups)
         if meant:
             yield about("uri-scheme", ERROR, having, f"{names_of_all(having)}: is the scheme {scheme}: of a URI a misspelt {meant}:?")
         elif len(having) == 1 and len(subjects) >= FEWEST:
             severity = NOTE if scheme in KNOWN_SCHEMES else WARNING
             yield about("uri-scheme", severity, having, f"{having[0].name} is the only mapping with a URI of the scheme {scheme}:")
+
+
+def meant_scheme(scheme: str, groups: Groups) -> Optional[str]:
+    """The scheme that is rather meant than one which is not known; None where no other one is near."""
+    usual = sorted(groups, key=lambda other: (-len(groups[other]), other))
+    near = [other for other in (*usual, *sorted(KNOWN_SCHEMES)) if is_one_off(scheme, other) and is_more(other, scheme, groups)]
+    return near[0] if near and scheme not in KNOWN_SCHEMES else None
 
 
 def is_more(other: str, scheme: str, groups: Groups) -> bool:
@@ -94,7 +97,8 @@ def identifier_findings(subjects: Sequence[Subject]) -> Iterator[Finding]:
     for _, of_source in sorted(grouped(subjects, lambda subject: [subject.identity[0]]).items()):
         yield from alike_findings("source-id-alike", "sourceIds", grouped(of_source, lambda subject: [subject.identity[1]]))
     yield from alike_findings("key-alike", "keys", grouped(subjects, lambda subject: filter(None, [subject.members.get("key")])))
-    yield from alike_findings("token-alike", "tokens", grouped(subjects, lambda subject: [token for tokens in subject.token_sets for token in tokens]))
+    tokens = grouped(subjects, lambda subject: [token for tokens in subject.token_sets for token in tokens])
+    yield from alike_findings("token-alike", "tokens", tokens)
 
 
 def names_to_show(subject: Subject) -> List[Tuple[str, str]]:
