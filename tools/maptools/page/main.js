@@ -43,7 +43,7 @@ class Page {
     const isStill = window.matchMedia("(prefers-reduced-motion: reduce)").matches;
     const animation = { zoomAnimation: !isStill, fadeAnimation: false, inertia: !isStill, markerZoomAnimation: !isStill };
     const leaflet = L.map("map", {
-      crs: plane, maxZoom: MOST_ZOOM, preferCanvas: true, attributionControl: false, keyboardPanDelta: 120, tapTolerance: 20, ...animation,
+      crs: plane, maxZoom: MOST_ZOOM, zoomSnap: 0.5, preferCanvas: true, attributionControl: false, keyboardPanDelta: 120, ...animation,
     });
     leaflet.fitBounds(bounds, { animate: false, maxZoom: GREATEST_FIT });
     L.control.scale({ maxWidth: 160 }).addTo(leaflet);
@@ -85,6 +85,8 @@ class Page {
     });
     byId("service").addEventListener("change", () => this.asked && this.ask(this.asked));
     byId("search").addEventListener("input", () => showResults(this, byId("search").value));
+    document.addEventListener("keydown", () => document.body.classList.add("keys"));
+    document.addEventListener("pointerdown", () => document.body.classList.remove("keys"));
     window.addEventListener("beforeprint", () => this.drawPrint());
     new ResizeObserver(() => this.leaflet.invalidateSize()).observe(byId("sight"));
   }
