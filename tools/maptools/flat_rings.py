@@ -21,8 +21,11 @@ PLAIN_POLYGON = re.compile(rb'\{"polygon":\[(' + PAIR + rb"(?:," + PAIR + rb')*)
 # What stands in the place of positions that were read beforehand, with their number.
 MARK = "#ring "
 
+# An array of whole numbers, of 32 bits each.
+Ring = Any
 
-def flat(numbers: List[int]) -> Any:
+
+def flat(numbers: List[int]) -> Ring:
     """Numbers as an array; an empty list, which is no ring, where one is too large for that."""
     try:
         return array("i", numbers)
@@ -30,9 +33,9 @@ def flat(numbers: List[int]) -> Any:
         return []
 
 
-def take_rings(line: bytes) -> Tuple[bytes, List[Any]]:
+def take_rings(line: bytes) -> Tuple[bytes, List[Ring]]:
     """A line with a mark in the place of the positions of each plain polygon; and these."""
-    rings: List[Any] = []
+    rings: List[Ring] = []
 
     def mark(found: Any) -> bytes:
         rings.append(flat(json.loads(b"[" + found.group(1).translate(None, b"[]") + b"]")))
@@ -41,7 +44,7 @@ def take_rings(line: bytes) -> Tuple[bytes, List[Any]]:
     return PLAIN_POLYGON.sub(mark, line), rings
 
 
-def flat_region(region: Any, rings: List[Any]) -> Any:
+def flat_region(region: Any, rings: List[Ring]) -> Any:
     """A region with its ring as an array, if it is a ring, or one that was read beforehand."""
     polygon = region.get(MEMBERS[GEODETIC]) if isinstance(region, dict) else None
     if not isinstance(polygon, list) or not polygon:

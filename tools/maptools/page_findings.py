@@ -35,14 +35,18 @@ def read_findings(text: str) -> List[Dict[str, Any]]:
 
 
 def with_shapes(found: List[Dict[str, Any]], path: str) -> List[Dict[str, Any]]:
-    """The findings with the faulty areas that map-check wrote as GeoJSON, by their texts."""
+    """The findings with their faulty areas: map-check wrote the features of those that have one in the order of the findings."""
     try:
         with open(path, encoding="utf-8") as file:
-            features = json.load(file)["features"]
-        shapes = {feature["properties"]["text"]: feature["geometry"] for feature in features}
+            features = [(feature["properties"]["text"], feature["geometry"]) for feature in json.load(file)["features"]]
     except (OSError, ValueError, KeyError, TypeError):
-        return found
-    return [{**finding, "geometry": shapes.get(finding["text"])} for finding in found]
+        raise Unchecked("what map-check --geojson wrote cannot be read") from None
+    shaped, next_one = [], 0
+    for finding in found:
+        has_shape = next_one < len(features) and features[next_one][0] == finding["text"]
+        shaped.append({**finding, "geometry": features[next_one][1] if has_shape else None})
+        next_one += has_shape
+    return shaped
 
 
 def checked(path: str) -> List[Dict[str, Any]]:

@@ -3,6 +3,7 @@ from __future__ import annotations
 
 import json
 import os
+import socket
 import threading
 from http.server import BaseHTTPRequestHandler, ThreadingHTTPServer
 from typing import Any, Callable, Dict, Optional, Tuple
@@ -111,10 +112,14 @@ class Pages(BaseHTTPRequestHandler):
         """Says nothing of each request."""
 
 
+def names_of(address: Tcp, port: int) -> Tuple[str, ...]:
+    """The names by which a browser may call the server: a page from elsewhere cannot have itself called so."""
+    hosts = (str(Tcp(address.host, port)), f"localhost:{port}")
+    return (*hosts, *(host.rpartition(":")[0] for host in hosts)) if port == 80 else hosts
+
+
 def server_at(address: Tcp, file: MapFile, lostd: Server) -> ThreadingHTTPServer:
     """A server of the page that listens at an address; OSError where it cannot."""
-    handler = type("PagesOfMap", (Pages,), {"file": file, "lostd": lostd})
-    made = ThreadingHTTPServer((address.host, address.port), handler)
-    port = made.server_address[1]
-    handler.hosts = (f"{address.host}:{port}", f"[{address.host}]:{port}", f"localhost:{port}", *([address.host, "localhost"] if port == 80 else []))
-    return made
+    handler = type("PagesOfMap", (Pages,), {"file": file, "lostd": lostd, "hosts": names_of(address, address.port)})
+    family = socket.AF_INET6 if ":" in address.host else socket.AF_INET
+    return type("ServerOfMap", (ThreadingHTTPServer,), {"address_family": family})((address.host, address.port), handler)

@@ -11,7 +11,7 @@ import tempfile
 import time
 from typing import Any, Callable, Dict, List, Optional
 
-PATIENCE = 60
+PATIENCE = 300
 WIDTH, HEIGHT = 1200, 800
 PROGRAMS = ("chromium", "chromium-browser", "google-chrome")
 KEYS = {"Enter": ("\r", 13), "ArrowLeft": ("", 37), "ArrowRight": ("", 39), "ArrowUp": ("", 38), "ArrowDown": ("", 40), "Tab": ("\t", 9), "+": ("+", 187), "-": ("-", 189)}

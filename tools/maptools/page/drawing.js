@@ -102,8 +102,54 @@ function drawRing(context, map, ring, frame, place) {
   context.fill("evenodd");
   if (place.right - place.left > 4 || place.bottom - place.top > 4) {
     context.strokeStyle = lineColor(number);
+    if (isLarge(place) && hasSeams(map, ring)) {
+      traceEdges(context, map, ring, frame);
+    }
     context.stroke();
   }
+}
+
+/** Whether a ring is so large in the picture that ways to its holes would show. */
+function isLarge(place) {
+  return place.right - place.left > 40 || place.bottom - place.top > 40;
+}
+
+/** Whether a ring runs along an edge more than once; it is looked up once for each ring. */
+function hasSeams(map, ring) {
+  map.seams ||= new Map();
+  if (!map.seams.has(ring)) {
+    map.seams.set(ring, edgesOf(map, ring).length < longEdges(map, ring));
+  }
+  return map.seams.get(ring);
+}
+
+/** Begins a path of the edges of a ring that are no ways to its holes, as far as they are near the frame. */
+function traceEdges(context, map, ring, frame) {
+  const x = (at) => (map.longitudes[at] - frame.west) / frame.longitudeStep;
+  const y = (at) => (frame.north - map.latitudes[at]) / frame.latitudeStep;
+  context.beginPath();
+  for (const end of edgesOf(map, ring)) {
+    const part = cutLine([x(end - 1), y(end - 1)], [x(end), y(end)], frame);
+    if (part) {
+      context.moveTo(...part[0]);
+      context.lineTo(...part[1]);
+    }
+  }
+}
+
+/** The part of a line that is near a frame, by its ends; null where there is none. */
+function cutLine(from, to, frame) {
+  let [first, last] = [0, 1];
+  for (const [axis, size] of [[0, frame.width], [1, frame.height]]) {
+    const way = to[axis] - from[axis];
+    const shares = [-NEAR, size + NEAR].map((limit) => (limit - from[axis]) / way).sort((one, other) => one - other);
+    if (way === 0 && (from[axis] < -NEAR || from[axis] > size + NEAR)) {
+      return null;
+    }
+    [first, last] = way === 0 ? [first, last] : [Math.max(first, shares[0]), Math.min(last, shares[1])];
+  }
+  const at = (share) => [from[0] + share * (to[0] - from[0]), from[1] + share * (to[1] - from[1])];
+  return first < last ? [at(first), at(last)] : null;
 }
 
 /** Writes the name of a mapping in the middle of a ring that has the room for it. */

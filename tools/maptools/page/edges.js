@@ -14,6 +14,16 @@ function edgesOf(map, ring) {
   return [...seen.values()];
 }
 
+/** How many edges of a ring have a length. */
+function longEdges(map, ring) {
+  let count = 0;
+  for (let end = map.starts[ring] + 1; end < map.starts[ring + 1]; end += 1) {
+    const isPoint = map.latitudes[end - 1] === map.latitudes[end] && map.longitudes[end - 1] === map.longitudes[end];
+    count += isPoint ? 0 : 1;
+  }
+  return count;
+}
+
 /** The edges of a mapping in two lists, as pairs of [latitude, longitude] in degrees: those that belong to it, and the others. */
 function edgesByBelonging(map, number) {
   const { first, rings } = map.mappings[number];

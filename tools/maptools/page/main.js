@@ -26,6 +26,7 @@ class Page {
     const { plane, narrowing } = planeAt((box.south + box.north) / 2e7);
     this.view = { map, narrowing, services: new Set(), isShown: (number) => this.view.services.has(this.view.map.mappings[number].service) };
     this.asked = null;
+    this.edition = null;
     this.turn = 0;
     this.leaflet = this.newLeaflet(plane, boundsOf(box));
     this.boundaries = new Boundaries(this.view).addTo(this.leaflet);
@@ -246,26 +247,28 @@ class Page {
 
   /** Shows which edition the server answered from. */
   showEdition(edition) {
+    this.edition = edition;
     byId("edition").textContent = `Server ${this.view.map.server}, edition ${edition ?? "unknown"}`;
   }
 
   /** Looks again and again whether the file or the server's map has changed. */
   async watch() {
-    let known = { version: this.view.map.version, edition: null };
     for (;;) {
       await new Promise((resolve) => setTimeout(resolve, LOOK_AGAIN));
       try {
-        known = await this.lookAgain(known);
+        await this.lookAgain();
       } catch (error) {
         byId("edition").textContent = `Server ${this.view.map.server}: ${error.message}`;
       }
     }
   }
 
-  /** Takes a newer map, and asks again where something changed; what is known then. */
-  async lookAgain(known) {
+  /** Takes a newer map, and asks again where something has changed. */
+  async lookAgain() {
     const state = await (await fetched("state")).json();
-    if (state.version !== known.version) {
+    const isOtherFile = state.version !== this.view.map.version;
+    const isOtherEdition = state.edition !== null && this.edition !== null && state.edition !== this.edition;
+    if (isOtherFile) {
       this.takeMap(unpacked(await unzipped(new Uint8Array(await (await fetched("map")).arrayBuffer()))));
     }
     if (state.edition === null) {
@@ -273,11 +276,9 @@ class Page {
     } else {
       this.showEdition(state.edition);
     }
-    const isNew = state.version !== known.version || (known.edition !== null && state.edition !== known.edition);
-    if (isNew && this.asked) {
+    if ((isOtherFile || isOtherEdition) && this.asked) {
       await this.ask(this.asked);
     }
-    return { version: state.version, edition: state.edition };
   }
 }
 
