@@ -1,6 +1,7 @@
 """What the desk's connection refuses: a second way to read the tables of docs/PROTOCOL.md, "The desk's lines"."""
 from __future__ import annotations
 
+from array import array
 from typing import Any, Dict, List, NamedTuple, Optional, Tuple
 
 from maptools.texts import (
@@ -118,13 +119,24 @@ def position_of(value: Any) -> Optional[Point]:
 
 
 def in_pairs(ring: Any) -> Any:
-    """A ring with each position as a pair, as the server prints it; an outline stays as it is."""
+    """A ring with each position as a pair, as the server prints it; an outline, or a flat ring, stays as it is."""
     has_texts = isinstance(ring, list) and str in map(type, ring)
     return [list(position_of(position) or ()) for position in ring] if has_texts else ring
 
 
+def is_flat_ring(ring: Any) -> bool:
+    """The same as is_ring of an array of latitude, longitude, latitude and so on."""
+    if not 4 <= len(ring) / 2 <= MOST_POSITIONS or len(ring) % 2 or ring[:2] != ring[-2:]:
+        return False
+    most = max(max(ring), -min(ring))
+    is_far = most > GREATEST_LATITUDE and max(max(ring[0::2]), -min(ring[0::2])) > GREATEST_LATITUDE
+    return most <= GREATEST_LONGITUDE and not is_far
+
+
 def is_ring(value: Any) -> bool:
-    """4 to 4,096 positions, the last equal to the first."""
+    """4 to 4,096 positions, the last equal to the first; they may be flat, as maptools.flat_rings reads them."""
+    if isinstance(value, array):
+        return is_flat_ring(value)
     is_long = isinstance(value, list) and 4 <= len(value) <= MOST_POSITIONS
     ring = in_pairs(value) if is_long else []
     return is_long and all(map(is_pair, ring)) and ring[0] == ring[-1]

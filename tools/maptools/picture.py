@@ -4,10 +4,11 @@ from __future__ import annotations
 import colorsys
 import math
 from itertools import groupby
-from typing import Any, Dict, List, NamedTuple, Tuple
+from typing import Any, Dict, List, NamedTuple, Optional, Tuple
 from xml.sax.saxutils import escape
 
 from maptools.desk_rules import GREATEST_LATITUDE, GREATEST_LONGITUDE
+from maptools.flat_rings import Ring
 from maptools.places import Area, Edge, Finding, belonging
 from maptools.texts import Point
 from maptools.units import degrees_of
@@ -15,6 +16,8 @@ from maptools.units import degrees_of
 WIDTH, MARGIN, TALLEST = 4_000, 120, 2_800
 LETTER, LINE = 52, 76
 MOST_LISTED = 36
+# Among more areas than these, the edges of those that are smaller than two dashes are not drawn.
+MOST_WITH_DOTS, SHORTEST_DASHED = 2_000, 56
 GREEN, RED, INK = "#1d6b3c", "#b02a2a", "#222"
 STYLE = (
     ".f path{stroke:none;fill-rule:evenodd;fill-opacity:.7}"
@@ -23,6 +26,10 @@ STYLE = (
     f"text{{font:{LETTER}px Helvetica,Arial,sans-serif;fill:{INK}}}"
     ".n{text-anchor:middle;stroke:#fff;stroke-width:14;paint-order:stroke}"
 )
+
+
+# The south-west and the north-east corner.
+Box = Tuple[Point, Point]
 
 
 class Frame(NamedTuple):
@@ -41,15 +48,37 @@ class Frame(NamedTuple):
         down = (self.north - point[0]) / self.latitude_step
         return MARGIN + round(across), MARGIN + LINE + round(down)
 
+    def line(self, polygon: Ring) -> List[Tuple[int, int]]:
+        """Where the points of a flat polygon are drawn."""
+        across = [MARGIN + round((longitude - self.west) / self.longitude_step) for longitude in polygon[1::2]]
+        down = [MARGIN + LINE + round((self.north - latitude) / self.latitude_step) for latitude in polygon[0::2]]
+        return list(zip(across, down))
 
-def frame_of(areas: List[Area], findings: List[Finding]) -> Frame:
-    """A frame around all that is drawn, with some room; a degree of longitude is as wide as in the middle of the map."""
+    def corners(self, area: Area) -> Tuple[int, int, int, int]:
+        """Where the box of an area is drawn, as far as it is in the frame: left, top, right and bottom."""
+        (left, bottom), (right, top) = self.place(area.low), self.place(area.high)
+        x, y = MARGIN, MARGIN + LINE
+        return max(left, x), max(top, y), min(right, x + self.width), min(bottom, y + self.height)
+
+    def has(self, x: int, y: int) -> bool:
+        """Whether a place of the picture is in the frame."""
+        return MARGIN <= x <= MARGIN + self.width and MARGIN + LINE <= y <= MARGIN + LINE + self.height
+
+
+def frame_around(areas: List[Area], findings: List[Finding]) -> Frame:
+    """A frame around all that is drawn, with some room."""
     corners = [corner for area in areas for corner in (area.low, area.high)] + [finding.point for finding in findings]
     corners = corners or [(-900_000_000, -1_800_000_000), (900_000_000, 1_800_000_000)]
     (south, north), (west, east) = ((min(axis), max(axis)) for axis in zip(*corners))
     room = max((north - south) // 40, (east - west) // 40, 100)
     south, north = max(south - room, -GREATEST_LATITUDE), min(north + room, GREATEST_LATITUDE)
     west, east = max(west - room, -GREATEST_LONGITUDE), min(east + room, GREATEST_LONGITUDE)
+    return frame_of((south, west), (north, east))
+
+
+def frame_of(low: Point, high: Point) -> Frame:
+    """A frame of a box; a degree of longitude is as wide as in its middle."""
+    (south, west), (north, east) = low, high
     narrowing = max(0.2, math.cos(math.radians((north + south) / 2e7)))
     step = max((east - west) * narrowing / (WIDTH - 2 * MARGIN), (north - south) / TALLEST)
     width, height = (east - west) * narrowing / step, (north - south) / step
@@ -127,7 +156,7 @@ def fills(areas: List[Area], numbers: Dict[int, int], frame: Frame) -> List[str]
     parts = ["<g class='f'>"]
     for _, group in groupby(areas, key=lambda area: id(area.mapping)):
         own = list(group)
-        paths = "".join(f"<path d='{path_of([[frame.place(point) for point in area.ring]])}'/>" for area in own)
+        paths = "".join(f"<path d='{path_of([frame.line(area.polygon)])}'/>" for area in own)
         mapping = own[0].mapping
         parts.append(f"<g fill='{fill_color(numbers[id(mapping)])}'><title>{safe(title_of(mapping))}</title>{paths}</g>")
     return parts + ["</g>"]
@@ -139,9 +168,20 @@ def edge_path(edges: List[Edge], frame: Frame, style: str, color: str) -> List[s
     return [f"<path class='{style}' stroke='{color}' d='{path}'/>"] if path else []
 
 
+def is_dot(area: Area, frame: Frame) -> bool:
+    """Whether an area is too small to show whether its edges are dashed."""
+    left, top, right, bottom = frame.corners(area)
+    return max(right - left, bottom - top) < SHORTEST_DASHED
+
+
 def edge_paths(areas: List[Area], numbers: Dict[int, int], frame: Frame) -> List[str]:
-    """All edges: those that do not belong first, so that the edge of a neighbour lies over them."""
+    """All edges: those that do not belong first, so that the edge of a neighbour lies over them.
+
+    Among very many areas the small ones have none: their fills show where they end.
+    """
     dashed, whole = [], []
+    if len(areas) > MOST_WITH_DOTS:
+        areas = [area for area in areas if not is_dot(area, frame)]
     for _, group in groupby(areas, key=lambda area: id(area.mapping)):
         own = list(group)
         color = line_color(numbers[id(own[0].mapping)])
@@ -160,7 +200,7 @@ def names(areas: List[Area], frame: Frame) -> List[str]:
             largest[id(area.mapping)] = area
     parts = []
     for area in largest.values():
-        (left, bottom), (right, top) = frame.place(area.low), frame.place(area.high)
+        left, top, right, bottom = frame.corners(area)
         words = area.mapping["sourceId"]
         if right - left > len(words) * LETTER * 0.6 and bottom - top > LETTER * 1.5:
             parts.append(text_at((left + right) // 2, (bottom + top) // 2 + LETTER // 3, words, " class='n'"))
@@ -184,6 +224,8 @@ def points(findings: List[Finding], frame: Frame) -> List[str]:
     parts = []
     for number, finding in enumerate(findings, 1):
         x, y = frame.place(finding.point)
+        if not frame.has(x, y):
+            continue
         parts += [mark(x, y, bool(finding.found)), text_at(x + 50, y - 24, str(number), " class='n'")]
     return parts
 
@@ -250,20 +292,25 @@ def bounds(frame: Frame) -> List[str]:
     ]
 
 
-def draw(title: str, areas: List[Area], findings: List[Finding], notes: List[str]) -> str:
-    """The picture."""
-    frame = frame_of(areas, findings)
+def clipped(parts: List[str], frame: Frame) -> List[str]:
+    """Parts of the picture, as far as they are in the frame."""
+    box = f"<rect x='{MARGIN}' y='{MARGIN + LINE}' width='{frame.width}' height='{frame.height}'/>"
+    return [f"<clipPath id='frame'>{box}</clipPath><g clip-path='url(#frame)'>", *parts, "</g>"]
+
+
+def draw(title: str, areas: List[Area], findings: List[Finding], notes: List[str], box: Optional[Box] = None) -> str:
+    """The picture; of what is in a box alone, if there is one."""
+    frame = frame_of(*box) if box else frame_around(areas, findings)
     shown = list({id(area.mapping): area.mapping for area in areas}.values())
     numbers = {id(mapping): number for number, mapping in enumerate(shown)}
     below, end = legend(shown, numbers, findings, notes, MARGIN + LINE + frame.height + 3 * LINE)
+    land = [*fills(areas, numbers, frame), *edge_paths(areas, numbers, frame), *names(areas, frame)]
     parts = [
         f"<svg xmlns='http://www.w3.org/2000/svg' viewBox='0 0 {WIDTH} {end}'>",
         f"<title>{safe(title)}</title><style>{STYLE}</style>",
         f"<rect width='{WIDTH}' height='{end}' fill='#fff'/>",
         text_at(MARGIN, MARGIN - 32, title, " style='font-weight:bold'"),
-        *fills(areas, numbers, frame),
-        *edge_paths(areas, numbers, frame),
-        *names(areas, frame),
+        *(clipped(land, frame) if box else land),
         *points(findings, frame),
         *bounds(frame),
         *below,

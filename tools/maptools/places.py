@@ -10,18 +10,28 @@ from collections import Counter
 from typing import Any, Dict, Iterable, List, NamedTuple, Optional, Tuple
 
 from maptools.desk_rules import GEODETIC, GREATEST_LATITUDE, GREATEST_LONGITUDE, MEMBERS, contents_of, position_of
+from maptools.flat_rings import Ring
 from maptools.texts import WITHOUT_END, Moment, Point, moment_of, service_of
 
 Edge = Tuple[Point, Point]
 
 
 class Area(NamedTuple):
-    """A polygon of a mapping, and the least and the greatest of its latitudes and longitudes."""
+    """A polygon of a mapping, flat, and the least and the greatest of its latitudes and longitudes."""
 
     mapping: Dict[str, Any]
-    ring: List[Point]
+    polygon: Ring
     low: Point
     high: Point
+
+    @property
+    def ring(self) -> List[Point]:
+        """The polygon as points."""
+        return list(zip(self.polygon[0::2], self.polygon[1::2]))
+
+    def reaches(self, low: Point, high: Point) -> bool:
+        """Whether some of it may lie in a box."""
+        return all(self.low[axis] <= high[axis] and low[axis] <= self.high[axis] for axis in (0, 1))
 
 
 class Finding(NamedTuple):
@@ -55,9 +65,14 @@ def is_inside(edges: Iterable[Edge], point: Point) -> bool:
     return sum(counts(edge, point) for edge in edges) % 2 == 1
 
 
+def pairwise(ring: List[Point]) -> Iterable[Edge]:
+    """The edges of a ring."""
+    return zip(ring, ring[1:])
+
+
 def edges_of(ring: List[Point]) -> List[Edge]:
     """The edges that a ring runs along an odd number of times: not the ways to its holes and back."""
-    edges = [(a, b) for a, b in zip(ring, ring[1:]) if a != b]
+    edges = [(a, b) for a, b in pairwise(ring) if a != b]
     times = Counter(frozenset(edge) for edge in edges)
     return [edge for edge in edges if times[frozenset(edge)] % 2]
 
@@ -83,13 +98,12 @@ def belonging(ring: List[Point]) -> List[Tuple[Edge, bool]]:
 
 
 def areas_of(mappings: Iterable[Dict[str, Any]]) -> List[Area]:
-    """The polygons of mappings."""
+    """The polygons of mappings whose rings are flat."""
     areas = []
     for mapping in mappings:
         for polygon in contents_of(mapping, GEODETIC):
-            latitudes, longitudes = zip(*polygon)
-            ring = [tuple(position) for position in polygon]
-            areas.append(Area(mapping, ring, (min(latitudes), min(longitudes)), (max(latitudes), max(longitudes))))
+            latitudes, longitudes = polygon[0::2], polygon[1::2]
+            areas.append(Area(mapping, polygon, (min(latitudes), min(longitudes)), (max(latitudes), max(longitudes))))
     return areas
 
 
@@ -98,9 +112,8 @@ def holding(areas: List[Area], point: Point) -> List[Dict[str, Any]]:
     at = normal(point)
     result: List[Dict[str, Any]] = []
     for area in areas:
-        is_near = all(area.low[axis] <= at[axis] <= area.high[axis] for axis in (0, 1))
         is_new = not result or result[-1] is not area.mapping
-        if is_near and is_new and is_inside(zip(area.ring, area.ring[1:]), at):
+        if is_new and area.reaches(at, at) and is_inside(pairwise(area.ring), at):
             result.append(area.mapping)
     return result
 

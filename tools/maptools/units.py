@@ -2,7 +2,7 @@
 from __future__ import annotations
 
 from decimal import MAX_EMAX, MAX_PREC, MIN_EMIN, ROUND_HALF_EVEN, Context, Decimal, InvalidOperation
-from typing import List, Union
+from typing import List, Tuple, Union
 
 from maptools.desk_rules import is_pair
 from maptools.texts import Point
@@ -47,12 +47,23 @@ def point_of(text: str, is_in_units: bool) -> Point:
     return latitude, longitude
 
 
+def box_of(text: str, is_in_units: bool) -> Tuple[Point, Point]:
+    """SOUTH,WEST,NORTH,EAST as two corners; ValueError where it is none."""
+    parts = text.split(",")
+    if len(parts) != 4:
+        raise ValueError(f"{text!r} is not SOUTH,WEST,NORTH,EAST")
+    low, high = (point_of(",".join(corner), is_in_units) for corner in (parts[:2], parts[2:]))
+    if low[0] >= high[0] or low[1] >= high[1]:
+        raise ValueError(f"{text!r} is not SOUTH,WEST,NORTH,EAST: the south-west corner comes first")
+    return low, high
+
+
 def joined(words: List[str]) -> List[str]:
-    """The words of a command line, with --point and the word after it as one, since that may begin with a minus sign."""
+    """The words of a command line, with --point or --bbox and the word after it as one, which may begin with a minus sign."""
     result: List[str] = []
     for word in words:
-        if result and result[-1] == "--point":
-            result[-1] = f"--point={word}"
+        if result and result[-1] in ("--point", "--bbox"):
+            result[-1] = f"{result[-1]}={word}"
         else:
             result.append(word)
     return result

@@ -131,9 +131,45 @@ class Pictures(unittest.TestCase):
         fills = [group.get("fill") for group in picture.iter(f"{SVG}g") if group.get("fill")]
         self.assertEqual(len(set(fills)), 2)
 
+    def test_a_box_shows_what_lies_in_it(self) -> None:
+        words = ["--bbox", "-0.5,-0.5,0.5,0.5", "--point", "0.25,0.25", "--point", "0.5,1.5"]
+        status, picture, said = self.draw(*words, given=read("svg/two-squares.jsonl"))
+        self.assertEqual((status, said), (0, ""))
+        whole = self.draw(given=read("svg/two-squares.jsonl"))[1]
+        self.assertEqual(self.titles(picture), [title for title in self.titles(whole) if "west" in title])
+        texts = self.texts(picture)
+        self.assertIn("2: 0.5, 1.5: map.example east (sos.police)", texts)
+        self.assertIn("latitude 0.5, longitude -0.5", texts)
+        self.assertIn("latitude -0.5, longitude 0.5", texts)
+        # (one of the marks is that of the legend)
+        marks = [mark for mark in picture.iter(f"{SVG}circle") if mark.get("fill")]
+        self.assertEqual((len(marks), texts.count("1"), texts.count("2")), (2, 1, 0))
+        self.assertEqual([len(list(where.iter(f"{SVG}clipPath"))) for where in (picture, whole)], [1, 0])
+        units = self.draw("--units", "--bbox", "-5000000,-5000000,5000000,5000000", given=read("svg/two-squares.jsonl"))[1]
+        self.assertEqual(self.titles(units), self.titles(picture))
+
+    def test_small_areas_among_very_many_have_no_edges(self) -> None:
+        lines = []
+        for number in range(2_001):
+            ring = square(number // 50 * 10, number % 50 * 10, number // 50 * 10 + 10, number % 50 * 10 + 10)
+            mapping = {
+                "source": "a.example", "sourceId": str(number), "key": str(number), "lastUpdated": "2026-01-01T00:00:00Z",
+                "expires": "NO-CACHE", "service": "urn:service:sos.police", "uri": ["sip:a@a.example"],
+                "serviceBoundary": [{"profile": "geodetic-2d", "polygon": ring}],
+            }  # fmt: skip
+            lines.append(json.dumps({"publish": mapping}))
+        counts = []
+        for some in (lines[:2_000], lines):
+            picture = self.draw("--bbox", "-0.0005,-0.0005,0.0005,0.0005", given="\n".join([*some, '{"commit":{}}']))[1]
+            self.assertEqual(len(self.titles(picture)), len(some))
+            # (the legend has one of each)
+            counts.append(sum(path.get("class") in ("s", "d") for path in picture.iter(f"{SVG}path")) - 2)
+        self.assertEqual(counts, [4_000, 0])
+
     def test_no_line_and_no_file(self) -> None:
         self.assertEqual(self.draw(given="")[0], 0)
-        mistakes = (["--point", "91,0"], 2), (["--point", "x"], 2), (["--now", "now"], 2)
+        mistakes = [(["--point", "91,0"], 2), (["--point", "x"], 2), (["--now", "now"], 2)]
+        mistakes += [(["--bbox", box], 2) for box in ("1,2,3", "0,0,0,1", "1,0,0,1", "0,0,91,1", "a,0,1,1")]
         for words, status in ((["/no/such/file"], 1), (["--help"], 0), *mistakes):
             self.assertEqual(run_tool("desk-to-svg", words)[0], status, words)
 
