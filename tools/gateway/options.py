@@ -4,7 +4,8 @@ from __future__ import annotations
 import argparse
 from typing import Any, Callable, List
 
-from gateway.services import alias_of
+from gateway import nena
+from gateway.services import Alias, alias_of
 from maptools.addresses import Tcp, tcp_of
 
 PACKAGES = "apt-get install python3-lxml python3-aiohttp python3-prometheus-client"
@@ -14,7 +15,11 @@ It runs under Debian's own python3, /usr/bin/python3, which finds them.
 
 example:
   lost-gateway --listen 127.0.0.1:8080 --lostd 127.0.0.1:5222
-  curl -H 'Content-Type: application/lost+xml' -d @request.xml http://127.0.0.1:8080/
+  curl -H 'Content-Type: application/lost+xml' --data-binary @request.xml http://127.0.0.1:8080/
+
+--alias nena, for NAME after {" or ".join(nena.SPACES)}
+{nena.table()}
+Names below these are called by the labels that they have more. An --alias THEIRS=OURS of the same name goes before the table.
 """
 
 
@@ -40,6 +45,11 @@ def listen_of(text: str) -> Tcp:
 def servers_of(text: str) -> List[Tcp]:
     """HOST:PORT, and more of them after commas."""
     return [tcp_of(part) for part in text.split(",")]
+
+
+def aliases_of(text: str) -> List[Alias]:
+    """The aliases of NENA's registry, or the one THEIRS=OURS."""
+    return nena.aliases() if text == "nena" else [alias_of(text)]
 
 
 def number_between(least: float, greatest: float, kind: Callable[[str], Any]) -> Callable[[str], Any]:
@@ -74,8 +84,8 @@ def parser(description: str) -> argparse.ArgumentParser:
     add("--timeout", help="how long to wait for a server before the next one is tried (2)", **timeout)
     area = {"choices": ("centre", "refuse"), "default": "centre"}
     add("--area", help="ask for the centre of an area, with a warning (the default), or refuse it as locationInvalid", **area)
-    alias = {"type": checked(alias_of), "default": [], "action": "append", "metavar": "THEIRS=OURS"}
-    add("--alias", help="turn THEIRS at the start of a service into OURS, and back in replies", **alias)
+    alias = {"type": checked(aliases_of), "default": [], "action": "extend", "metavar": "THEIRS=OURS"}
+    add("--alias", help="turn THEIRS at the start of a service into OURS, and back in replies; nena: the table below", **alias)
     add("--no-made-up-names", action="store_true", help="leave out displayName if the map has none, instead of giving the sourceId")
     add("--name", metavar="NAME", help="the source of errors and warnings; without it, the server's own name")
     add("--log", metavar="FILE", help="add one JSON line to FILE for each query")

@@ -19,6 +19,7 @@ from gateway.journal import Journal
 from gateway.metrics import Metrics
 from gateway.pool import Pool
 from gateway.processes import Place, Work
+from gateway.services import Services
 
 BACKLOG = 4096
 TELL_AGAIN = 0.25
@@ -43,7 +44,7 @@ def keep_memory() -> None:
 def side_of(options: argparse.Namespace) -> Side:
     """What the HTTP side works with, as the command line says."""
     pool = Pool(options.lostd, options.pool, options.timeout)
-    reading = requests.Manner(options.area == "centre", options.alias)
+    reading = requests.Manner(options.area == "centre", Services(options.alias))
     answering = Answering(pool, Manner(reading, not options.no_made_up_names, options.name))
     return Side(answering, Metrics(), Journal(options.log) if options.log else None)
 
