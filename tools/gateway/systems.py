@@ -5,9 +5,9 @@ import re
 
 from gateway.vocabulary import WGS84
 
-# As RFC 5222 spells it, and as others do: an edition of the registry may stand before the number.
+# As RFC 5222 spells it, in its examples "def::crs" too, and as others do: an edition of the registry may stand before the number.
 LATITUDE_FIRST = re.compile(
-    r"urn:(?:x-)?ogc:def:crs:epsg:(?:[0-9.]*:)?4326|https?://www\.opengis\.net/def/crs/epsg/[0-9.]+/4326|epsg:4326",
+    r"urn:(?:x-)?ogc:def::?crs:epsg:(?:[0-9.]*:)?4326|https?://www\.opengis\.net/def/crs/epsg/[0-9.]+/4326|epsg:4326",
     re.IGNORECASE | re.ASCII,
 )
 LONGITUDE_FIRST = re.compile(

@@ -117,6 +117,29 @@ class Messages(unittest.TestCase):
         answer = self.answer(gateway, asked, json.dumps(reply).encode())
         self.assertIn(b"<serviceList>urn:emergency:service:sos.a urn:emergency:service:sos.b</serviceList>", answer.body)
 
+    def test_the_table_of_nena(self) -> None:
+        gateway = self.gateway("--alias", "nena", "--alias", "urn:nena:service:responder.fire=urn:service:fire")
+        space = "urn:nena:service:"
+        for asked, behind, told, front in (
+            (f"{space}responder.police", "urn:service:sos.police", "urn:service:sos.police", f"{space}responder.police"),
+            (f"{space}responder.police", "urn:service:sos.police", "urn:service:sos", f"{space}sos"),
+            (f"{space}sos.psap", "urn:service:sos", "urn:service:sos", f"{space}sos.psap"),
+            (f"{space}sos.call_taker", "urn:service:sos.call-taker", "urn:service:sos", f"{space}sos"),
+            (f"{space}sos.police", "urn:service:sos.police", "urn:service:sos.police", f"{space}sos.police"),
+            ("URN:EMERGENCY:service:Responder.Ems.Local", "urn:service:sos.ambulance.local", "urn:service:sos.ambulance",
+             "urn:emergency:service:responder.ems"),
+            (f"{space}responder.police.countyParish.x", "urn:service:sos.police.countyparish.x",
+             "urn:service:sos.police.countyparish", f"{space}responder.police.countyParish"),
+            # One that is given goes before the table.
+            (f"{space}responder.fire", "urn:service:fire", "urn:service:fire", f"{space}responder.fire"),
+            (f"{space}responder.firearms", "urn:service:sos.firearms", "urn:service:sos", f"{space}responder"),
+        ):  # fmt: skip
+            answer = self.answer(gateway, POINT.format(service=asked), json.dumps(found(told)).encode())
+            self.assertEqual(json.loads(self.server.got[0])["findService"]["service"], behind)
+            self.assertIn(f"<service>{front}</service>".encode(), answer.body)
+        self.answer(gateway, POINT.format(service=f"{space}sos.police_x"))
+        self.assertIn("listServicesByLocation", json.loads(self.server.got[0]))
+
     def test_the_same_reply_again_names_the_location_of_each_request(self) -> None:
         gateway = self.gateway("--alias", "urn:x:=urn:service:")
         reply = found("urn:service:sos.police")
