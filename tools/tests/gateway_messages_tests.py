@@ -2,16 +2,12 @@
 from __future__ import annotations
 
 import json
-import shutil
-import subprocess
-import tempfile
 import unittest
 import xml.etree.ElementTree as ElementTree
 from typing import Any, Dict
 from xml.sax.saxutils import quoteattr
 
 from tests.gateway_running import NOT_FOUND, Answer, Case, Gateway, StandIn, canonical, cases, has_packages, invalid_of
-from tests.running import TOOLS
 
 POINT = """<findService xmlns="urn:ietf:params:xml:ns:lost1"><location id="p" profile="geodetic-2d">
 <gml:Point xmlns:gml="http://www.opengis.net/gml"><gml:pos>1 2</gml:pos></gml:Point></location>
@@ -164,14 +160,3 @@ class Messages(unittest.TestCase):
         wrong = invalid_of(Gateway.seen)
         if wrong:
             raise AssertionError(f"not valid by lost.rng: {wrong}")
-
-
-class Schema(unittest.TestCase):
-    """The schema in its two spellings."""
-
-    @unittest.skipUnless(shutil.which("trang"), "trang is not there")
-    def test_both_spellings_are_the_same(self) -> None:
-        with tempfile.TemporaryDirectory() as folder:
-            subprocess.run(["trang", f"{TOOLS}/gateway/lost.rnc", f"{folder}/lost.rng"], check=True, timeout=60)
-            with open(f"{folder}/lost.rng", "rb") as made, open(f"{TOOLS}/gateway/lost.rng", "rb") as kept:
-                self.assertEqual(canonical(made.read()), canonical(kept.read()))
