@@ -3,17 +3,21 @@ from __future__ import annotations
 
 import asyncio
 import json
-from typing import Any, Callable, Dict, NamedTuple, Optional, Tuple
+from typing import TYPE_CHECKING, Any, Callable, Dict, NamedTuple, Optional, Tuple
 
 from gateway import replies, requests
 from gateway.causes import cause
 from gateway.connection import Closed, Unanswered
 from gateway.documents import LONGEST_BODY, NoDocument, read_document
-from gateway.kept import KeptReplies, Written, kept_of, key_of
+from gateway.forms import Forms, Short
+from gateway.kept import KeptReplies, Written, kept_of, key_around, key_of
 from gateway.pool import Pool, Reply
 from maptools.lines import LONGEST_LINE, line_of
 from maptools.refusals import ERRORS
 from maptools.texts import lowered
+
+if TYPE_CHECKING:
+    from gateway.covering import Covered, Covering
 
 # Beyond so many bytes reading and writing go to a thread, so that other clients don't wait for them.
 LARGE = 65_536
@@ -50,8 +54,9 @@ class Manner(NamedTuple):
 class Answering:
     """Answers bodies by the servers of a pool."""
 
-    def __init__(self, pool: Pool, manner: Manner) -> None:
-        self.pool, self.manner, self.kept = pool, manner, KeptReplies()
+    def __init__(self, pool: Pool, manner: Manner, covering: Optional[Covering] = None) -> None:
+        self.pool, self.manner, self.kept, self.covering = pool, manner, KeptReplies(), covering
+        self.forms = Forms(self.read, self.asked)
 
     def name(self) -> str:
         """The source of errors and warnings."""
@@ -67,20 +72,55 @@ class Answering:
 
     async def answer(self, body: bytes) -> Answer:
         """The answer to a body: an error of LoST where there is no other."""
+        short = self.forms.short(body)
+        if short is not None:
+            return await self.answer_short(short, body)
         try:
             request, line = self.read(body) if len(body) <= LARGE else await in_a_thread(self.read, body)
         except (NoDocument, requests.NoRequest) as error:
             return self.refused("badRequest", str(error))
+        return await self.answer_request(request, line)
+
+    async def answer_short(self, short: Short, body: bytes) -> Answer:
+        """The answer to a request that was read in the short way; what is not kept is written as that to any other."""
         try:
+            reply = await self.pool.ask(short.line)
+        except Unanswered as error:
+            return self.unanswered(error, short.form.kind)
+        bytes_of_line = key_around(reply.line, short.name)
+        kept = self.kept.find((bytes_of_line, short.form.asked, self.name())) if bytes_of_line else None
+        if kept is not None and kept.back is not None:
+            xml = b"%b%b%b" % (kept.front, short.name[1:-1], kept.back)
+            return Answer(xml, short.form.kind, kept.outcome, kept.edition, reply.server)
+        request, _ = self.read(body)
+        return await self.answer_from(request, reply)
+
+    async def answer_request(self, request: requests.Request, line: bytes) -> Answer:
+        """The answer to a request and its line."""
+        server = None
+        try:
+            if self.covering and request.area():
+                covered, server = await self.covering.answer(request)
+                return await in_a_thread(self.write_covered, request, covered, server)
             reply = await self.pool.ask(line)
         except Unanswered as error:
-            return self.refused("serverError" if isinstance(error, Closed) else "serverTimeout", str(error), request.kind)
+            return self.unanswered(error, request.kind)
+        except replies.NoReply as error:
+            return self.refused("serverError", str(error), request.kind)._replace(server=server)
+        return await self.answer_from(request, reply)
+
+    async def answer_from(self, request: requests.Request, reply: Reply) -> Answer:
+        """The answer to a request from its reply."""
         try:
             if len(reply.line) <= LARGE:
                 return self.written(request, reply)
             return await in_a_thread(self.write, request, reply)
         except replies.NoReply as error:
             return self.refused("serverError", str(error), request.kind)._replace(server=reply.server)
+
+    def unanswered(self, error: Unanswered, kind: str) -> Answer:
+        """The error where no server answered."""
+        return self.refused("serverError" if isinstance(error, Closed) else "serverTimeout", str(error), kind)
 
     def read(self, body: bytes) -> Tuple[requests.Request, bytes]:
         """The request of a body, and its line."""
@@ -105,14 +145,22 @@ class Answering:
 
     def made(self, request: requests.Request, line: bytes) -> Written:
         """The XML of the reply to a request."""
-        name, value = reply_of(line)
+        return self.made_of(request, *reply_of(line), self.asked(request))
+
+    def made_of(self, request: requests.Request, name: str, value: Dict[str, Any], asked: replies.Asked) -> Written:
+        """The same, of a reply that is read."""
         if name == "errors" or request.is_unserved():
             return self.error(request, value)
         if request.earlier and "path" in value:
             value = {**value, "path": [*request.earlier, *value["path"]]}
         manner = replies.Manner(self.name(), self.manner.reading.services, self.manner.makes_up_names)
-        root = replies.reply(name, value, self.asked(request), manner)
+        root = replies.reply(name, value, asked, manner)
         return Written(replies.xml_of(root), "answered", value.get("edition"))
+
+    def write_covered(self, request: requests.Request, covered: Covered, server: str) -> Answer:
+        """The answer to a request about an area."""
+        asked = self.asked(request)._replace(warning=covered.warning)
+        return answer_of(self.made_of(request, covered.name, covered.value, asked), request, Reply(b"", server))
 
     def error(self, request: requests.Request, value: Dict[str, Any]) -> Written:
         """An error with its cause; a service that the server can't have is one where it found no other error."""

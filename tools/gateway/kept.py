@@ -53,12 +53,16 @@ def kept_of(written: Written) -> Kept:
 
 def key_of(line: bytes, used: Optional[str]) -> Optional[Tuple[bytes, ...]]:
     """All bytes of a line but the name of the location used; None where it is too long to be kept, or names another location."""
+    return key_around(line, encode_basestring(used).encode() if used is not None else b"")
+
+
+def key_around(line: bytes, name: bytes) -> Optional[Tuple[bytes, ...]]:
+    """The same, where the name is as JSON has it; empty where there is none."""
     if len(line) > LONGEST_KEPT:
         return None
     front, mark, back = line.partition(MARK)
     if not mark:
         return (line,)
-    name = encode_basestring(used).encode() if used is not None else b""
     return (front, back[len(name) :]) if name and back.startswith(name) else None
 
 

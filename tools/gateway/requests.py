@@ -10,8 +10,9 @@ from typing import Any, Dict, List, NamedTuple, Optional, Tuple
 
 from gateway.positions import CENTRES, POINT, SPACE, WHITE_SPACE, Unreadable, place_of, shape_of, system_of
 from gateway.services import Asked, Services
+from gateway.shapes import Area, area_of
 from gateway.vocabulary import (
-    BOUNDARY, CIVIC, CIVIC_ADDRESS, FIND, GATEWAY, GEODETIC, LOST, SERVICES, SERVICES_BY_LOCATION, TOKEN, local, named,
+    BOUNDARY, CIVIC, CIVIC_ADDRESS, FIND, GATEWAY, GEODETIC, LOST, SERVICES, SERVICES_BY_LOCATION, TOKEN, WGS84, local, named,
 )  # fmt: skip
 from gateway.wording import listed, shown
 
@@ -47,18 +48,23 @@ class NoRequest(Exception):
 
 
 class Manner(NamedTuple):
-    """How requests are read: whether an area is asked for by its centre, and what services are called."""
+    """How requests are read: what areas are, refused, asked for by their centre or by what covers them, and what services are called."""
 
-    takes_centres: bool
+    areas: str
     services: Services
 
 
+REFUSED, BY_CENTRE, BY_COVER = "refuse", "centre", "cover"
+
+
 class Place(NamedTuple):
-    """A location as an item of a line, the name of the area that it is, and why its content is not readable."""
+    """A location as an item of a line, the name of the area that it is, why its content is not readable, and the area itself,
+    where not its centre stands for it."""
 
     item: Dict[str, Any]
     area: Optional[str] = None
     fault: Optional[str] = None
+    shape: Optional[Area] = None
 
 
 class Request(NamedTuple):
@@ -77,6 +83,12 @@ class Request(NamedTuple):
     def is_unserved(self) -> bool:
         """Whether the server behind can't have the service that is asked for."""
         return self.asked.behind is None if self.asked else self.kind == FIND
+
+    def area(self) -> Optional[Area]:
+        """The area of which what covers it is to be found, and not only its centre."""
+        used = self.used
+        is_known = used is not None and used.item.get("srsName", WGS84) == WGS84
+        return used.shape if used and is_known and not self.is_unserved() else None
 
     def line_members(self) -> Tuple[str, Dict[str, Any]]:
         """The kind and the members of the line that goes out."""
@@ -161,39 +173,45 @@ def read_token(location: ElementTree.Element) -> str:
     return tokens[0].text or ""
 
 
-def read_point(location: ElementTree.Element, item: Dict[str, Any], takes_centres: bool) -> Optional[str]:
-    """Puts a point, or the centre of an area, into a location's item; the name of the area."""
+def read_point(location: ElementTree.Element, item: Dict[str, Any], areas: str) -> Tuple[Optional[str], Optional[Area]]:
+    """Puts a point, or the centre of an area, into a location's item; the name of the area, and the area."""
     shape = shape_of(location)
     system = system_of(shape)
     if system is not None:
         item["srsName"] = system
-    is_point = shape.tag == POINT
-    if not is_point and not takes_centres:
+    if shape.tag == POINT:
+        item["pos"] = list(place_of(shape))
+        return None, None
+    if areas == REFUSED:
         raise Unreadable(f"it is a {local(shape.tag)}; this gateway takes only a Point")
-    item["pos"] = list(place_of(shape) if is_point else CENTRES[shape.tag](shape))
-    return None if is_point else local(shape.tag)
+    if areas == BY_COVER:
+        area = area_of(shape)
+        item["pos"] = list(area.centre)
+        return area.name, area if area.can_be_drawn() else None
+    item["pos"] = list(CENTRES[shape.tag](shape))
+    return local(shape.tag), None
 
 
-def read_location(location: ElementTree.Element, takes_centres: bool) -> Place:
+def read_location(location: ElementTree.Element, areas: str) -> Place:
     """A location; content that is not readable is left out of its item."""
     children(location, NONE)
     item: Dict[str, Any] = {"id": attribute(location, "id"), "profile": location.get("profile", "").strip(WHITE_SPACE)}
-    area = None
+    area = shape = None
     try:
         if item["profile"] == GEODETIC:
-            area = read_point(location, item, takes_centres)
+            area, shape = read_point(location, item, areas)
         elif item["profile"] == CIVIC:
             item["address"] = read_address(location)
         elif item["profile"] == TOKEN:
             item["token"] = read_token(location)
     except Unreadable as error:
         return Place(item, None, str(error))
-    return Place(item, area)
+    return Place(item, area, None, shape)
 
 
-def read_locations(parts: Parts, takes_centres: bool) -> Tuple[Place, ...]:
+def read_locations(parts: Parts, areas: str) -> Tuple[Place, ...]:
     """The locations of a request, in their order."""
-    places = tuple(read_location(location, takes_centres) for location in parts.get("location", ()))
+    places = tuple(read_location(location, areas) for location in parts.get("location", ()))
     if not places:
         raise NoRequest("the request has no location; it must have at least one")
     profiles = [place.item["profile"] for place in places if place.item["profile"]]
@@ -257,7 +275,7 @@ def read_request(root: ElementTree.Element, manner: Manner) -> Request:
         servers = read_path(path)
         earlier, members["path"] = tuple(servers[:-MOST_SERVERS]), servers[-MOST_SERVERS:]
     if kind in (FIND, SERVICES_BY_LOCATION):
-        places = read_locations(parts, manner.takes_centres)
+        places = read_locations(parts, manner.areas)
         members["location"] = sent_items(places)
     if kind == FIND:
         read_wishes(root, members)

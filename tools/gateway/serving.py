@@ -14,14 +14,12 @@ from typing import Dict
 from aiohttp import web
 from aiohttp.http_exceptions import HttpProcessingError
 
-from gateway import requests
-from gateway.answering import Answering, Manner
 from gateway.http_side import Handler, Side, application
 from gateway.journal import Journal
+from gateway.making import answering_of
 from gateway.metrics import Metrics
 from gateway.pool import Pool
 from gateway.processes import Place, Work
-from gateway.services import Services
 
 BACKLOG = 4096
 TELL_AGAIN = 0.25
@@ -64,9 +62,7 @@ def keep_memory() -> None:
 def side_of(options: argparse.Namespace) -> Side:
     """What the HTTP side works with, as the command line says."""
     pool = Pool(options.lostd, options.pool, options.timeout)
-    reading = requests.Manner(options.area == "centre", Services(options.alias))
-    answering = Answering(pool, Manner(reading, not options.no_made_up_names, options.name))
-    return Side(answering, Metrics(), Journal(options.log) if options.log else None)
+    return Side(answering_of(options, pool), Metrics(), Journal(options.log) if options.log else None)
 
 
 async def tell_often(side: Side, speaks: bool) -> None:

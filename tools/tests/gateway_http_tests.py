@@ -76,7 +76,7 @@ class Http(unittest.TestCase):
         cls.server = StandIn(echo)
         cls.folder = tempfile.TemporaryDirectory()
         cls.log = f"{cls.folder.name}/queries.jsonl"
-        cls.gateway = Gateway(cls.server.address, "--log", cls.log)
+        cls.gateway = Gateway(cls.server.address, "--log", cls.log, "--area", "centre")
 
     @classmethod
     def tearDownClass(cls) -> None:

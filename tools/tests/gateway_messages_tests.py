@@ -137,7 +137,7 @@ class Messages(unittest.TestCase):
         self.assertIn("listServicesByLocation", json.loads(self.server.got[0]))
 
     def test_the_same_reply_again_names_the_location_of_each_request(self) -> None:
-        gateway = self.gateway("--alias", "urn:x:=urn:service:")
+        gateway = self.gateway("--alias", "urn:x:=urn:service:", "--area", "centre")
         reply = found("urn:service:sos.police")
         circle = POINT.replace("gml:Point", "gs:Circle").replace("xmlns:gml", 'xmlns:gs="http://www.opengis.net/pidflo/1.0" xmlns:gml')
         circle = circle.replace("<gml:pos", '<gml:pos xmlns:gml="http://www.opengis.net/gml"')

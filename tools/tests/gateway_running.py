@@ -33,6 +33,11 @@ def has_packages() -> bool:
     return os.access(PYTHON, os.X_OK) and subprocess.run([PYTHON, "-c", MODULES], capture_output=True).returncode == 0
 
 
+def has_shapely() -> bool:
+    """Whether Debian's Python has what the gateway needs for areas."""
+    return os.access(PYTHON, os.X_OK) and subprocess.run([PYTHON, "-c", "import shapely.geometry"], capture_output=True).returncode == 0
+
+
 class StandIn:
     """Listens as lostd does for queries. It answers the gateway's own question, unless told to answer nothing."""
 
@@ -214,10 +219,14 @@ import json, sys
 from lxml import etree
 schemas = [(path, etree.RelaxNG(etree.parse(path))) for path in sys.argv[1:]]
 for number, text in enumerate(json.load(sys.stdin)):
-    document = etree.fromstring(text.encode())
+    try:
+        document = etree.fromstring(text.encode())
+    except etree.XMLSyntaxError as error:
+        print(number, error)
+        continue
     for path, schema in schemas:
         if not schema.validate(document):
-            print(number, path, schema.error_log.last_error, text[:2000])
+            print(number, path, schema.error_log.last_error, text[:2000].replace("\\n", " "))
 """
 
 
