@@ -164,9 +164,9 @@ class Covering:
 
     def chosen(self, request: Request, found: List[Found], shares: List[float]) -> Covered:
         """The reply with the mappings that are chosen, most first."""
-        ranked = sorted(zip(shares, range(len(found))), key=lambda one: (-one[0], one[1]))
+        ranked = sorted(zip(shares, range(len(found))), key=lambda one: (-round(one[0], 9), one[1]))
         least = self.choice.least if self.choice.way == "all" else 2.0
-        picked = [number for share, number in ranked if share >= least] or [ranked[0][1]]
+        picked = [number for share, number in ranked if share >= least - 1e-9] or [ranked[0][1]]
         by_value = request.members.get("serviceBoundary") == "value"
         mappings = [valued(found[number]) if by_value else found[number].mapping for number in picked]
         said = {name for number in picked for name in found[number].reply.get("warnings", [])}

@@ -158,9 +158,10 @@ class Areas(unittest.TestCase):
         self.assertEqual(self.found(area(0.2, 0.4), "largest", "urn:service:counseling"), ["serviceNotImplemented"])
 
     def test_longitude_first(self) -> None:
-        turned = area(0.5, 1.8).replace("4326", "4326").replace("urn:ogc:def:crs:EPSG::4326", "CRS84")
+        # From 0.5 to 1.8 north, and from 0.4 to 0.6 east.
+        turned = area(0.5, 1.8).replace("urn:ogc:def:crs:EPSG::4326", "CRS84")
         self.assertEqual(self.found(circle("1.5 0.1").replace("urn:ogc:def:crs:EPSG::4326", "CRS84")), ["east"])
-        self.assertEqual(self.found(turned), ["rest"])
+        self.assertEqual(self.found(turned), ["west"])
 
 
 @unittest.skipUnless(has_packages() and has_shapely(), "the packages of Debian for areas are missing")
