@@ -8,11 +8,10 @@ its own. (A name that needs no reference in XML and no escape in JSON, and a pos
 from __future__ import annotations
 
 import re
-from typing import Callable, Dict, NamedTuple, Optional, Set, Tuple
+from typing import Callable, Dict, Hashable, NamedTuple, Optional, Set, Tuple
 
 from gateway.documents import NoDocument
 from gateway.positions import units_of
-from gateway.replies import Asked
 from gateway.requests import NoRequest, Request
 
 MOST_FORMS, LONGEST_FORM = 256, 4096
@@ -23,14 +22,14 @@ NAME_IN_LINE, PLACE_IN_LINE = b'"' + NAME + b'"', b"[123456789,-1234567890]"
 
 Key = Tuple[bytes, bytes, bytes]
 Read = Callable[[bytes], Tuple[Request, bytes]]
-AskedOf = Callable[[Request], Asked]
+AskedOf = Callable[[Request], Hashable]
 
 
 class Form(NamedTuple):
     """The kind of the requests of a form, what a reply must know of them, and their line around the name and the position."""
 
     kind: str
-    asked: Asked
+    asked: Hashable
     pieces: Tuple[bytes, bytes, bytes]
     is_name_first: bool
 
