@@ -59,14 +59,12 @@ def publish(name, rings):
 
 
 def star(dice, centre):
-    """A polygon around a centre, of corners at random distances."""
-    count = dice.randint(3, 12)
-    turns = sorted(dice.uniform(0, 2 * math.pi) for _ in range(count))
+    """A polygon around a centre, of corners at random distances; no two are half a turn apart, so that it does not cross itself."""
+    count = dice.randint(4, 12)
+    turns = [2 * math.pi * (number + 0.9 * dice.random()) / count for number in range(count)]
     size = CELL * dice.choice((0.2, 0.7, 2))
-    corners = [
-        [round(centre[0] + size * dice.uniform(0.3, 1) * math.cos(turn), 7), round(centre[1] + size * dice.uniform(0.3, 1) * math.sin(turn), 7)]
-        for turn in turns
-    ]
+    spots = [(turn, size * dice.uniform(0.3, 1)) for turn in turns]
+    corners = [[round(centre[0] + far * math.cos(turn), 7), round(centre[1] + far * math.sin(turn), 7)] for turn, far in spots]
     return [*corners, corners[0]]
 
 

@@ -160,7 +160,8 @@ class Answering:
     def write_covered(self, request: requests.Request, covered: Covered, server: str) -> Answer:
         """The answer to a request about an area."""
         asked = self.asked(request)._replace(warning=covered.warning)
-        return answer_of(self.made_of(request, covered.name, covered.value, asked), request, Reply(b"", server))
+        written = self.made_of(request, covered.name, covered.value, asked)
+        return answer_of(written, request, Reply(b"", server))._replace(area=None)
 
     def error(self, request: requests.Request, value: Dict[str, Any]) -> Written:
         """An error with its cause; a service that the server can't have is one where it found no other error."""

@@ -45,15 +45,16 @@ def is_lost(request: web.Request) -> bool:
 
 def encoding_of(request: web.Request) -> str:
     """How the body is encoded."""
-    return request.headers.get(hdrs.CONTENT_ENCODING, PLAIN).strip().lower() or PLAIN
+    said = request.headers.get(hdrs.CONTENT_ENCODING)
+    return PLAIN if said is None else said.strip().lower() or PLAIN
 
 
-def unread(request: web.Request) -> str:
+def unread(request: web.Request, encoding: str) -> str:
     """Why a body of this type and encoding is not read; empty where it is."""
     if not is_lost(request):
         return NOT_LOST.format(shown(request.headers.get(hdrs.CONTENT_TYPE, "")))
-    if encoding_of(request) != PLAIN and encoding_of(request) not in SPELLINGS:
-        return NOT_READ.format(shown(encoding_of(request)))
+    if encoding != PLAIN and encoding not in SPELLINGS:
+        return NOT_READ.format(shown(encoding))
     return ""
 
 
@@ -89,22 +90,23 @@ class Handler:
     async def post(self, request: web.Request) -> web.Response:
         """The answer to a question, counted and written down."""
         begun = time.monotonic()
-        why = unread(request)
+        encoding = encoding_of(request)
+        why = unread(request, encoding)
         if why:
             return lost_response(self.side.answering.refused("badRequest", why), 415, {hdrs.ACCEPT_ENCODING: GZIP})
-        body, answer, is_whole = await self.answer(request)
+        body, answer, is_whole = await self.answer(request, encoding)
         self.note(request, body, answer, time.monotonic() - begun)
-        response = await self.fitting(request, answer)
+        response = lost_response(answer) if len(answer.xml) < LEAST_PACKED else await self.fitting(request, answer)
         if self.is_stopping or not is_whole:
             response.force_close()
         return response
 
-    async def answer(self, request: web.Request) -> Tuple[bytes, Answer, bool]:
+    async def answer(self, request: web.Request, encoding: str) -> Tuple[bytes, Answer, bool]:
         """The body of a question, its answer, and whether the body was read to its end."""
         answering, body = self.side.answering, b""
         try:
             body = await body_of(request)
-            if encoding_of(request) != PLAIN:
+            if encoding != PLAIN:
                 body = unpacked(body, LONGEST_BODY)
             return body, await answering.answer(body), True
         except TooLong:
@@ -118,9 +120,7 @@ class Handler:
             return body, answering.refused("internalError", "the gateway failed, and says why on standard error"), True
 
     async def fitting(self, request: web.Request, answer: Answer) -> web.Response:
-        """The response with an answer, compressed where it is long and the client takes that."""
-        if len(answer.xml) < LEAST_PACKED:
-            return lost_response(answer)
+        """The response with a long answer, compressed where the client takes that."""
         if not accepts_gzip(request.headers.get(hdrs.ACCEPT_ENCODING, "")):
             return lost_response(answer, headers=VARIES)
         xml = packed(answer.xml) if len(answer.xml) <= LARGE else await in_a_thread(packed, answer.xml)

@@ -44,6 +44,9 @@ def shape_of_area(area: Area) -> Any:
     whole = plain(Polygon(outer))
     for hole in holes:
         whole = whole.difference(plain(Polygon(hole)))
+    west, south, east, north = whole.bounds or (0, 0, 0, 0)
+    if -180 <= west and east <= 180 and -90 <= south and north <= 90:
+        return whole
     pieces = [translate(whole, turn * 360.0).intersection(GLOBE) for turn in (-1, 0, 1)]
     return plain(unary_union([piece for piece in pieces if piece.area > 0])) if any(piece.area for piece in pieces) else Polygon()
 

@@ -4,6 +4,7 @@ from __future__ import annotations
 from typing import Any, Iterable, List
 
 from shapely.geometry import Point as Spot
+from shapely.prepared import prep
 
 from gateway.positions import UNITS_A_DEGREE, Point
 from gateway.shapes import Area, corners_of
@@ -27,13 +28,14 @@ def grid_in(piece: Any, most: int) -> List[Point]:
     """The points of the finest grid over a shape that has at most so many of them in it; each second row is shifted."""
     west, south, east, north = piece.bounds
     found: List[Point] = []
+    prepared = prep(piece)
     for count in range(1, FINEST_GRID + 1):
         width, height = (east - west) / count, (north - south) / count
         spots = [
             (west + width * (column + (0.25 if row % 2 else 0.75 if count > 1 else 0.5)), south + height * (row + 0.5))
             for row in range(count) for column in range(count)
         ]  # fmt: skip
-        inside = [units(*spot) for spot in spots if piece.contains(Spot(spot))]
+        inside = [units(*spot) for spot in spots if prepared.contains(Spot(spot))]
         if len(inside) > most:
             break
         found = inside if len(inside) > len(found) else found
