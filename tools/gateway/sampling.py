@@ -1,4 +1,5 @@
-"""The points of an area at which is asked: its centre, its corners, and a grid, and then points of what nothing found covers."""
+"""The points of an area at which is asked: its centre, its corners or points of its rim, and a grid, and then points of what
+nothing found covers. A district that comes in over the rim of a circle and covers a fiftieth of it has a point of the rim."""
 from __future__ import annotations
 
 from typing import Any, Iterable, List
@@ -7,10 +8,10 @@ from shapely.geometry import Point as Spot
 from shapely.prepared import prep
 
 from gateway.positions import UNITS_A_DEGREE, Point
-from gateway.shapes import Area, corners_of
+from gateway.shapes import Area
 
-# The points at first, those of them that are corners and of the grid, and all that are asked for.
-MOST_FIRST, MOST_CORNERS, MOST_IN_GRID, MOST_POINTS = 14, 4, 9, 20
+# The points at first, those of them that are of the rim and of the grid, and all that are asked for.
+MOST_FIRST, MOST_ON_RIM, MOST_IN_GRID, MOST_POINTS = 17, 8, 7, 20
 FINEST_GRID = 16
 # What may stay unknown: less than an eighth of the area.
 LEAST_LEFT = 0.125
@@ -53,12 +54,17 @@ def spread(points: List[Any], count: int) -> List[Any]:
     return [points[number * len(points) // count] for number in range(count)] if len(points) > count else points
 
 
+def rim_of(shape: Any) -> List[Point]:
+    """The corners of the largest piece of a shape, or so many of them as there may be."""
+    largest = max(getattr(shape, "geoms", [shape]), key=lambda piece: piece.area)
+    return [units(*spot) for spot in spread(list(largest.exterior.coords)[:-1], MOST_ON_RIM)]
+
+
 def first_points(area: Area, shape: Any) -> List[Point]:
     """The points at which is asked first; there is always one in the area."""
     north, east = (unit / UNITS_A_DEGREE for unit in area.centre)
     points = [units(east, north)] if shape.contains(Spot(east, north)) else []
-    points += [units(*reversed(corner)) for corner in spread(corners_of(area), MOST_CORNERS)]
-    points += grids_in(shape)
+    points += rim_of(shape) + grids_in(shape)
     inside = shape.representative_point()
     return unique([*points[: MOST_FIRST - 1], units(inside.x, inside.y)])
 

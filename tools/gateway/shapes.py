@@ -128,14 +128,3 @@ def rings_of(area: Area) -> Rings:
         inner = arc_around(centre, shape.inner, shape.start, shape.opening)
         rings = [outer, inner] if whole and shape.inner > 0 else [outer] if whole else [[*outer, *inner[::-1], outer[0]]]
     return [around_pole(ring, centre[0]) for ring in rings]
-
-
-def corners_of(area: Area) -> List[Position]:
-    """The corners of a polygon or an arc band; a circle and an ellipse have none."""
-    if area.rings:
-        return [in_degrees(point) for point in area.rings[0][:-1]]
-    if area.name != "ArcBand" or area.round.opening >= 2 * math.pi:
-        return []
-    centre, shape = in_degrees(area.around), area.round
-    ends = [shape.start, shape.start + shape.opening]
-    return [arc_around(centre, radius, end, 0.0)[0] for radius in (shape.inner, shape.outer) for end in ends]
