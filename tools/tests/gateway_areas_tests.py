@@ -109,7 +109,7 @@ class Areas(unittest.TestCase):
         # All around, 100 to 120 km from 0.5 0.5: nearly all in the east, beyond the edges nothing.
         around = band("0.5 0.5", "100000", "120000", "0", "360")
         self.assertEqual((self.found(around, "centre"), self.found(around)), (["west"], ["east"]))
-        self.assertEqual(self.found(circle("-0.001 1.0").replace("850.24", "30000"), "all"), ["west", "east"])
+        self.assertEqual(sorted(self.found(circle("-0.001 1.0").replace("850.24", "30000"), "all")), ["east", "west"])
 
     def test_an_ellipse_lies_along_its_orientation(self) -> None:
         along = ellipse("0.5 1.02").replace(">7.7<", ">80000<").replace(">3.1<", ">1000<")
