@@ -118,12 +118,14 @@ def read_gateway(text: str) -> Read:
     (ratio, rate, fixed), = rows(r"one process: (.+) of the answers a second of a fixed body \((\d+) and (\d+)\)", text, 1)
     (four_ratio, ), = rows(r"four processes: (.+) of those of four with a fixed body", text, 1)
     (four, ), = rows(r"four processes: (.+) times one", text, 1)
-    late = {name: span for span, name in rows(r"99 of a hundred answers within (.+) ms: (\w+), \d+ connections", text, 3)}
+    late = {name: span for span, name in rows(r"99 of a hundred answers within (.+) ms: (\w+), 32 connections", text, 3)}
+    (many, times), = rows(r"(\d+) connections: (.+) times as long as with a fixed body, .+ of its answers a second", text, 1)
     lines = [
         ["one", count(rate), ratio, late["one"]],
         ["four", f"{four} times one", four_ratio, late["four"]],
     ]
-    return table(["Processes", "Answers a second", "Share of a fixed body's", "99 of 100 within, ms"], lines), {}
+    more = f"At {many} connections 99 of 100 answers come within {times} times those with a fixed body."
+    return table(["Processes", "Answers a second", "Share of a fixed body's", "99 of 100 within, ms"], lines) + f"\n\n{more}", {}
 
 
 def read_redis(text: str) -> Read:

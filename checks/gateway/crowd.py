@@ -11,9 +11,9 @@ from typing import NamedTuple
 
 from drawing import Endless
 from processes import Gateway
-from server import COMMIT, Ended, Server
+from server import BAD_REQUEST, COMMIT, NAME, Ended, Server
 from verdicts import Books, Question, read_or_none, shown
-from xml_side import Inexpressible, answer_members, as_told, request_xml
+from xml_side import Inexpressible, answer_members, as_answered, as_sent, as_told, request_xml
 
 HEAD = "POST /lost HTTP/1.1\r\nHost: lost.example\r\nContent-Type: application/lost+xml\r\nContent-Length: {}\r\n\r\n"
 REQUESTS, GROUPS, FIRST_EDITS = 600, 400, 60
@@ -113,6 +113,14 @@ def play(desks, groups, crowd, lines, is_over):
         time.sleep(PAUSE)
 
 
+def wanted_answer(line, oracle, book):
+    """The members of the right answer to a request."""
+    sent = as_sent(read_or_none(line), NAME)
+    if sent is None:
+        return json.loads(BAD_REQUEST)
+    return as_answered(json.loads(Question(json.dumps(sent.line).encode(), oracle).wanted(book)), sent)
+
+
 def wrong_answers(crowd, lines):
     """What is wrong with the answers, by the oracle."""
     books, wrong, judged = Books(), list(crowd.failed), {}
@@ -126,8 +134,7 @@ def wrong_answers(crowd, lines):
             continue
         key = (told.asked.line, told.edition)
         if key not in judged:
-            wanted = json.loads(Question(told.asked.line, books.oracle).wanted(books.by_edition[number]))
-            judged[key] = as_told(wanted)
+            judged[key] = as_told(wanted_answer(told.asked.line, books.oracle, books.by_edition[number]))
         if answer_members(told.xml, told.edition) != judged[key]:
             wrong.append(f"{shown(told.asked.line)}\n    gateway: {shown(told.xml)}\n    oracle:  {judged[key]}")
     return wrong

@@ -22,6 +22,7 @@ NEEDED = {
     "/usr/lib/python3/dist-packages/lxml": "python3-lxml",
     "/usr/lib/python3/dist-packages/aiohttp": "python3-aiohttp",
     "/usr/lib/python3/dist-packages/prometheus_client": "python3-prometheus-client",
+    "/usr/lib/python3/dist-packages/shapely": "python3-shapely",
 }
 
 

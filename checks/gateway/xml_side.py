@@ -2,6 +2,7 @@
 import re
 import xml.etree.ElementTree as ElementTree
 from decimal import Decimal
+from typing import NamedTuple
 from xml.sax.saxutils import escape, quoteattr
 
 LOST = "{urn:ietf:params:xml:ns:lost1}"
@@ -21,6 +22,13 @@ FOREIGN = {
     "listServices": ("location",),
     "getServiceBoundary": ("location", "service"),
 }
+
+
+MOST_LOCATIONS, MOST_SERVERS = 8, 32
+KNOWN_SYSTEM = "urn:ogc:def:crs:EPSG::4326"
+KNOWN_PROFILES = ("geodetic-2d", "civic", "x-token")
+LABEL = "[a-z0-9]([a-z0-9-]{0,61}[a-z0-9])?"
+SERVICE = re.compile(rf"urn:service:{LABEL}(\.{LABEL}){{0,7}}", re.IGNORECASE | re.ASCII)
 
 
 class Inexpressible(Exception):
@@ -48,6 +56,7 @@ def degrees(unit):
 def location_xml(item):
     """A location."""
     need(isinstance(item, dict) and set(item) <= {"id", "profile", "pos", "srsName", "address"})
+    need(item.get("profile") != "")
     front = f"<location id={quoteattr(plain(item.get('id')))} profile={quoteattr(plain(item.get('profile')))}>"
     return front + content_xml(item) + "</location>"
 
@@ -93,6 +102,59 @@ def request_xml(line):
         need(isinstance(members["path"], list))
         inside += "<path>" + "".join(f"<via source={quoteattr(plain(name))}/>" for name in members["path"]) + "</path>"
     return f"<{kind} {SPACES}{wishes_xml(members)}>{inside}</{kind}>"
+
+
+class Sent(NamedTuple):
+    """What goes out for a request: a line, whether its service is none that lostd can have, and servers that it is not told of."""
+
+    line: dict
+    is_unserved: bool
+    earlier: list
+
+
+def sent_locations(locations):
+    """The locations that go out; None where two are of one profile, or none is there."""
+    profiles = [item["profile"] for item in locations]
+    if not locations or len(set(profiles)) < len(profiles):
+        return None
+    known = [{**item} for item in locations if item["profile"] in KNOWN_PROFILES]
+    chosen = (known or locations[:1]) if len(locations) > MOST_LOCATIONS else [{**item} for item in locations]
+    for item in chosen:
+        if str(item.get("srsName")).lower() == KNOWN_SYSTEM.lower():
+            item["srsName"] = KNOWN_SYSTEM
+    return chosen
+
+
+def as_sent(line, name):
+    """What goes out for a request line that a document says, to a server of this name; None where it is a bad request before."""
+    ((kind, given),) = line.items()
+    members = {key: value for key, value in given.items() if value is not None}
+    if kind == "findService" and members.get("serviceBoundary", "value") not in ("reference", "value"):
+        return None
+    if kind in ("findService", "listServicesByLocation"):
+        members["location"] = sent_locations(members.get("location", []))
+        if members["location"] is None:
+            return None
+    path = members.get("path", [])
+    if len(path) > MOST_SERVERS:
+        earlier, members["path"] = path[:-MOST_SERVERS], path[-MOST_SERVERS:]
+        if name in [source.lower() for source in earlier]:
+            members["path"] = [name]
+    is_unserved = kind == "findService" if "service" not in members else SERVICE.fullmatch(members["service"]) is None
+    if is_unserved and kind != "getServiceBoundary":
+        kind = "listServices" if kind == "listServices" else "listServicesByLocation"
+        members = {key: members[key] for key in ("location", "path") if key in members}
+    return Sent({kind: members}, is_unserved, path[:-MOST_SERVERS])
+
+
+def as_answered(reply, sent):
+    """What is answered of a reply to the line that went out."""
+    ((name, members),) = reply.items()
+    if name == "errors":
+        return reply
+    if sent.is_unserved:
+        return {"errors": {"edition": members["edition"], "error": "serviceNotImplemented"}}
+    return {name: {**members, "path": [*sent.earlier, *members["path"]]}}
 
 
 def local(element):

@@ -4,27 +4,29 @@ from __future__ import annotations
 import asyncio
 import time
 import traceback
-from typing import Dict, NamedTuple, Optional
+from typing import Dict, NamedTuple, Optional, Tuple
 
 from aiohttp import hdrs, web
 from multidict import CIMultiDict, istr
 
-from gateway.answering import Answer, Answering
+from gateway.answering import LARGE, Answer, Answering, in_a_thread
+from gateway.compression import GZIP, LEAST_PACKED, SPELLINGS, NoGzip, TooLong, accepts_gzip, packed, unpacked
 from gateway.connection import Unanswered
 from gateway.documents import LONGEST_BODY
 from gateway.journal import Journal
 from gateway.metrics import Metrics
 from gateway.pool import QUESTION
 from gateway.vocabulary import MEDIA_TYPE
+from gateway.wording import shown
 
 BODY_SECONDS = 10.0
 EDITION = istr("Edition")
-NOT_POSTED = "POST a request of application/lost+xml"
-NOT_LOST = "the body is not application/lost+xml, or is compressed"
-
-
-class TooLong(Exception):
-    """A body has more bytes than are read."""
+NOT_POSTED = "the method is {}; it must be POST, with a request of application/lost+xml"
+NOT_LOST = "the Content-Type is {}; it must be application/lost+xml"
+NOT_READ = "the Content-Encoding is {}; it must be gzip, or none"
+PLAIN = "identity"
+VARIES = {hdrs.VARY: hdrs.ACCEPT_ENCODING}
+PACKED = {**VARIES, hdrs.CONTENT_ENCODING: GZIP}
 
 
 class Side(NamedTuple):
@@ -36,10 +38,24 @@ class Side(NamedTuple):
 
 
 def is_lost(request: web.Request) -> bool:
-    """Whether the body is said to be of LoST and is not compressed. (aiohttp's own reader of types takes as long as all else.)"""
+    """Whether the body is said to be of LoST. (aiohttp's own reader of types takes as long as all else.)"""
     said = request.headers.get(hdrs.CONTENT_TYPE, "")
-    is_of_lost = said == MEDIA_TYPE or said.partition(";")[0].strip().lower() == MEDIA_TYPE
-    return is_of_lost and request.headers.get(hdrs.CONTENT_ENCODING, "identity") == "identity"
+    return said == MEDIA_TYPE or said.partition(";")[0].strip().lower() == MEDIA_TYPE
+
+
+def encoding_of(request: web.Request) -> str:
+    """How the body is encoded."""
+    said = request.headers.get(hdrs.CONTENT_ENCODING)
+    return PLAIN if said is None else said.strip().lower() or PLAIN
+
+
+def unread(request: web.Request, encoding: str) -> str:
+    """Why a body of this type and encoding is not read; empty where it is."""
+    if not is_lost(request):
+        return NOT_LOST.format(shown(request.headers.get(hdrs.CONTENT_TYPE, "")))
+    if encoding != PLAIN and encoding not in SPELLINGS:
+        return NOT_READ.format(shown(encoding))
+    return ""
 
 
 async def rest_of_body(request: web.Request) -> bytes:
@@ -74,24 +90,41 @@ class Handler:
     async def post(self, request: web.Request) -> web.Response:
         """The answer to a question, counted and written down."""
         begun = time.monotonic()
-        if not is_lost(request):
-            return lost_response(self.side.answering.refused("badRequest", NOT_LOST), 415)
-        body, is_whole = b"", True
-        try:
-            body = await body_of(request)
-            answer = await self.side.answering.answer(body)
-        except TooLong:
-            answer, is_whole = self.side.answering.too_long(), False
-        except asyncio.TimeoutError:
-            answer, is_whole = self.side.answering.refused("badRequest", "the body did not come"), False
-        except Exception:  # pylint: disable=broad-except
-            traceback.print_exc()
-            answer = self.side.answering.refused("internalError", "the gateway failed, and says why on standard error")
+        encoding = encoding_of(request)
+        why = unread(request, encoding)
+        if why:
+            return lost_response(self.side.answering.refused("badRequest", why), 415, {hdrs.ACCEPT_ENCODING: GZIP})
+        body, answer, is_whole = await self.answer(request, encoding)
         self.note(request, body, answer, time.monotonic() - begun)
-        response = lost_response(answer)
+        response = lost_response(answer) if len(answer.xml) < LEAST_PACKED else await self.fitting(request, answer)
         if self.is_stopping or not is_whole:
             response.force_close()
         return response
+
+    async def answer(self, request: web.Request, encoding: str) -> Tuple[bytes, Answer, bool]:
+        """The body of a question, its answer, and whether the body was read to its end."""
+        answering, body = self.side.answering, b""
+        try:
+            body = await body_of(request)
+            if encoding != PLAIN:
+                body = unpacked(body, LONGEST_BODY)
+            return body, await answering.answer(body), True
+        except TooLong:
+            return body, answering.too_long(), False
+        except NoGzip as error:
+            return body, answering.refused("badRequest", f"the body is not gzip, as its Content-Encoding says: {error}"), True
+        except asyncio.TimeoutError:
+            return body, answering.refused("badRequest", f"the body did not come within {BODY_SECONDS:g} seconds"), False
+        except Exception:  # pylint: disable=broad-except
+            traceback.print_exc()
+            return body, answering.refused("internalError", "the gateway failed, and says why on standard error"), True
+
+    async def fitting(self, request: web.Request, answer: Answer) -> web.Response:
+        """The response with a long answer, compressed where the client takes that."""
+        if not accepts_gzip(request.headers.get(hdrs.ACCEPT_ENCODING, "")):
+            return lost_response(answer, headers=VARIES)
+        xml = packed(answer.xml) if len(answer.xml) <= LARGE else await in_a_thread(packed, answer.xml)
+        return lost_response(answer._replace(xml=xml), headers=PACKED)
 
     def note(self, request: web.Request, body: bytes, answer: Answer, seconds: float) -> None:
         """Counts a query, and writes it down."""
@@ -113,9 +146,9 @@ class Handler:
         """What is counted."""
         return web.Response(body=self.side.metrics.text(), headers={"Content-Type": self.side.metrics.media_type()})
 
-    async def refuse(self, _: web.Request) -> web.Response:
+    async def refuse(self, request: web.Request) -> web.Response:
         """The response to what is neither posted nor there to be looked at."""
-        return lost_response(self.side.answering.refused("badRequest", NOT_POSTED), 405, {"Allow": "POST"})
+        return lost_response(self.side.answering.refused("badRequest", NOT_POSTED.format(request.method)), 405, {"Allow": "POST"})
 
     async def stop(self, _: web.Application) -> None:
         """From now on each response is the last of its connection."""

@@ -111,23 +111,31 @@ class Server:
 
     def send(self, line: bytes) -> asyncio.Future[bytes]:
         """Sends a line over the connection on which the fewest lines wait; its reply."""
+        return self.send_all([line])[0]
+
+    def send_all(self, lines: List[bytes]) -> List[asyncio.Future[bytes]]:
+        """Sends lines one behind the other over the connection on which the fewest wait; their replies."""
         connection = self.connections[0]
         for other in self.connections:
             if len(other.waiting) < len(connection.waiting):
                 connection = other
-        future = connection.ask(line)
+        futures = [connection.ask(line) for line in lines]
         if connection.is_spent():
             self.lose(connection)
             connection.leave()
-        return future
+        return futures
 
     async def ask(self, line: bytes) -> bytes:
         """The reply to a line; Unanswered where there is none."""
+        return (await self.ask_all([line]))[0]
+
+    async def ask_all(self, lines: List[bytes]) -> List[bytes]:
+        """The replies to lines that are sent one behind the other over one connection; Unanswered where one has none."""
         if not self.connections:
             await self.try_to_open()
         if not self.connections:
             raise Closed(f"{self.address} closed the connection")
-        return await self.send(line)
+        return list(await asyncio.gather(*self.send_all(lines)))
 
     async def end(self) -> None:
         """Ends all connections."""
@@ -175,6 +183,17 @@ class Pool:
             raise why
         second = self.next_to(first, others)
         return Reply(await second.ask(line), second.label)
+
+    async def ask_burst(self, lines: List[bytes]) -> List[Reply]:
+        """The replies to lines of one burst on one connection, after one try at the next server where the first fails."""
+        first, *others = self.in_turn()
+        try:
+            return [Reply(line, first.label) for line in await first.ask_all(lines)]
+        except Unanswered as error:
+            if not others and not isinstance(error, Closed):
+                raise
+        second = self.next_to(first, others)
+        return [Reply(line, second.label) for line in await second.ask_all(lines)]
 
     def next_to(self, first: Server, others: List[Server]) -> Server:
         """The next server: one that is up, if there is one."""

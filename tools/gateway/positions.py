@@ -8,7 +8,9 @@ from decimal import Decimal
 from fractions import Fraction
 from typing import Callable, Dict, List, Optional, Tuple
 
-from gateway.vocabulary import DEGREE, GML, METRE, SHAPES, named
+from gateway.systems import is_longitude_first, system_named
+from gateway.vocabulary import DEGREE, GML, LATER_GML, METRE, SHAPES, local, named
+from gateway.wording import listed, shown
 from maptools.units import rounded_units
 
 Point = Tuple[int, int]
@@ -20,21 +22,31 @@ POSITION = re.compile(rb"[ \t\r\n]*(%b)[ \t\r\n]+(%b)[ \t\r\n]*" % (A_NUMBER, A_
 LENGTH = re.compile(rb"[0-9]{1,9}(?:\.[0-9]{0,30})?")
 WHITE_SPACE = " \t\r\n"
 SPACE = re.compile(r"[ \t\r\n]+")
-POS = named(GML, "pos")
+POS, POS_LIST = named(GML, "pos"), named(GML, "posList")
+EXTERIOR, INTERIOR, RING = named(GML, "exterior"), named(GML, "interior"), named(GML, "LinearRing")
+IN_LATER_GML = named(LATER_GML, "")
 DIGITS = 7
 EARTH_RADIUS = 6_371_008.8
 UNITS_A_DEGREE = 10_000_000
 
 
 class Unreadable(Exception):
-    """A shape that is no readable location."""
+    """Why a shape is no readable location: the element, what was found in it, and what is allowed."""
 
 
-def text_in(element: Optional[ElementTree.Element]) -> bytes:
+def text_in(element: ElementTree.Element) -> bytes:
     """The text of an element that has no elements in it. (Bytes are split at the spaces of ASCII alone.)"""
-    if element is None or len(element):
-        raise Unreadable("an element is missing, or has others in it")
+    if len(element):
+        raise Unreadable(f"{local(element.tag)} has the element {local(element[0].tag)} in it; only text is allowed there")
     return (element.text or "").encode()
+
+
+def only(parent: ElementTree.Element, tag: str) -> ElementTree.Element:
+    """The one element of a name in another."""
+    found = parent.find(tag)
+    if found is None:
+        raise Unreadable(f"{local(parent.tag)} has no element {local(tag)}")
+    return found
 
 
 def units_of(number: bytes) -> int:
@@ -45,33 +57,37 @@ def units_of(number: bytes) -> int:
     return rounded_units(Decimal(number.decode()))
 
 
-def numbers_of(element: Optional[ElementTree.Element]) -> List[int]:
+def numbers_of(element: ElementTree.Element) -> List[int]:
     """The numbers of degrees in an element, in whole units."""
     words = text_in(element).split()
-    if not all(map(NUMBER.fullmatch, words)):
-        raise Unreadable("a number is none of degrees")
+    for word in words:
+        if not NUMBER.fullmatch(word):
+            raise Unreadable(f"{local(element.tag)} has {shown(word.decode())}, which is no number of degrees, such as -73.988")
     return [units_of(word) for word in words]
 
 
-def position_of(element: Optional[ElementTree.Element]) -> Point:
+def position_of(element: ElementTree.Element) -> Point:
     """The latitude and the longitude of a gml:pos: just two numbers."""
     found = POSITION.fullmatch(text_in(element))
     if not found:
-        raise Unreadable("a position is not two numbers of degrees")
+        text = shown(element.text or "")
+        raise Unreadable(f"{local(element.tag)} is {text}; it must be two numbers of degrees without exponents, such as 40.861 -73.988")
     return units_of(found[1]), units_of(found[2])
 
 
 def place_of(shape: ElementTree.Element) -> Point:
     """The gml:pos of a point, a circle or an ellipse."""
-    return position_of(shape.find(POS))
+    return position_of(only(shape, POS))
 
 
 def measure_of(shape: ElementTree.Element, name: str, unit: str) -> float:
     """A length or an angle of a shape; metres and degrees alone are read."""
-    element = shape.find(named(SHAPES, name))
+    element = only(shape, named(SHAPES, name))
     words = text_in(element).split()
-    if len(words) != 1 or not LENGTH.fullmatch(words[0]) or element is None or element.get("uom") != unit:
-        raise Unreadable(f"{name} is not one number in {unit}")
+    if element.get("uom") != unit:
+        raise Unreadable(f"{name} has the uom {shown(element.get('uom') or '')}; it must be {unit}")
+    if len(words) != 1 or not LENGTH.fullmatch(words[0]):
+        raise Unreadable(f"{name} is {shown(element.text or '')}; it must be one number, at least 0 and without an exponent")
     return float(words[0])
 
 
@@ -96,20 +112,27 @@ def beyond(point: Point, metres: float, bearing: float) -> Point:
     return round(math.degrees(other) * UNITS_A_DEGREE), round(turned * UNITS_A_DEGREE)
 
 
-def ring_of(shape: ElementTree.Element) -> List[Point]:
-    """The positions of the exterior of a polygon: at least four, the last equal to the first."""
-    ring = shape.find(f"{named(GML, 'exterior')}/{named(GML, 'LinearRing')}")
-    if ring is None:
-        raise Unreadable("a polygon has no exterior ring")
-    listed = ring.find(named(GML, "posList"))
-    if listed is not None:
-        numbers = numbers_of(listed)
-        points = list(zip(numbers[::2], numbers[1::2])) if len(numbers) % 2 == 0 else []
+def ring_in(parent: ElementTree.Element) -> List[Point]:
+    """The positions of the ring of an exterior or an interior: at least four, the last equal to the first."""
+    ring = only(parent, RING)
+    listed_there = ring.find(POS_LIST)
+    if listed_there is not None:
+        numbers = numbers_of(listed_there)
+        if len(numbers) % 2:
+            raise Unreadable(f"posList has {len(numbers)} numbers; it must be pairs of latitude and longitude")
+        points = list(zip(numbers[::2], numbers[1::2]))
     else:
         points = [position_of(element) for element in ring.findall(POS)]
-    if len(points) < 4 or points[0] != points[-1]:
-        raise Unreadable("a ring is not closed, or too short")
+    if len(points) < 4:
+        raise Unreadable(f"a LinearRing has {len(points)} positions; it must have at least 4")
+    if points[0] != points[-1]:
+        raise Unreadable("the last position of a LinearRing is not its first; a ring must be closed")
     return points
+
+
+def ring_of(shape: ElementTree.Element) -> List[Point]:
+    """The positions of the exterior of a polygon."""
+    return ring_in(only(shape, EXTERIOR))
 
 
 def middle_of_polygon(shape: ElementTree.Element) -> Point:
@@ -137,17 +160,44 @@ CENTRES: Dict[str, Callable[[ElementTree.Element], Point]] = {
 
 
 def shape_of(location: ElementTree.Element) -> ElementTree.Element:
-    """The one shape of a location."""
+    """The one shape of a location; what is of the later edition of GML is renamed to the names of the earlier one."""
+    for child in location:
+        if child.tag.startswith(IN_LATER_GML) or child.tag in CENTRES:
+            rename_later(child)
     shapes = [child for child in location if child.tag == POINT or child.tag in CENTRES]
     if len(shapes) != 1:
-        raise Unreadable("a location is not one point, circle, ellipse, arc band or polygon")
+        found = listed(local(child.tag) for child in location) if len(location) else "no element"
+        raise Unreadable(f"it has {found}; it must have just one Point, {listed(map(local, CENTRES), 'or')}")
     return shapes[0]
 
 
+def rename_later(shape: ElementTree.Element) -> None:
+    """Gives the elements of GML 3.2 the names of GML 3.1.1."""
+    for element in shape.iter():
+        if element.tag.startswith(IN_LATER_GML):
+            element.tag = named(GML, local(element.tag))
+
+
 def system_of(shape: ElementTree.Element) -> Optional[str]:
-    """The reference system that a shape names, or else its position."""
-    system = shape.get("srsName")
-    if system is None:
-        position = shape.find(POS)
-        system = position.get("srsName") if position is not None else None
-    return system
+    """The reference system that a shape or an element in it names: as RFC 5222 spells it, where it is the one known.
+
+    Where the longitude comes first in it, the positions of the shape are turned.
+    """
+    spellings = {element.get("srsName", "").strip(WHITE_SPACE) for element in shape.iter() if "srsName" in element.keys()}
+    if not spellings:
+        return None
+    if len({(system_named(spelling), is_longitude_first(spelling)) for spelling in spellings}) > 1:
+        raise Unreadable(f"it names the reference systems {listed(map(shown, sorted(spellings)))}; it must name one")
+    spelling = min(spellings)
+    if is_longitude_first(spelling):
+        turn(shape)
+    return system_named(spelling)
+
+
+def turn(shape: ElementTree.Element) -> None:
+    """Puts the latitude first in each position of a shape; what is no pair stays, and is not readable."""
+    for element in shape.iter():
+        words = (element.text or "").encode().split() if element.tag in (POS, POS_LIST) else []
+        if words and len(words) % 2 == 0:
+            turned = [word.decode() for pair in zip(words[1::2], words[::2]) for word in pair]
+            element.text = " ".join(turned)

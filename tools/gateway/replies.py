@@ -7,16 +7,15 @@ mapping gets a name unless the operator wants none.
 from __future__ import annotations
 
 import re
-from typing import Any, Dict, List, NamedTuple, Optional
+from typing import Any, Dict, List, NamedTuple, Optional, Tuple
 
 from lxml import etree
 
-from gateway.services import Alias, told_as
+from gateway.services import Alias, Services
 from gateway.vocabulary import (
     BOUNDARY, CIVIC, CIVIC_ADDRESS, CIVIC_ORDER, FIND, GATEWAY, GEODETIC, GML, LOST, SERVICES, SERVICES_BY_LOCATION, TOKEN,
     WARNINGS, WGS84, XML_LANG, named,
 )  # fmt: skip
-from maptools.refusals import ERRORS as ERROR_TEXTS
 from maptools.refusals import WARNINGS as WARNING_TEXTS
 from maptools.units import degrees_of
 
@@ -31,22 +30,36 @@ PLACES = {name: place for place, name in enumerate(CIVIC_ORDER)}
 AREA_TEXT = "the location is an area; the answer is that of its centre"
 
 
+class OwnWarning(NamedTuple):
+    """A warning of the gateway itself: its name, its message, and what else it says in attributes."""
+
+    name: str
+    message: str
+    attributes: Tuple[Tuple[str, str], ...] = ()
+
+
+def centre_warning(shape: str) -> OwnWarning:
+    """An area was asked for by its centre."""
+    return OwnWarning("centreOfArea", AREA_TEXT, (("shape", shape),))
+
+
 class NoReply(Exception):
     """A line from behind is none of the replies that this gateway knows."""
 
 
 class Manner(NamedTuple):
-    """How replies are written: under whose name warnings and errors are, and whether names are made up."""
+    """How replies are written: under whose name warnings and errors are, what services are called, and whether names are made up."""
 
     source: str
+    services: Services
     makes_up_names: bool = True
 
 
 class Asked(NamedTuple):
-    """What a reply must know of its request: the alias of the service, and the area that was asked for by its centre."""
+    """What a reply must know of its request: the alias of its service, and the gateway's own warning."""
 
     alias: Optional[Alias] = None
-    area: Optional[str] = None
+    warning: Optional[OwnWarning] = None
 
 
 def add(parent: Any, name: str, text: Optional[str] = None, **attributes: str) -> Any:
@@ -114,12 +127,12 @@ def add_regions(parent: Any, regions: List[Dict[str, Any]]) -> None:
             raise NoReply(f"a region is of the profile {region['profile']!r}")
 
 
-def add_mapping(root: Any, mapping: Dict[str, Any], alias: Optional[Alias], makes_up_names: bool) -> None:
+def add_mapping(root: Any, mapping: Dict[str, Any], alias: Optional[Alias], manner: Manner) -> None:
     """A mapping."""
     attributes = {name: mapping[name] for name in ("expires", "lastUpdated", "source", "sourceId")}
     element = add(root, "mapping", **attributes)
-    add_names(element, mapping, makes_up_names)
-    add(element, "service", told_as(mapping["service"], alias))
+    add_names(element, mapping, manner.makes_up_names)
+    add(element, "service", manner.services.told(mapping["service"], alias))
     add_regions(element, mapping.get("serviceBoundary", []))
     if "serviceBoundaryReference" in mapping:
         reference = mapping["serviceBoundaryReference"]
@@ -153,18 +166,18 @@ def add_validation(root: Any, validation: Dict[str, List[str]]) -> None:
         add(element, kind, " ".join(qualified(name, prefixes) for name in validation[kind]))
 
 
-def add_warnings(root: Any, names: List[str], area: Optional[str], source: str) -> None:
-    """The warnings of a reply, and this gateway's own, where an area was asked for by its centre."""
-    if not names and area is None:
+def add_warnings(root: Any, names: List[str], own: Optional[OwnWarning], source: str) -> None:
+    """The warnings of a reply, and this gateway's own."""
+    if not names and own is None:
         return
     element = add(root, "warnings", source=source)
     for name in names:
         if name not in WARNINGS:
             raise NoReply(f"the warning {name!r} is unknown")
         add_message(add(element, name), WARNING_TEXTS[name])
-    if area is not None:
-        own = etree.SubElement(element, named(GATEWAY, "centreOfArea"), {"shape": area}, nsmap={"gw": GATEWAY})
-        add_message(own, AREA_TEXT)
+    if own is not None:
+        warning = etree.SubElement(element, named(GATEWAY, own.name), dict(own.attributes), nsmap={"gw": GATEWAY})
+        add_message(warning, own.message)
 
 
 def add_path(root: Any, path: List[str]) -> None:
@@ -178,13 +191,13 @@ def add_content(root: Any, kind: str, value: Dict[str, Any], asked: Asked, manne
     """What a response says before its warnings, its path and its locationUsed."""
     if kind == FIND:
         for mapping in value["mapping"]:
-            add_mapping(root, mapping, asked.alias, manner.makes_up_names)
+            add_mapping(root, mapping, asked.alias, manner)
         if "locationValidation" in value:
             add_validation(root, value["locationValidation"])
     elif kind == BOUNDARY:
         add_regions(root, value["serviceBoundary"])
     else:
-        add(root, "serviceList", " ".join(told_as(service, asked.alias) for service in value["serviceList"]))
+        add(root, "serviceList", " ".join(manner.services.told(service, asked.alias) for service in value["serviceList"]))
 
 
 def response(name: str, value: Dict[str, Any], asked: Asked, manner: Manner) -> Any:
@@ -193,7 +206,7 @@ def response(name: str, value: Dict[str, Any], asked: Asked, manner: Manner) -> 
     root = etree.Element(IN_LOST + name, nsmap={None: LOST})
     add_content(root, kind, value, asked, manner)
     is_located = kind in (FIND, SERVICES_BY_LOCATION)
-    add_warnings(root, value.get("warnings", []), asked.area if is_located else None, manner.source)
+    add_warnings(root, value.get("warnings", []), asked.warning if is_located else None, manner.source)
     add_path(root, value["path"])
     if is_located:
         add(root, "locationUsed", id=value["locationUsed"])
@@ -203,6 +216,7 @@ def response(name: str, value: Dict[str, Any], asked: Asked, manner: Manner) -> 
 def errors(name: str, text: str, source: str) -> Any:
     """The outermost element of an error."""
     root = etree.Element(IN_LOST + "errors", {"source": source}, nsmap={None: LOST})
+    text = UNWRITABLE.sub(REPLACEMENT, text)
     add_message(add(root, name), text)
     return root
 
@@ -222,9 +236,7 @@ def writable(value: Any) -> Any:
 
 
 def reply(name: str, value: Dict[str, Any], asked: Asked, manner: Manner) -> Any:
-    """The outermost element of a reply of the server behind; NoReply where it is none that this gateway knows."""
-    if name == "errors" and value.get("error") in ERROR_TEXTS:
-        return errors(value["error"], ERROR_TEXTS[value["error"]], manner.source)
+    """The outermost element of a response of the server behind; NoReply where it is none that this gateway knows."""
     if name not in RESPONSES:
         raise NoReply(f"the reply {name!r} is unknown")
     try:

@@ -4,6 +4,7 @@ from __future__ import annotations
 import argparse
 import asyncio
 import gc
+import logging
 import os
 import resource
 import signal
@@ -11,11 +12,11 @@ import sys
 from typing import Dict
 
 from aiohttp import web
+from aiohttp.http_exceptions import HttpProcessingError
 
-from gateway import requests
-from gateway.answering import Answering, Manner
 from gateway.http_side import Handler, Side, application
 from gateway.journal import Journal
+from gateway.making import answering_of
 from gateway.metrics import Metrics
 from gateway.pool import Pool
 from gateway.processes import Place, Work
@@ -26,6 +27,24 @@ TELL_AGAIN = 0.25
 LOOK_FOR_CIRCLES = 20_000
 KEEP_ALIVE = 75.0
 LARGEST_KEPT = 1 << 20
+
+
+class OneLine(logging.Handler):
+    """Says in one line what aiohttp and asyncio log with a traceback; and nothing of what is no HTTP, which its sender is told."""
+
+    def emit(self, record: logging.LogRecord) -> None:
+        error = record.exc_info[1] if record.exc_info else None
+        if not isinstance(error, HttpProcessingError):
+            text = record.getMessage().partition("\n")[0]
+            print(f"lost-gateway: {text}{f' {error!r}' if error else ''}", file=sys.stderr, flush=True)
+
+
+def log_in_lines() -> None:
+    """Has the libraries log in lines."""
+    for name in ("aiohttp", "asyncio"):
+        logger = logging.getLogger(name)
+        logger.addHandler(OneLine(logging.WARNING))
+        logger.propagate = False
 
 
 def allow_many_files() -> None:
@@ -43,9 +62,7 @@ def keep_memory() -> None:
 def side_of(options: argparse.Namespace) -> Side:
     """What the HTTP side works with, as the command line says."""
     pool = Pool(options.lostd, options.pool, options.timeout)
-    reading = requests.Manner(options.area == "centre", options.alias)
-    answering = Answering(pool, Manner(reading, not options.no_made_up_names, options.name))
-    return Side(answering, Metrics(), Journal(options.log) if options.log else None)
+    return Side(answering_of(options, pool), Metrics(), Journal(options.log) if options.log else None)
 
 
 async def tell_often(side: Side, speaks: bool) -> None:
@@ -88,6 +105,7 @@ async def listen(handler: Handler, place: Place, patience: float) -> None:
 
 async def serve(options: argparse.Namespace, place: Place) -> None:
     """Serves a socket until the process is told to end."""
+    log_in_lines()
     allow_many_files()
     side = side_of(options)
     pool = side.answering.pool

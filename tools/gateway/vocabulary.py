@@ -5,6 +5,8 @@ MEDIA_TYPE = "application/lost+xml"
 
 LOST = "urn:ietf:params:xml:ns:lost1"
 GML = "http://www.opengis.net/gml"
+# Its later edition, which is read as the one that RFC 5222 names.
+LATER_GML = "http://www.opengis.net/gml/3.2"
 SHAPES = "http://www.opengis.net/pidflo/1.0"
 CIVIC_ADDRESS = "urn:ietf:params:xml:ns:pidf:geopriv10:civicAddr"
 # Own: what this gateway says beside the standard, and tokens.
@@ -29,3 +31,8 @@ CIVIC_ORDER = (
 def named(space: str, name: str) -> str:
     """A name of a namespace, as both XML libraries write it."""
     return f"{{{space}}}{name}"
+
+
+def local(tag: str) -> str:
+    """A name without its namespace."""
+    return tag.rpartition("}")[2]

@@ -94,6 +94,8 @@ PRINTED: Dict[str, Dict[str, List[str]]] = {
         "--speed": [
             "one process: 0.55 of the answers a second of a fixed body (3357 and 6103)", "four processes: 0.51 of those of four with a fixed body",
             "four processes: 2.9 times one", *[f"99 of a hundred answers within {span} ms: {name}, 32 connections" for name, span in (("fixed", 8.0), ("one", 15.0), ("four", 7.0))],
+            *[f"99 of a hundred answers within {span} ms: {name}, 200 connections" for name, span in (("fixed", 30.0), ("one", 42.0))],
+            "200 connections: 1.40 times as long as with a fixed body, 0.72 of its answers a second",
             "ok: a check (90.0 s)", "0 failed",
         ],
     },

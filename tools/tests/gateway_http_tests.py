@@ -11,6 +11,7 @@ import tempfile
 import threading
 import time
 import unittest
+import zlib
 from types import SimpleNamespace
 from typing import Any, Dict, List, Tuple
 
@@ -75,7 +76,7 @@ class Http(unittest.TestCase):
         cls.server = StandIn(echo)
         cls.folder = tempfile.TemporaryDirectory()
         cls.log = f"{cls.folder.name}/queries.jsonl"
-        cls.gateway = Gateway(cls.server.address, "--log", cls.log)
+        cls.gateway = Gateway(cls.server.address, "--log", cls.log, "--area", "centre")
 
     @classmethod
     def tearDownClass(cls) -> None:
@@ -104,12 +105,44 @@ class Http(unittest.TestCase):
     def test_other_types_and_methods(self) -> None:
         for kind in ("text/xml", "application/json", "text/plain", ""):
             self.check(self.ask("POST", "/", QUESTION, Content_Type=kind), 415, "badRequest")
-        packed = gzip.compress(QUESTION.encode())
-        self.check(self.ask("POST", "/", packed, Content_Type=MEDIA_TYPE, Content_Encoding="gzip"), 415, "badRequest")
+        for encoding in ("deflate", "br", "gzip, gzip"):
+            answer = self.ask("POST", "/", QUESTION, Content_Type=MEDIA_TYPE, Content_Encoding=encoding)
+            self.check(answer, 415, "badRequest")
+            self.assertEqual(answer.headers["accept-encoding"], "gzip")
         for method in ("GET", "PUT", "DELETE", "OPTIONS"):
             answer = self.ask(method, "/lost")
             self.check(answer, 405, "badRequest")
             self.assertEqual(answer.headers["allow"], "POST")
+
+    def test_bodies_that_are_compressed(self) -> None:
+        for encoding in ("gzip", "x-gzip", " GZIP "):
+            packed = gzip.compress(QUESTION.encode())
+            self.check(self.ask("POST", "/", packed, Content_Type=MEDIA_TYPE, Content_Encoding=encoding), 200, "listServicesResponse")
+        for body in (packed[:-1], packed + b"x", QUESTION.encode(), packed[:-8] + b"\0" * 8):
+            self.check(self.ask("POST", "/", body, Content_Type=MEDIA_TYPE, Content_Encoding="gzip"), 200, "badRequest")
+        parts = gzip.compress(QUESTION[:30].encode()) + gzip.compress(QUESTION[30:].encode())
+        self.check(self.ask("POST", "/", parts, Content_Type=MEDIA_TYPE, Content_Encoding="gzip"), 200, "listServicesResponse")
+        self.check(self.ask("POST", "/", QUESTION, Content_Type=MEDIA_TYPE, Content_Encoding="identity"), 200, "listServicesResponse")
+
+    def test_what_is_compressed_is_bounded_as_it_was_before(self) -> None:
+        for size, outcome in ((1_048_576, "listServicesResponse"), (1_048_577, "badRequest"), (500_000_000, "badRequest")):
+            packer = zlib.compressobj(9, zlib.DEFLATED, 31)
+            packed = packer.compress(QUESTION.encode()) + packer.compress(b" " * (size - len(QUESTION))) + packer.flush()
+            begun = time.monotonic()
+            self.check(self.ask("POST", "/", packed, Content_Type=MEDIA_TYPE, Content_Encoding="gzip"), 200, outcome)
+            self.assertLess(time.monotonic() - begun, 2)
+
+    def test_long_replies_are_compressed_for_clients_that_take_it(self) -> None:
+        long, short = LIST.format("a." * 450 + "b"), LIST.format("a." * 350 + "b")
+        for accepted, is_taken in (("gzip", True), ("deflate, gzip;q=0.5", True), ("*", True), ("x-gzip", True), ("", False),
+                                   ("br", False), ("gzip;q=0", False), ("gzip; q=0.0, *", False), ("identity", False)):  # fmt: skip
+            for body, is_packed in ((long, is_taken), (short, False)):
+                answer = self.ask("POST", "/", body, Content_Type=MEDIA_TYPE, Accept_Encoding=accepted)
+                self.assertEqual(answer.headers.get("content-encoding"), "gzip" if is_packed else None, accepted)
+                self.assertEqual(answer.headers.get("vary"), "Accept-Encoding" if body is long else None)
+                plain = gzip.decompress(answer.body) if is_packed else answer.body
+                self.assertEqual(len(plain) >= 1024, body is long)
+                self.check(answer._replace(body=plain), 200, "listServicesResponse")
 
     def test_one_connection_for_many_questions(self) -> None:
         connection = self.gateway.connect()
@@ -148,8 +181,15 @@ class Http(unittest.TestCase):
             self.assertIn(b"<badRequest ", got)
 
     def test_no_http(self) -> None:
-        self.assertIn(b"400 Bad Request", raw(self.gateway.port, b"\x16\x03\x01 hello\r\n\r\n"))
-        self.check(self.ask("POST", "/", QUESTION, Content_Type=MEDIA_TYPE), 200, "listServicesResponse")
+        preface = b"PRI * HTTP/2.0\r\n\r\nSM\r\n\r\n\0\0\x12\x04\0\0\0\0\0"
+        with Gateway(self.server.address) as gateway:
+            for given in (b"\x16\x03\x01 hello\r\n\r\n", preface, b"POST / HTTP/1.1\r\nContent-Length: x\r\n\r\n"):
+                self.assertIn(b"400 Bad Request", raw(gateway.port, given))
+            self.assertEqual(gateway.post(QUESTION).outcome(), "listServicesResponse")
+            raw(gateway.port, b"GET http://[x HTTP/1.1\r\nHost: x\r\n\r\n")
+            status, said = gateway.end()
+        self.assertEqual(status, 0)
+        self.assertRegex(said.decode(), r"\A(lost-gateway: [^\n]*\n)?\Z")
 
     def test_health_and_metrics(self) -> None:
         health = self.ask("GET", "/health")

@@ -2,16 +2,12 @@
 from __future__ import annotations
 
 import json
-import shutil
-import subprocess
-import tempfile
 import unittest
 import xml.etree.ElementTree as ElementTree
 from typing import Any, Dict
 from xml.sax.saxutils import quoteattr
 
 from tests.gateway_running import NOT_FOUND, Answer, Case, Gateway, StandIn, canonical, cases, has_packages, invalid_of
-from tests.running import TOOLS
 
 POINT = """<findService xmlns="urn:ietf:params:xml:ns:lost1"><location id="p" profile="geodetic-2d">
 <gml:Point xmlns:gml="http://www.opengis.net/gml"><gml:pos>1 2</gml:pos></gml:Point></location>
@@ -117,8 +113,31 @@ class Messages(unittest.TestCase):
         answer = self.answer(gateway, asked, json.dumps(reply).encode())
         self.assertIn(b"<serviceList>urn:emergency:service:sos.a urn:emergency:service:sos.b</serviceList>", answer.body)
 
+    def test_the_table_of_nena(self) -> None:
+        gateway = self.gateway("--alias", "nena", "--alias", "urn:nena:service:responder.fire=urn:service:fire")
+        space = "urn:nena:service:"
+        for asked, behind, told, front in (
+            (f"{space}responder.police", "urn:service:sos.police", "urn:service:sos.police", f"{space}responder.police"),
+            (f"{space}responder.police", "urn:service:sos.police", "urn:service:sos", f"{space}sos"),
+            (f"{space}sos.psap", "urn:service:sos", "urn:service:sos", f"{space}sos.psap"),
+            (f"{space}sos.call_taker", "urn:service:sos.call-taker", "urn:service:sos", f"{space}sos"),
+            (f"{space}sos.police", "urn:service:sos.police", "urn:service:sos.police", f"{space}sos.police"),
+            ("URN:EMERGENCY:service:Responder.Ems.Local", "urn:service:sos.ambulance.local", "urn:service:sos.ambulance",
+             "urn:emergency:service:responder.ems"),
+            (f"{space}responder.police.countyParish.x", "urn:service:sos.police.countyparish.x",
+             "urn:service:sos.police.countyparish", f"{space}responder.police.countyParish"),
+            # One that is given goes before the table.
+            (f"{space}responder.fire", "urn:service:fire", "urn:service:fire", f"{space}responder.fire"),
+            (f"{space}responder.firearms", "urn:service:sos.firearms", "urn:service:sos", f"{space}responder"),
+        ):  # fmt: skip
+            answer = self.answer(gateway, POINT.format(service=asked), json.dumps(found(told)).encode())
+            self.assertEqual(json.loads(self.server.got[0])["findService"]["service"], behind)
+            self.assertIn(f"<service>{front}</service>".encode(), answer.body)
+        self.answer(gateway, POINT.format(service=f"{space}sos.police_x"))
+        self.assertIn("listServicesByLocation", json.loads(self.server.got[0]))
+
     def test_the_same_reply_again_names_the_location_of_each_request(self) -> None:
-        gateway = self.gateway("--alias", "urn:x:=urn:service:")
+        gateway = self.gateway("--alias", "urn:x:=urn:service:", "--area", "centre")
         reply = found("urn:service:sos.police")
         circle = POINT.replace("gml:Point", "gs:Circle").replace("xmlns:gml", 'xmlns:gs="http://www.opengis.net/pidflo/1.0" xmlns:gml')
         circle = circle.replace("<gml:pos", '<gml:pos xmlns:gml="http://www.opengis.net/gml"')
@@ -141,14 +160,3 @@ class Messages(unittest.TestCase):
         wrong = invalid_of(Gateway.seen)
         if wrong:
             raise AssertionError(f"not valid by lost.rng: {wrong}")
-
-
-class Schema(unittest.TestCase):
-    """The schema in its two spellings."""
-
-    @unittest.skipUnless(shutil.which("trang"), "trang is not there")
-    def test_both_spellings_are_the_same(self) -> None:
-        with tempfile.TemporaryDirectory() as folder:
-            subprocess.run(["trang", f"{TOOLS}/gateway/lost.rnc", f"{folder}/lost.rng"], check=True, timeout=60)
-            with open(f"{folder}/lost.rng", "rb") as made, open(f"{TOOLS}/gateway/lost.rng", "rb") as kept:
-                self.assertEqual(canonical(made.read()), canonical(kept.read()))

@@ -141,7 +141,7 @@ class Places(unittest.TestCase):
         mapping = {**mapping, "source": "map.example", "sourceId": "A", "uri": ["sip:a@map.example"]}
         found = json.dumps({"findServiceResponse": {**reply, "mapping": [mapping], "warnings": ["serviceSubstitution"]}})
         self.server.replier = lambda line: found.encode()
-        with Gateway(self.server.address) as gateway:
+        with Gateway(self.server.address, "--area", "centre") as gateway:
             square = polygon(["0 1", "0 3", "2 3", "2 1", "0 1"])
             for shape in (circle("1 2"), ellipse("1 2"), band("1 2", "0", "0", "0", "0"), square):
                 self.assertEqual(self.asked(gateway, shape), [10000000, 20000000])

@@ -33,6 +33,11 @@ def has_packages() -> bool:
     return os.access(PYTHON, os.X_OK) and subprocess.run([PYTHON, "-c", MODULES], capture_output=True).returncode == 0
 
 
+def has_shapely() -> bool:
+    """Whether Debian's Python has what the gateway needs for areas."""
+    return os.access(PYTHON, os.X_OK) and subprocess.run([PYTHON, "-c", "import shapely.geometry"], capture_output=True).returncode == 0
+
+
 class StandIn:
     """Listens as lostd does for queries. It answers the gateway's own question, unless told to answer nothing."""
 
@@ -208,20 +213,26 @@ def cases(name: str) -> List[Case]:
     return table
 
 
+OWN_SCHEMA, STANDARD_SCHEMA = f"{TOOLS}/gateway/lost.rng", f"{CASES}/gateway/standard.rng"
 VALIDATE = """
 import json, sys
 from lxml import etree
-schema = etree.RelaxNG(etree.parse(sys.argv[1]))
-for text in json.load(sys.stdin):
-    document = etree.fromstring(text.encode())
-    if not schema.validate(document):
-        print(text, schema.error_log.last_error)
+schemas = [(path, etree.RelaxNG(etree.parse(path))) for path in sys.argv[1:]]
+for number, text in enumerate(json.load(sys.stdin)):
+    try:
+        document = etree.fromstring(text.encode())
+    except etree.XMLSyntaxError as error:
+        print(number, error)
+        continue
+    for path, schema in schemas:
+        if not schema.validate(document):
+            print(number, path, schema.error_log.last_error, text[:2000].replace("\\n", " "))
 """
 
 
-def invalid_of(documents: List[bytes]) -> str:
-    """What is not valid by lost.rng; empty where all documents are."""
-    command = [PYTHON, "-c", VALIDATE, f"{TOOLS}/gateway/lost.rng"]
+def invalid_of(documents: List[bytes], *schemas: str) -> str:
+    """What is not valid by the schemas: without any, by lost.rng and by that of RFC 5222; empty where all documents are."""
+    command = [PYTHON, "-c", VALIDATE, *(schemas or (OWN_SCHEMA, STANDARD_SCHEMA))]
     given = json.dumps([document.decode() for document in documents]).encode()
     ran = subprocess.run(command, input=given, capture_output=True, timeout=60, check=True)
     return ran.stdout.decode()
