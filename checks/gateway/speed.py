@@ -112,8 +112,7 @@ def middle(rounds, other=None, part=0):
 
 
 def speed(program):
-    """one process gives at least 0.7 of the answers a second that the same HTTP server gives with a fixed body, and 99 of a
-    hundred answers at 200 connections take at most 1.5 times as long"""
+    """one process gives 0.7 of the answers a second of a fixed body, and 99 of a hundred answers take at most 1.5 times as long"""
     with Server(program, 16, 1000) as server:
         server.desk().ask_all(calls.MAP)
         one, four = Gateway([server.queries]), Gateway([server.queries], "--processes", "4")

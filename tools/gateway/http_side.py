@@ -4,7 +4,7 @@ from __future__ import annotations
 import asyncio
 import time
 import traceback
-from typing import Dict, NamedTuple, Optional, Tuple
+from typing import Dict, NamedTuple, Optional, Tuple, Type
 
 from aiohttp import hdrs, web
 from multidict import CIMultiDict, istr
@@ -27,6 +27,23 @@ NOT_READ = "the Content-Encoding is {}; it must be gzip, or none"
 PLAIN = "identity"
 VARIES = {hdrs.VARY: hdrs.ACCEPT_ENCODING}
 PACKED = {**VARIES, hdrs.CONTENT_ENCODING: GZIP}
+
+
+class AtOnce(web.Response):
+    """A response whose head and body go out in one piece. (aiohttp writes one after the other, and each takes the system long.)"""
+
+    head = b""
+
+    async def _write_headers(self) -> None:
+        """Keeps the head until the body is written."""
+        assert self._req is not None
+        major, minor = self._req.version
+        fields = "".join(f"{name}: {value}\r\n" for name, value in self.headers.items())
+        self.head = f"HTTP/{major}.{minor} {self.status} {self.reason}\r\n{fields}\r\n".encode()
+
+    async def write_eof(self, data: bytes = b"") -> None:
+        """Writes both."""
+        await web.StreamResponse.write_eof(self, self.head + bytes(self.body or b"") + data)
 
 
 class Side(NamedTuple):
@@ -96,7 +113,7 @@ class Handler:
             return lost_response(self.side.answering.refused("badRequest", why), 415, {hdrs.ACCEPT_ENCODING: GZIP})
         body, answer, is_whole = await self.answer(request, encoding)
         self.note(request, body, answer, time.monotonic() - begun)
-        response = lost_response(answer) if len(answer.xml) < LEAST_PACKED else await self.fitting(request, answer)
+        response = lost_response(answer, made=AtOnce) if len(answer.xml) < LEAST_PACKED else await self.fitting(request, answer)
         if self.is_stopping or not is_whole:
             response.force_close()
         return response
@@ -166,11 +183,13 @@ def application(handler: Handler) -> web.Application:
     return made
 
 
-def lost_response(answer: Answer, status: int = 200, headers: Optional[Dict[str, str]] = None) -> web.Response:
+def lost_response(
+    answer: Answer, status: int = 200, headers: Optional[Dict[str, str]] = None, made: Type[web.Response] = web.Response
+) -> web.Response:
     """A response whose body is XML of LoST; 200 for errors of LoST too."""
     fields = CIMultiDict(((hdrs.CONTENT_TYPE, MEDIA_TYPE),))
     if headers:
         fields.update(headers)
     if answer.edition is not None:
         fields[EDITION] = str(answer.edition)
-    return web.Response(body=answer.xml, status=status, headers=fields)
+    return made(body=answer.xml, status=status, headers=fields)
