@@ -8,6 +8,7 @@ from xml.sax.saxutils import escape, quoteattr
 LOST = "{urn:ietf:params:xml:ns:lost1}"
 GML = "{http://www.opengis.net/gml}"
 CIVIC = "{urn:ietf:params:xml:ns:pidf:geopriv10:civicAddr}"
+TOKEN = "{urn:x-lostd:gateway}token"
 LANG = "{http://www.w3.org/XML/1998/namespace}lang"
 SPACES = (
     'xmlns="urn:ietf:params:xml:ns:lost1" xmlns:gml="http://www.opengis.net/gml" '
@@ -26,6 +27,7 @@ FOREIGN = {
 
 MOST_LOCATIONS, MOST_SERVERS = 8, 32
 KNOWN_SYSTEM = "urn:ogc:def:crs:EPSG::4326"
+SAID = ("location", "service", "path", "validateLocation", "serviceBoundary", "key")
 KNOWN_PROFILES = ("geodetic-2d", "civic", "x-token")
 LABEL = "[a-z0-9]([a-z0-9-]{0,61}[a-z0-9])?"
 SERVICE = re.compile(rf"urn:service:{LABEL}(\.{LABEL}){{0,7}}", re.IGNORECASE | re.ASCII)
@@ -112,13 +114,19 @@ class Sent(NamedTuple):
     earlier: list
 
 
+def said_by(item):
+    """The members of a location that a document says of it: those of its profile."""
+    return [name for name in {"geodetic-2d": ("pos", "srsName"), "civic": ("address",)}.get(item["profile"], ()) if item.get(name) is not None]
+
+
 def sent_locations(locations):
     """The locations that go out; None where two are of one profile, or none is there."""
     profiles = [item["profile"] for item in locations]
     if not locations or len(set(profiles)) < len(profiles):
         return None
-    known = [{**item} for item in locations if item["profile"] in KNOWN_PROFILES]
-    chosen = (known or locations[:1]) if len(locations) > MOST_LOCATIONS else [{**item} for item in locations]
+    items = [{name: item[name] for name in ("id", "profile", *said_by(item))} for item in locations]
+    known = [item for item in items if item["profile"] in KNOWN_PROFILES]
+    chosen = (known or items[:1]) if len(items) > MOST_LOCATIONS else items
     for item in chosen:
         if str(item.get("srsName")).lower() == KNOWN_SYSTEM.lower():
             item["srsName"] = KNOWN_SYSTEM
@@ -128,7 +136,7 @@ def sent_locations(locations):
 def as_sent(line, name):
     """What goes out for a request line that a document says, to a server of this name; None where it is a bad request before."""
     ((kind, given),) = line.items()
-    members = {key: value for key, value in given.items() if value is not None}
+    members = {key: value for key, value in given.items() if value is not None and key in SAID}
     if kind == "findService" and members.get("serviceBoundary", "value") not in ("reference", "value"):
         return None
     if kind in ("findService", "listServicesByLocation"):
@@ -169,6 +177,8 @@ def region(boundary):
         ring = boundary.find(f"{GML}Polygon/{GML}exterior/{GML}LinearRing")
         points = [[int(Decimal(word).scaleb(7)) for word in (pos.text or "").split()] for pos in ring.findall(f"{GML}pos")]
         return {"polygon": points, "profile": profile}
+    if profile == "x-token":
+        return {"profile": profile, "tokens": [token.text or "" for token in boundary.findall(TOKEN)]}
     address = boundary.find(f"{CIVIC}civicAddress")
     return {"pattern": {element.tag.replace(CIVIC, ""): element.text or "" for element in address}, "profile": profile}
 
