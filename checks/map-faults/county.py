@@ -30,10 +30,11 @@ class County:
         return tuple(self.near(origin[axis] + place * self.size, 0.12) for axis, place in ((0, row), (1, column)))
 
     def border(self, begin, end):
-        """The positions between two corners, and these: each is a little off the line."""
+        """The positions between two corners, and these: each is a little off the line, and by less where they are closer."""
         (lat0, lon0), (lat1, lon1) = self.corners[begin], self.corners[end]
+        off = 0.18 / self.steps
         shares = [step / self.steps for step in range(1, self.steps)]
-        between = [(self.near(lat0 + share * (lat1 - lat0), 0.03), self.near(lon0 + share * (lon1 - lon0), 0.03)) for share in shares]
+        between = [(self.near(lat0 + share * (lat1 - lat0), off), self.near(lon0 + share * (lon1 - lon0), off)) for share in shares]
         return [(lat0, lon0), *((round(lat), round(lon)) for lat, lon in between), (lat1, lon1)]
 
     def way(self, begin, end):
