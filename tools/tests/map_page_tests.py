@@ -13,6 +13,7 @@ from typing import Any, Dict, List, Optional, Tuple
 
 from maptools.page import LEAFLET
 from tests.browser import Browser, browser
+from tests.map_checking import has_shapely
 from tests.running import found_in, lostd, question, replay, run_tool, start_tool
 from tests.server import FREE, Server, ask, has_maps, unix
 
@@ -317,6 +318,15 @@ class Page(InBrowser):
         self.compare(seen)
         self.page.run("document.querySelectorAll('#findings button')[1].click()")
         self.assertIn("sip:fire@map.example", self.page.text("#answer"))
+        self.assertEqual(self.page.faults(), [])
+
+    def test_a_finding_that_is_a_point_is_a_dot(self) -> None:
+        if not has_shapely():
+            self.skipTest("map-check needs python3-shapely")
+        bow = [[0, 0], [HIGH, HIGH], [HIGH, 0], [0, HIGH], [0, 0]]
+        self.open(json.dumps({"publish": mapping("bow", POLICE, bow)}) + '\n{"commit":{}}\n', "--title", "A bow tie")
+        self.assertIn("crosses itself", self.page.text("#findings"))
+        self.assertEqual(self.page.run("document.querySelectorAll('#map img').length"), 0)
         self.assertEqual(self.page.faults(), [])
 
     def test_texts_of_the_map_are_never_markup(self) -> None:

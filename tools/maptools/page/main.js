@@ -10,6 +10,11 @@ function boundsOf(box) {
   return L.latLngBounds([box.south / 1e7, box.west / 1e7], [box.north / 1e7, box.east / 1e7]);
 }
 
+/** A single point of a finding's geometry: a small dot, since Leaflet's own marker is a picture that the page does not have. */
+function dot(_feature, place) {
+  return L.circleMarker(place, { radius: 3 });
+}
+
 /** What is fetched from the server behind the page; an Error with its text where it gives none. */
 async function fetched(path) {
   const reply = await fetch(path, { cache: "no-store" });
@@ -196,7 +201,7 @@ class Page {
     for (const finding of this.view.map.findings || []) {
       const color = SEVERITY_COLORS[finding.severity] || SEVERITY_COLORS.note;
       if (finding.geometry) {
-        L.geoJSON(finding.geometry, { interactive: false, style: { color, weight: 2, fillOpacity: 0.5 } }).addTo(this.faults);
+        L.geoJSON(finding.geometry, { interactive: false, style: { color, weight: 2, fillOpacity: 0.5 }, pointToLayer: dot }).addTo(this.faults);
       }
       if (finding.point) {
         L.circleMarker(finding.point, { radius: 7, color, weight: 3, fillColor: "#fff", fillOpacity: 0.8, bubblingMouseEvents: true })
@@ -217,7 +222,7 @@ class Page {
       return this.visitMapping(finding.identities[0]);
     }
     const [latitude, longitude] = finding.point.map((degrees) => Math.round(degrees * 1e7));
-    const bounds = finding.geometry ? L.geoJSON(finding.geometry).getBounds() : L.latLngBounds([finding.point]);
+    const bounds = finding.geometry ? L.geoJSON(finding.geometry, { pointToLayer: dot }).getBounds() : L.latLngBounds([finding.point]);
     const zoom = finding.geometry ? Math.min(this.leaflet.getBoundsZoom(bounds) - 1, MOST_ZOOM) : CLOSE_ZOOM;
     this.leaflet.setView(finding.point, zoom, { animate: false });
     return this.askAt({ lat: latitude / 1e7, lng: longitude / 1e7 });
