@@ -43,7 +43,7 @@ class Line(NamedTuple):
 
 def pages() -> List[str]:
     """The pages."""
-    return ["README.md", "CONTRIBUTING.md", *sorted(os.path.relpath(path, TOP) for path in glob.glob(f"{TOP}/docs/*.md"))]
+    return ["README.md", "CONTRIBUTING.md", "CHANGELOG.md", *sorted(os.path.relpath(path, TOP) for path in glob.glob(f"{TOP}/docs/*.md"))]
 
 
 def read(path: str) -> str:
