@@ -1,0 +1,4 @@
+pub mod Clauses
+pub mod Crew
+pub mod Run
+pub mod Law
