@@ -50,10 +50,10 @@ def districts(dice):
     return found
 
 
-def publish(name, rings):
+def publish(name, rings, service=SERVICE):
     """A desk line with a district."""
     parts = {"source": "map.example", "sourceId": name, "key": f"{name}-1", "lastUpdated": "2025-12-01T00:00:00Z"}
-    parts |= {"expires": "NO-CACHE", "service": SERVICE, "uri": [f"sip:{name}@map.example"]}
+    parts |= {"expires": "NO-CACHE", "service": service, "uri": [f"sip:{name}@map.example"]}
     parts["serviceBoundary"] = [{"profile": "geodetic-2d", "polygon": ring} for ring in rings]
     return json.dumps({"publish": parts}).encode()
 
@@ -96,7 +96,7 @@ def measures(area):
     return radii + angles
 
 
-def request(area):
+def request(area, service=SERVICE):
     """A document that asks for an area."""
     if area["kind"] == "Polygon":
         listed = " ".join(f"{north:.7f} {east:.7f}" for north, east in area["ring"])
@@ -106,21 +106,21 @@ def request(area):
         position = f"<gml:pos>{area['centre'][0]:.7f} {area['centre'][1]:.7f}</gml:pos>"
         shape = f"<gs:{area['kind']}>{position}{measures(area)}</gs:{area['kind']}>"
     place = f'<location id="a" profile="geodetic-2d">{shape}</location>'
-    return f"<findService {SPACES}>{place}<service>{SERVICE}</service></findService>"
+    return f"<findService {SPACES}>{place}<service>{service}</service></findService>"
 
 
-def overlay(found, areas):
-    """By shapely alone: for each area the share that each district covers."""
-    given = json.dumps({"districts": found, "areas": areas}).encode()
+def overlays(sites):
+    """By shapely alone: for each site, which has districts by name and areas, for each area the share that each district covers."""
+    given = json.dumps(sites).encode()
     return json.loads(subprocess.run(OVERLAY, input=given, capture_output=True, timeout=600, check=True).stdout)
 
 
-def asked(port, areas):
-    """The answers to all areas."""
+def asked(port, documents):
+    """The answers to all documents."""
     connection = http.client.HTTPConnection("127.0.0.1", port, timeout=60)
     answers = []
-    for area in areas:
-        connection.request("POST", "/", request(area).encode(), {"Content-Type": "application/lost+xml"})
+    for document in documents:
+        connection.request("POST", "/", document.encode(), {"Content-Type": "application/lost+xml"})
         answers.append(ElementTree.fromstring(connection.getresponse().read()))
     connection.close()
     return answers
@@ -144,8 +144,8 @@ def largest_districts(program, seed=6):
     found, areas = districts(dice), [drawn(dice) for _ in range(AREAS)]
     with Server(program, 4, 1000) as server, Gateway([server.queries], "--timeout", "30") as gateway:
         server.desk().ask_all([*(publish(name, rings) for name, rings in found.items()), COMMIT])
-        answers = asked(gateway.port, areas)
-    judged = [wrong_answer(area, answer, shares) for area, answer, shares in zip(areas, answers, overlay(found, areas))]
+        answers = asked(gateway.port, map(request, areas))
+    judged = [wrong_answer(area, answer, shares) for area, answer, shares in zip(areas, answers, overlays([{"districts": found, "areas": areas}])[0])]
     close = sum(is_close for _, is_close in judged)
     print(f"    {len(found)} districts, {len(areas)} areas, of which {close} have two shares within {TOO_CLOSE:.0%} or none")
     wrong = [text for texts, _ in judged for text in texts]

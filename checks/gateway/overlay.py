@@ -1,5 +1,6 @@
 #!/usr/bin/python3
-"""Reads districts and areas as JSON, and writes for each area the share of it that each district covers, by shapely's overlay.
+"""Reads sites of districts and areas as JSON, and writes for each area of a site the share of it that each district of the site
+covers, by shapely's overlay.
 
 It shares no code with the gateway: circles and arcs are drawn in the tangent plane of the ellipsoid, with a chord for each
 quarter of a degree, which over some kilometres is within a ten-thousandth.
@@ -53,18 +54,22 @@ def shape_of(area):
     return band(area) if area["kind"] == "ArcBand" else ellipse(area)
 
 
-def main():
-    given = json.load(sys.stdin)
+def shares_in(site):
+    """For each area of a site, by name the share that each district covers, where it covers any."""
     districts = {
         name: unary_union([Polygon([(east / UNITS, north / UNITS) for north, east in ring]) for ring in rings])
-        for name, rings in given["districts"].items()
+        for name, rings in site["districts"].items()
     }
     told = []
-    for area in given["areas"]:
+    for area in site["areas"]:
         shape = shape_of(area)
         shares = {name: shape.intersection(district).area / shape.area for name, district in districts.items()}
         told.append({name: share for name, share in shares.items() if share > 0})
-    json.dump(told, sys.stdout)
+    return told
+
+
+def main():
+    json.dump([shares_in(site) for site in json.load(sys.stdin)], sys.stdout)
 
 
 if __name__ == "__main__":

@@ -1,7 +1,8 @@
 """Answers for areas: asks at points of an area, and computes which share of it each mapping found covers.
 
-All points are asked for in one burst on one connection, and the answers must be of one edition. Where they are not, since the
-desk committed meanwhile, all are asked for again.
+Points are asked for in a burst on one connection. Where the boundaries found leave an eighth of the area or more, one or two
+further bursts ask there. All answers must be of one edition. Where they are not, since the desk committed meanwhile, all are
+asked for again.
 """
 from __future__ import annotations
 
@@ -10,7 +11,7 @@ from typing import Any, Awaitable, Callable, Dict, List, NamedTuple, Optional, S
 
 from gateway.pool import Pool
 from gateway.positions import Point
-from gateway.regions import Region, Regions, region_of, shape_of_area
+from gateway.regions import Key, Region, Regions, region_of, shape_of_area
 from gateway.replies import NoReply, OwnWarning
 from gateway.requests import Request
 from gateway.sampling import first_points, further_points
@@ -43,6 +44,13 @@ class Found(NamedTuple):
     region: Optional[Region]
 
 
+class Further(NamedTuple):
+    """The share of an area that no boundary found covers, and the points there that are asked for next."""
+
+    uncovered: float
+    points: List[Point]
+
+
 class Covered(NamedTuple):
     """The reply for an area, and the gateway's own warning."""
 
@@ -67,14 +75,19 @@ def one_reply(line: bytes) -> Tuple[str, Reply]:
         raise NoReply("a line from behind is no reply") from None
 
 
-def key_of(mapping: Dict[str, Any]) -> Tuple[str, str, str]:
-    """By what a boundary is kept: its key, and the mapping that has it."""
-    return mapping["source"], mapping["sourceId"], mapping["serviceBoundaryReference"]["key"]
+def key_of(mapping: Dict[str, Any]) -> Key:
+    """By what a boundary is kept: its key, and the mapping that has it, with its stamp."""
+    return mapping["source"], mapping["sourceId"], mapping["lastUpdated"], mapping["serviceBoundaryReference"]["key"]
 
 
 def depth(mapping: Dict[str, Any]) -> int:
-    """How many labels the service of a mapping has."""
+    """How many dots the service of a mapping has, or of a request: a more special one has more."""
     return int(mapping["service"].count("."))
+
+
+def is_implemented(replies: List[Tuple[str, Reply]]) -> bool:
+    """Whether the server has mappings of the service, at some place."""
+    return any(value.get("error") != "serviceNotImplemented" for _, value in replies)
 
 
 class Covering:
@@ -126,16 +139,16 @@ class Covering:
         if request.kind == SERVICES_BY_LOCATION:
             return services(replies, area.name), server
         found = await self.found(replies)
-        while found:
-            more = await self.in_a_thread(further_points, uncovered(shape, found), shape.area, points)
-            if not more:
-                break
-            points += more
-            replies += (await self.ask(self.lines(request, more), replies[0][1].get("edition")))[0]
+        further = await self.in_a_thread(further_of, request, shape, found, points)
+        while further.points and is_implemented(replies):
+            points += further.points
+            replies += (await self.ask(self.lines(request, further.points), replies[0][1].get("edition")))[0]
             found = await self.found(replies)
+            further = await self.in_a_thread(further_of, request, shape, found, points)
         if not found:
             return first_of(replies, area.name), server
-        return self.chosen(request, found, await self.in_a_thread(shares_of, shape, found)), server
+        shares = await self.in_a_thread(shares_of, shape, found)
+        return self.chosen(request, found, shares, further.uncovered), server
 
     async def found(self, replies: List[Tuple[str, Reply]]) -> List[Found]:
         """The mappings in replies that are no defaults, each once, with their regions."""
@@ -145,24 +158,31 @@ class Covering:
                 for mapping in value["mapping"]:
                     if "serviceBoundaryReference" in mapping:
                         mappings.setdefault((mapping["source"], mapping["sourceId"]), (mapping, value))
-        regions = await self.regions_of([mapping for mapping, _ in mappings.values()])
+        edition = replies[0][1].get("edition")
+        regions = await self.regions_of([mapping for mapping, _ in mappings.values()], edition)
         return [Found(mapping, value, regions[key_of(mapping)]) for mapping, value in mappings.values()]
 
-    async def regions_of(self, mappings: List[Dict[str, Any]]) -> Dict[Tuple[str, str, str], Region]:
-        """The regions of mappings; those that are not kept are asked for."""
+    async def regions_of(self, mappings: List[Dict[str, Any]], edition: Optional[int]) -> Dict[Key, Region]:
+        """The regions of mappings of an edition; those that are not kept are asked for.
+
+        A key that was given up may name other regions later. Those of another edition are kept, and then Changing is raised: if
+        the mapping is the same when all is asked for again, so are its regions.
+        """
         kept = {key_of(mapping): self.regions.table.get(key_of(mapping)) for mapping in mappings}
         missing = [key for key, region in kept.items() if region is None]
         if missing:
-            lines = [line_of({BOUNDARY: {"key": key[2]}}).encode() + b"\n" for key in missing]
-            for key, reply in zip(missing, await self.pool.ask_burst(lines)):
-                name, value = one_reply(reply.line)
+            lines = [line_of({BOUNDARY: {"key": key[-1]}}).encode() + b"\n" for key in missing]
+            read = [one_reply(reply.line) for reply in await self.pool.ask_burst(lines)]
+            for key, (name, value) in zip(missing, read):
                 if name != f"{BOUNDARY}Response":
                     raise Changing
                 kept[key] = await self.in_a_thread(region_of, value["serviceBoundary"])
                 self.regions.keep(key, kept[key])
+            if any(value.get("edition") != edition for _, value in read):
+                raise Changing
         return {key: region for key, region in kept.items() if region is not None}
 
-    def chosen(self, request: Request, found: List[Found], shares: List[float]) -> Covered:
+    def chosen(self, request: Request, found: List[Found], shares: List[float], rest: float) -> Covered:
         """The reply with the mappings that are chosen, most first."""
         ranked = sorted(zip(shares, range(len(found))), key=lambda one: (-round(one[0], 9), one[1]))
         least = self.choice.least if self.choice.way == "all" else 2.0
@@ -173,7 +193,7 @@ class Covering:
         value = {**found[picked[0]].reply, "mapping": mappings, "warnings": [name for name in WARNINGS if name in said]}
         names = [(found[number].mapping["sourceId"], share) for share, number in ranked if share > 0]
         area = request.used.shape.name if request.used and request.used.shape else ""
-        return Covered(f"{FIND}Response", value, shares_warning(self.choice.way, area, names))
+        return Covered(f"{FIND}Response", value, shares_warning(self.choice.way, area, names, rest))
 
 
 def valued(found: Found) -> Dict[str, Any]:
@@ -200,18 +220,23 @@ def shares_of(shape: Any, found: List[Found]) -> List[float]:
     return shares
 
 
-def uncovered(shape: Any, found: List[Found]) -> Any:
-    """What is left of an area outside of all regions that were found."""
-    return above(shape, found, -1)
+def further_of(request: Request, shape: Any, found: List[Found], asked: List[Point]) -> Further:
+    """What is left of an area outside of the regions found of the service asked for, and the points there that are asked for next.
+
+    The regions of a service above it leave the place open: at a place in them the server has nothing more special, and says
+    nothing of what lies around it.
+    """
+    rest = above(shape, found, depth(request.members) - 1)
+    return Further(rest.area / shape.area, further_points(rest, shape.area, asked))
 
 
-def shares_warning(way: str, area: str, names: List[Tuple[str, float]]) -> OwnWarning:
-    """The gateway's warning: the way in which was chosen, and the share that each mapping covers."""
+def shares_warning(way: str, area: str, names: List[Tuple[str, float]], rest: float) -> OwnWarning:
+    """The gateway's warning: the way in which was chosen, the share that each mapping covers, and the share in none of the service."""
     shown = ", ".join(f"{name} {100 * share:.0f} %" for name, share in names)
     chosen = "the mapping that covers most of it" if way == "largest" else "the mappings that cover most of it"
     text = f"the location is an area, and the answer is {chosen}: {shown or 'none covers more than its edge'}"
     said = (("shape", area), ("way", way), ("shares", " ".join(f"{share:.4f}" for _, share in names)))
-    return OwnWarning("sharesOfArea", text, said)
+    return OwnWarning("sharesOfArea", text, (*said, ("uncovered", f"{rest:.4f}")))
 
 
 def first_of(replies: List[Tuple[str, Reply]], area: str) -> Covered:

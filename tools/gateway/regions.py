@@ -14,7 +14,8 @@ from gateway.vocabulary import GEODETIC
 
 MOST_POSITIONS = 2_000_000
 GLOBE = box(-180, -90, 180, 90)
-Key = Tuple[str, str, str]
+# The source, the sourceId and the stamp of a mapping, and the key of its boundary.
+Key = Tuple[str, str, str, str]
 
 
 class Region(NamedTuple):

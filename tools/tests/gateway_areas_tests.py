@@ -33,14 +33,16 @@ def district(name: str, service: str, *rings: List[List[int]]) -> Dict[str, Any]
 MAP = [
     district("west", "urn:service:sos", square(0, 1)), district("east", "urn:service:sos", square(1, 4)),
     district("fire", "urn:service:sos.fire", square(1, 1.5)), district("hole", "urn:service:sos.hole", square(0, 1), square(2, 3)),
+    district("outer", "urn:service:sos.hole", square(-1, 4, 10, 11)), district("inner", "urn:service:sos.hole", square(0.5, 0.86, 10, 11)),
     {"publish": {"source": "map.example", "sourceId": "rest", "lastUpdated": "2025-12-01T00:00:00Z", "expires": "NO-CACHE",
                  "service": "urn:service:sos", "uri": ["sip:rest@map.example"], "default": True}},
 ]  # fmt: skip
 
 
-def area(west: float, east: float) -> str:
-    """A rectangle in the middle of the districts, as a shape."""
-    return polygon([f"{north} {longitude}" for north, longitude in (("0.4", west), ("0.4", east), ("0.6", east), ("0.6", west), ("0.4", west))])
+def area(west: float, east: float, south: float = 0.4, north: float = 0.6) -> str:
+    """A rectangle, in the middle of the districts, as a shape."""
+    corners = ((south, west), (south, east), (north, east), (north, west), (south, west))
+    return polygon([f"{latitude} {longitude}" for latitude, longitude in corners])
 
 
 @unittest.skipUnless(has_packages() and has_shapely() and has_maps(), "the packages of Debian for areas, or lostd, are missing")
@@ -104,6 +106,22 @@ class Areas(unittest.TestCase):
         self.assertEqual(default.tag if default is not None else None, f"{GATEWAY}defaultForArea")
         for way in ("largest", "all"):
             self.assertIsNone(self.warning("<gml:Point><gml:pos>0.5 0.5</gml:pos></gml:Point>", way))
+
+    def test_the_warning_says_what_no_boundary_of_the_service_covers(self) -> None:
+        for west, east, service, wanted in (
+            (0.5, 1.8, "urn:service:sos", "0.0000"), (-3.0, 0.5, "urn:service:sos", "0.8571"),
+            (1.2, 1.7, "urn:service:sos.fire", "0.4000"), (1.2, 1.7, "urn:service:sos", "0.0000"), (1.6, 1.9, "urn:service:sos.fire", "1.0000"),
+        ):  # fmt: skip
+            own = self.warning(area(west, east), "all", service)
+            self.assertEqual(own.get("uncovered") if own is not None else None, wanted, (west, east, service))
+
+    def test_a_district_inside_another_is_found_from_an_eighth_on(self) -> None:
+        # It goes from 0.5 to 0.86 east, right across these areas.
+        for west, east in ((0.0, 1.0), (-0.1, 1.0), (0.2, 1.6), (0.4, 3.1), (-0.9, 0.87)):
+            own = self.warning(area(west, east, 10.4, 10.6), "all", "urn:service:sos.hole")
+            assert own is not None
+            self.assertIn(f"inner {36 / (east - west):.0f} %", own.get("message") or "", (west, east))
+            self.assertEqual(own.get("uncovered"), "0.0000")
 
     def test_a_band_whose_centre_lies_elsewhere(self) -> None:
         # All around, 100 to 120 km from 0.5 0.5: nearly all in the east, beyond the edges nothing.
@@ -191,13 +209,50 @@ class Bursts(unittest.TestCase):
                 server.got.clear()
                 self.assertEqual(gateway.post(located(area(0.2, 0.8))).outcome(), "findServiceResponse")
             self.assertFalse([line for line in server.got if b"getServiceBoundary" in line])
-            for shape in (area(0.2, 0.8), area(0.9, 9), circle("0.5 0.5"), ellipse("0.5 0.5"), band("0.5 0.5", "5", "9", "0", "270")):
-                server.got.clear()
-                gateway.post(located(shape))
-                points = [json.loads(line)["findService"]["location"][0]["pos"] for line in server.got]
+            for shape in (area(0.2, 0.8), area(0.3, 1.05), circle("0.5 0.5"), ellipse("0.5 0.5"), band("0.5 0.5", "5", "9", "0", "270")):
+                points = self.points(server, gateway, shape)
                 self.assertTrue(5 <= len(points) <= 20, (shape, points))
                 self.assertEqual(len({tuple(point) for point in points}), len(points))
             self.assertEqual(len(server.connections), 1)
+
+    def points(self, server: StandIn, gateway: Gateway, shape: str) -> List[List[int]]:
+        """The points at which is asked for a shape."""
+        server.got.clear()
+        gateway.post(located(shape))
+        return [json.loads(line)["findService"]["location"][0]["pos"] for line in server.got if b"findService" in line]
+
+    def test_where_an_eighth_is_covered_by_nothing_found_at_most_twenty_more_are_asked_for_there(self) -> None:
+        with StandIn(self.replier([1])) as server, Gateway(server.address) as gateway:
+            # Of the width of 0.8 the boundary covers 0.7 and a little more or less.
+            self.assertEqual(len(self.points(server, gateway, area(0.2999, 1.0999))), 20)
+            points = self.points(server, gateway, area(0.2, 1.2))
+            self.assertEqual((len(points), len({tuple(point) for point in points})), (40, 40))
+            self.assertTrue(all(east > 10_000_000 for _, east in points[20:]))
+        with StandIn() as server, Gateway(server.address) as gateway:
+            self.assertEqual(len(self.points(server, gateway, area(0.2, 1.2))), 40)
+        with StandIn(lambda line: b'{"errors":{"edition":1,"error":"serviceNotImplemented"}}') as server, Gateway(server.address) as gateway:
+            self.assertEqual(len(self.points(server, gateway, area(0.2, 1.2))), 20)
+
+    def test_the_points_are_the_centre_the_corners_and_points_inside(self) -> None:
+        with StandIn(self.replier([1])) as server, Gateway(server.address) as gateway:
+            points = self.points(server, gateway, area(0.2, 0.8))
+            corners = [[4000000, 2000000], [4000000, 8000000], [6000000, 8000000], [6000000, 2000000]]
+            self.assertEqual(points[:5], [[5000000, 5000000], *corners])
+            self.assertTrue(all(4000000 < north < 6000000 and 2000000 < east < 8000000 for north, east in points[5:]))
+            self.assertEqual(self.points(server, gateway, circle("0.5 0.5"))[0], [5000000, 5000000])
+            # All around, and on both sides of the 180th meridian.
+            around = self.points(server, gateway, band("0.5 180", "5000", "9000", "0", "360"))
+            self.assertEqual({east > 0 for _, east in around}, {True, False})
+            self.assertTrue(all(1_799_100_000 < abs(east) <= 1_800_000_000 for _, east in around))
+
+    def test_a_boundary_of_a_later_edition_is_not_taken_for_that_of_the_points(self) -> None:
+        editions = [1] * 20 + [2]
+        with StandIn(self.replier(editions)) as server, Gateway(server.address) as gateway:
+            # The gateway's own first question has no edition of these.
+            answer = gateway.post(located(area(0.2, 0.8)))
+            self.assertEqual((answer.outcome(), answer.headers["edition"]), ("findServiceResponse", "2"))
+            lines = [b"getServiceBoundary" in line for line in server.got]
+            self.assertEqual((len(lines), sum(lines), lines[20]), (41, 1, True))
 
     def test_where_the_map_changes_within_a_burst_it_is_asked_again(self) -> None:
         with StandIn(self.replier([1, 1, 2])) as server, Gateway(server.address) as gateway:
