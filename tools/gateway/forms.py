@@ -8,7 +8,7 @@ its own. (A name that needs no reference in XML and no escape in JSON, and a pos
 from __future__ import annotations
 
 import re
-from typing import Callable, Dict, Hashable, NamedTuple, Optional, Set, Tuple
+from typing import Callable, Dict, Hashable, NamedTuple, Optional, Pattern, Set, Tuple
 
 from gateway.documents import NoDocument
 from gateway.positions import units_of
@@ -16,7 +16,8 @@ from gateway.requests import NoRequest, Request
 
 MOST_FORMS, LONGEST_FORM = 256, 4096
 NUMBER = rb"(-?[0-9]{1,3}(?:\.[0-9]{1,30})?)"
-FORM = re.compile(rb'(.*?location[^>]*?\sid=")([A-Za-z0-9._:@/+=-]*)(".*?pos[^>]*>)' + NUMBER + rb" " + NUMBER + rb"(<.*)", re.DOTALL)
+GIVEN = rb"([A-Za-z0-9._:@/+=-]*)"
+FORM = re.compile(rb'(.*?location[^>]*?\sid=")' + GIVEN + rb'(".*?pos[^>]*>)' + NUMBER + rb" " + NUMBER + rb"(<.*)", re.DOTALL)
 NAME, PLACE = b"a-name-that-nobody-gives", (b"12.3456789", b"-123.456789")
 NAME_IN_LINE, PLACE_IN_LINE = b'"' + NAME + b'"', b"[123456789,-1234567890]"
 
@@ -26,12 +27,16 @@ AskedOf = Callable[[Request], Hashable]
 
 
 class Form(NamedTuple):
-    """The kind of the requests of a form, what a reply must know of them, and their line around the name and the position."""
+    """The kind of the requests of a form, what a reply must know of them, and their line around the name and the position.
+
+    The pattern finds the name and the two numbers in a request of this form, and fits no other.
+    """
 
     kind: str
     asked: Hashable
     pieces: Tuple[bytes, bytes, bytes]
     is_name_first: bool
+    pattern: Pattern[bytes]
 
     def line(self, name: bytes, place: bytes) -> bytes:
         """The line of a request, with its newline."""
@@ -63,7 +68,14 @@ def learned(key: Key, read: Read, asked_of: AskedOf) -> Optional[Form]:
     marks = (NAME_IN_LINE, PLACE_IN_LINE) if is_name_first else (PLACE_IN_LINE, NAME_IN_LINE)
     first, _, rest = line.partition(marks[0])
     second, _, third = rest.partition(marks[1])
-    return Form(request.kind, asked_of(request), (first, second, third), is_name_first)
+    pattern = re.compile(re.escape(front) + GIVEN + re.escape(middle) + NUMBER + b" " + NUMBER + re.escape(back))
+    return Form(request.kind, asked_of(request), (first, second, third), is_name_first, pattern)
+
+
+def short_of(form: Form, name: bytes, north: bytes, east: bytes) -> Short:
+    """A request of a form, from its name and its numbers."""
+    quoted = b'"%b"' % name
+    return Short(form, form.line(quoted, b"[%d,%d]" % (units_of(north), units_of(east))), quoted)
 
 
 class Forms:
@@ -73,9 +85,13 @@ class Forms:
         self.read, self.asked_of = read, asked_of
         self.seen: Set[Key] = set()
         self.table: Dict[Key, Optional[Form]] = {}
+        self.last: Optional[Form] = None
 
     def short(self, body: bytes) -> Optional[Short]:
-        """A request read in the short way; None where it must be read in the long one."""
+        """A request read in the short way, at once in the form that came last; None where it must be read in the long one."""
+        again = self.last.pattern.fullmatch(body) if self.last else None
+        if again is not None and self.last:
+            return short_of(self.last, *again.groups())
         found = FORM.fullmatch(body) if len(body) <= LONGEST_FORM else None
         if found is None:
             return None
@@ -86,8 +102,8 @@ class Forms:
             form = self.learn(key)
             if form is None:
                 return None
-        quoted = b'"%b"' % name
-        return Short(form, form.line(quoted, b"[%d,%d]" % (units_of(north), units_of(east))), quoted)
+        self.last = form
+        return short_of(form, name, north, east)
 
     def learn(self, key: Key) -> Optional[Form]:
         """Learns a form that came before; what has none is known as such."""

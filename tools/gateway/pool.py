@@ -10,7 +10,7 @@ import asyncio
 import json
 from typing import Callable, List, NamedTuple, Optional, Tuple
 
-from gateway.connection import Closed, Connection, Unanswered, Unreachable
+from gateway.connection import MOST_ON_THEIR_WAY, Closed, Connection, Unanswered, Unreachable
 from maptools.addresses import Tcp as Address
 
 QUESTION = b'{"listServices":{}}\n'
@@ -110,20 +110,40 @@ class Server:
         self.connections.append(connection)
 
     def send(self, line: bytes) -> asyncio.Future[bytes]:
-        """Sends a line over the connection on which the fewest lines wait; its reply."""
-        return self.send_all([line])[0]
+        """Sends a line; its reply."""
+        connection = self.open_for_one()
+        future = connection.ask(line)
+        if connection.is_spent():
+            self.retire(connection)
+        return future
 
     def send_all(self, lines: List[bytes]) -> List[asyncio.Future[bytes]]:
         """Sends lines one behind the other over the connection on which the fewest wait; their replies."""
-        connection = self.connections[0]
-        for other in self.connections:
-            if len(other.waiting) < len(connection.waiting):
-                connection = other
+        connection = self.least_busy()
         futures = [connection.ask(line) for line in lines]
         if connection.is_spent():
-            self.lose(connection)
-            connection.leave()
+            self.retire(connection)
         return futures
+
+    def open_for_one(self) -> Connection:
+        """A connection over which lines go out in this turn already, so that one piece has them all; or else the least busy one."""
+        for connection in self.connections:
+            if connection.to_send and len(connection.waiting) < MOST_ON_THEIR_WAY:
+                return connection
+        return self.least_busy()
+
+    def least_busy(self) -> Connection:
+        """The connection on which the fewest lines wait."""
+        least = self.connections[0]
+        for other in self.connections:
+            if len(other.waiting) < len(least.waiting):
+                least = other
+        return least
+
+    def retire(self, connection: Connection) -> None:
+        """Sends no more over a connection, which ends once its lines have their replies."""
+        self.lose(connection)
+        connection.leave()
 
     async def ask(self, line: bytes) -> bytes:
         """The reply to a line; Unanswered where there is none."""
