@@ -57,9 +57,9 @@ class Picture:
 
 # The steps of the two walks of ARCHITECTURE.md: at which step a line, and an edit, comes into a room.
 STEPS_OF_A_LINE = {
-    "lost_lines": "1, 6", "lost_replay": "1", "lost_worker": "1, 4", "lost_desk": "1", "lost_tape": "2", "lost_reading": "2",
-    "lost_query": "3", "lost_routing": "4", "lost_tables": "4", "lost_regions": "4", "lost_index": "4", "lost_grid": "4",
-    "lost_civicdex": "4", "lost_geo": "4", "lost_civic": "4", "lost_book": "4", "lost_writing": "5",
+    "lost_server": "1", "lost_connections": "1, 2, 7", "lost_worker": "2, 5", "lost_lines": "2", "lost_desk": "2", "lost_tape": "3",
+    "lost_reading": "3", "lost_query": "4", "lost_routing": "5", "lost_tables": "5", "lost_regions": "5", "lost_index": "5",
+    "lost_grid": "5", "lost_civicdex": "5", "lost_geo": "5", "lost_civic": "5", "lost_book": "5", "lost_writing": "6",
 }
 STEPS_OF_AN_EDIT = {
     "lost_tape": "1", "lost_reading": "1", "lost_mapping": "1", "lost_book": "2", "lost_routing": "2", "lost_replay": "2, 3",

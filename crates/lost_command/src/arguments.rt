@@ -2,9 +2,6 @@
 use clap::{Arg, ArgAction, Command, Error, value_parser};
 use std::alloc::Global;
 
-/// The version that `lostd --version` prints.
-const VERSION: &str = "0.1.0";
-
 const HELP: &str =
     "Examples:\n  lostd replay --name lost.example --now 2026-01-01T00:00:00Z < examples/one-mapping.jsonl\n  \
 lostd check --name lost.example --now 2026-01-01T00:00:00Z < examples/one-mapping.jsonl\n  \
@@ -69,13 +66,13 @@ Exit status: 0 when all connections have ended; 1 if the map cannot be read, an 
 can be accepted, standard output fails, or memory runs out outside the connections; 2 for a mistake on the command \
 line; 3 if a line of the map is refused or not committed. SIGINT, SIGTERM and SIGHUP end the server at once.";
 
-/// The whole command line.
-pub(crate) fn command<'a>(alloc: Global) -> Result<Command<'a>, Error> {
+/// The whole command line, of the program of this version.
+pub(crate) fn command<'a>(alloc: Global, version: &'static str) -> Result<Command<'a>, Error> {
     let command = Command::new(alloc, "lostd")
         .about(
             "A LoST server (RFC 5222) over JSON lines: it finds the emergency centre that serves a location",
         )
-        .version(VERSION)
+        .version(version)
         .after_help(HELP)
         .subcommand_required(true)
         .subcommand(replay_command(alloc)?)?

@@ -7,14 +7,15 @@ mod checking;
 mod exit_reason;
 mod given;
 mod mistake;
-mod obeying;
 mod order;
 mod outcome;
 mod progress;
 mod replaying;
+mod running;
+mod summary;
 
 pub use exit_reason::ExitReason;
 pub use given::{begin, server_name};
-pub use obeying::obey;
 pub use order::ServeOrder;
 pub use outcome::{check_outcome, end, replay_outcome};
+pub use running::run;

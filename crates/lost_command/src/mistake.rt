@@ -45,7 +45,8 @@ fn hint_of(command: Option<&str>, kind: ClapKind, line: &str) -> &'static str {
     }
 }
 
-/// A mistake on one line: the first paragraph of its text, without the word `error:` before it.
+/// A mistake on one line: the first paragraph of its text, without the word `error:` before it, and the closest name if a
+/// name is unknown.
 fn mistake_line(alloc: Global, error: &Error) -> Result<String, AllocError> {
     let text = format!(in alloc; "{error}")?;
     let mut line = String::new(alloc);
@@ -58,7 +59,21 @@ fn mistake_line(alloc: Global, error: &Error) -> Result<String, AllocError> {
         }
         line.push_str(word)?;
     }
+    if let Some(name) = closest_name(text.as_str()) {
+        let question = format!(in alloc; " (did you mean {name}?)")?;
+        line.push_str(question.as_str())?;
+    }
     Ok(line)
+}
+
+/// The name that the parser found closest to an unknown one, in quotes.
+fn closest_name(text: &str) -> Option<&str> {
+    let (_, tip) = text.split_once("tip: a similar ")?;
+    let (_, name) = tip.split_once(" exists: ")?;
+    match name.split_once('\n') {
+        Some((name, _)) => Some(name),
+        None => Some(name),
+    }
 }
 
 /// A text up to its first empty line.

@@ -2,9 +2,10 @@
 use crate::exit_reason::ExitReason;
 use crate::given::begin;
 use crate::outcome::replay_outcome;
+use crate::summary::{Summary, Summing};
 use clap::ArgMatches;
 use lost_mapping::{Moment, Source};
-use lost_replay::{Summary, Turns, Watched, replay_summed};
+use lost_replay::{Turns, Watched, replay};
 use std::io;
 
 /// Answers standard input on standard output as the arguments say. If asked, or if standard error is a terminal, as
@@ -15,23 +16,17 @@ pub(crate) fn replay_standard_streams<R: Print + Eprint + Input + AllocGlobal>(
     is_terminal: bool,
 ) -> Result<(), ExitReason> {
     let (name, moment) = begun(rt, given)?;
-    let is_summed = is_terminal || given.get_flag("summary");
+    let turns = turns_of(given);
     let mut input = Watched::new(rt.reader());
-    let mut output = Watched::new(io::writer(rt));
-    let mut summary = Summary::default();
-    let replayed = replay_summed(
-        rt.alloc(),
-        &mut input,
-        &mut output,
-        &name,
-        &moment,
-        turns_of(given),
-        &mut summary,
-    );
+    if !is_terminal && !given.get_flag("summary") {
+        let mut output = Watched::new(io::writer(rt));
+        let replayed = replay(rt.alloc(), &mut input, &mut output, &name, &moment, turns);
+        return replay_outcome(replayed);
+    }
+    let mut output = Watched::new(Summing::new(io::writer(rt)));
+    let replayed = replay(rt.alloc(), &mut input, &mut output, &name, &moment, turns);
     if let Ok(counts) = replayed {
-        if is_summed {
-            say_summary(rt, counts.lines, summary);
-        }
+        say_summary(rt, counts.lines, output.inner().summary());
     }
     replay_outcome(replayed)
 }

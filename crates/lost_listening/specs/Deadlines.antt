@@ -3,7 +3,7 @@ use Rattle.std.specs.Prelude.{ℕ, ◌-◌, Bool, true, false, Option, None, Som
 use Rattle.std.specs.Bool.{nat_le}
 use Rattle.std.specs.Duration.{as_nanos}
 use Rattle.std.specs.declared.time.Duration.{Duration}
-use Rattle.lost_listening.specs.declared.deadlines.TimeLimits.{TimeLimits}
+use Rattle.lost_listening.specs.declared.limits.TimeLimits.{TimeLimits}
 use Rattle.lost_listening.specs.declared.deadlines.Times.{Times}
 use Rattle.lost_listening.specs.declared.deadlines.Shown.{Shown}
 use Rattle.lost_listening.specs.declared.deadlines.Passed.{Passed}

@@ -1,56 +1,11 @@
 //! The limits on the number of connections, in all and from one address.
-ghost use Rattle.std.specs.Prelude.{◌≡◌, ◌+◌, ◌-◌, ◌<◌, ◌≤◌, true, if◌then◌else◌};
+ghost use Rattle.std.specs.Prelude.{◌≡◌, ◌-◌, ◌<◌, All, Some};
+ghost use Rattle.std.specs.HashMap.{values};
 
 use std::alloc::Global;
 use std::collections::HashMap;
-use std::hash::RandomState;
+use std::hash::{Hash, RandomState};
 use std::net::IpAddr;
-
-/// A number of connections, and its limit.
-#[derive(Drop)]
-pub(crate) struct Tally {
-    count: u32,
-    most: u32,
-    ghost within: { count ≤ most },
-}
-
-impl Tally {
-    ghost use Rattle.lost_listening.specs.Admission.{count_of, most_of};
-
-    /// No connections, with a limit of `most`.
-    pub(crate) fn new(most: u32) -> Tally
-        ensures count { count_of result ≡ 0 }
-        ensures most { most_of result ≡ most }
-    {
-        Tally { count: 0, most }
-    }
-
-    /// Whether there is no connection.
-    fn is_empty(&self) -> bool {
-        self.count == 0
-    }
-
-    /// Counts one more, unless the limit is reached. Says whether it was counted.
-    pub(crate) fn add(&mut self) -> bool
-        ensures room { result ≡ true → count_of self.old < most_of self.old }
-        ensures count { count_of self.new ≡ (if result then count_of self.old + 1 else count_of self.old) }
-        ensures most { most_of self.new ≡ most_of self.old }
-    {
-        if self.count >= self.most {
-            return false;
-        }
-        self.count += 1;
-        true
-    }
-
-    /// Counts one less.
-    pub(crate) fn take(&mut self)
-        ensures count { count_of self.new ≡ count_of self.old - 1 }
-        ensures most { most_of self.new ≡ most_of self.old }
-    {
-        self.count = self.count.saturating_sub(1);
-    }
-}
 
 /// Why a connection is not let in.
 #[derive(Clone, Copy, PartialEq, Eq, Debug)]
@@ -74,25 +29,35 @@ impl Refusal {
     }
 }
 
-/// The number of admitted connections, in all and from each address.
+/// How many admitted connections are open, in all and from each address. Those from an address are counted where there
+/// is a limit on them; an address with none open is forgotten.
 #[derive(Drop)]
-pub(crate) struct Admission {
-    all: Tally,
+pub struct Admission<A: Eq + Hash = IpAddr> {
+    all: u32,
+    most: u32,
     most_of_address: Option<u32>,
-    by_address: HashMap<IpAddr, Tally, RandomState>,
+    by_address: HashMap<A, u32, RandomState>,
+    ghost some: { All (λ count. 0 < count) (values by_address) },
 }
 
-impl Admission {
+impl<A: Eq + Hash + Copy> Admission<A> {
+    ghost use Rattle.lost_listening.specs.Admission.{open_from, one_at, IsEmpty, HasSameAll, most_of_all, most_of_one, Admits, AdmitsFrom, Leaves};
+
     /// No connections, at most `most` in all and `most_of_address` from one address; `None` for any number. Addresses
     /// are hashed with `keys`, which no client knows.
-    pub(crate) fn new(
+    pub fn new(
         alloc: Global,
         most: u32,
         most_of_address: Option<u32>,
         keys: RandomState,
-    ) -> Admission {
+    ) -> Admission<A>
+        ensures empty { IsEmpty result }
+        ensures most { most_of_all result ≡ most }
+        ensures most_of_address { most_of_one result ≡ most_of_address }
+    {
         Admission {
-            all: Tally::new(most),
+            all: 0,
+            most,
             most_of_address,
             by_address: HashMap::with_hasher(alloc, keys),
         }
@@ -103,64 +68,61 @@ impl Admission {
     /// # Errors
     ///
     /// [`Refusal`]. Nothing changes.
-    pub(crate) fn enter(&mut self, address: Option<IpAddr>) -> Result<(), Refusal> {
-        if !self.all.add() {
+    pub fn enter(&mut self, address: Option<A>) -> Result<(), Refusal>
+        ensures { Admits self.old address result self.new }
+    {
+        if self.all >= self.most {
             return Err(Refusal::Most);
         }
-        let entered = self.enter_address(address);
-        if entered.is_err() {
-            self.all.take();
+        if let (Some(address), Some(most)) = (address, self.most_of_address) {
+            self.enter_from(address, most)?;
         }
-        entered
+        self.all += 1;
+        Ok(())
     }
 
-    /// Counts one more connection from an address.
-    fn enter_address(&mut self, address: Option<IpAddr>) -> Result<(), Refusal> {
-        let (Some(address), Some(most)) = (address, self.most_of_address) else {
-            return Ok(());
-        };
-        let has_room = match self.by_address.get_mut(&address) {
-            Some(tally) => tally.add(),
-            None => return self.begin_address(address, most),
-        };
-        if has_room {
-            Ok(())
-        } else {
-            Err(Refusal::MostOfAddress)
+    /// Counts that a connection from an address, or from none, has ended. What is not open does not leave.
+    pub fn leave(&mut self, address: Option<A>)
+        ensures { Leaves self.old self.new address }
+    {
+        self.all = self.all.saturating_sub(1);
+        if let (Some(address), Some(_)) = (address, self.most_of_address) {
+            self.leave_from(address);
         }
     }
 
-    /// Counts the first connection from an address.
-    fn begin_address(&mut self, address: IpAddr, most: u32) -> Result<(), Refusal> {
-        let mut tally = Tally::new(most);
-        if !tally.add() {
+    /// Counts one more connection from an address, of which at most `most` may be open.
+    fn enter_from(&mut self, address: A, most: u32) -> Result<(), Refusal>
+        ensures { AdmitsFrom most self.old address result self.new }
+    {
+        let open = self.open_from(&address);
+        if open >= most {
             return Err(Refusal::MostOfAddress);
         }
-        match self.by_address.insert(address, tally) {
+        match self.by_address.insert(address, open + 1) {
             Ok(_) => Ok(()),
             Err(_) => Err(Refusal::Memory),
         }
     }
 
-    /// Counts that a connection from an address, or from none, has ended.
-    pub(crate) fn leave(&mut self, address: Option<IpAddr>) {
-        self.all.take();
-        if let Some(address) = address {
-            self.leave_address(address);
+    /// Counts one connection less from an address, and forgets an address with none left.
+    fn leave_from(&mut self, address: A)
+        ensures all { HasSameAll self.old self.new }
+        ensures from { (other : _) → open_from self.new other ≡ open_from self.old other - one_at A.eq (Some address) other }
+    {
+        let open = self.open_from(&address);
+        if open < 2 {
+            let _last = self.by_address.remove(&address);
+        } else {
+            // The address has an entry, so no memory is taken.
+            let _open = self.by_address.insert(address, open - 1);
         }
     }
 
-    /// Counts one connection less from an address. An address with no connections is forgotten.
-    fn leave_address(&mut self, address: IpAddr) {
-        let is_last = match self.by_address.get_mut(&address) {
-            Some(tally) => {
-                tally.take();
-                tally.is_empty()
-            }
-            None => false,
-        };
-        if is_last {
-            let _last = self.by_address.remove(&address);
-        }
+    /// How many connections from an address are open, where they are counted.
+    fn open_from(&self, address: &A) -> u32
+        ensures { result ≡ open_from self.now address.now }
+    {
+        self.by_address.get(address).copied().unwrap_or(0)
     }
 }

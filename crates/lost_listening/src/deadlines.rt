@@ -2,25 +2,8 @@
 ghost use Rattle.std.specs.Prelude.{◌≡◌};
 ghost use Rattle.lost_listening.specs.Deadlines.{is_past as is_past_limit, passed_of, since_when, times_after, times_at};
 
+use crate::limits::TimeLimits;
 use std::time::Duration;
-
-/// How long a watched connection may keep its worker waiting; `None` for ever.
-#[derive(Clone, Copy, PartialEq, Eq, Debug)]
-pub struct TimeLimits {
-    /// Without a byte read, while no reply waits to be taken.
-    pub idle: Option<Duration>,
-    /// From the first byte of a line to its end, while the connection is read.
-    pub line: Option<Duration>,
-    /// Without a byte taken of the replies that wait.
-    pub reply: Option<Duration>,
-}
-
-impl TimeLimits {
-    /// Whether there is no limit.
-    pub fn are_none(&self) -> bool {
-        self.idle.is_none() && self.line.is_none() && self.reply.is_none()
-    }
-}
 
 /// A time limit that was passed.
 #[derive(Clone, Copy, PartialEq, Eq, Debug)]

@@ -1,6 +1,5 @@
 //! The turns of desks.
-use crate::accepting::accept_until;
-use lost_sockets::{Listener, Peer, Stream};
+use lost_sockets::{Listener, Peer, Stream, accept_until};
 use std::sync::atomic::AtomicBool;
 use std::sync::{Mutex, Wait};
 use std::time::Clock;

@@ -2,8 +2,7 @@
 ghost use Rattle.std.specs.Prelude.{◌≤◌};
 
 use crate::admission::{Admission, Refusal};
-use crate::client_limits::ClientLimits;
-use crate::deadlines::TimeLimits;
+use crate::limits::{ConnectionLimits, TimeLimits};
 use lost_sockets::most_files;
 use std::alloc::{AllocError, Global};
 use std::hash::RandomState;
@@ -33,7 +32,7 @@ impl Hall {
         rt: &R,
         alloc: Global,
         idle: Option<Duration>,
-        limits: &ClientLimits,
+        limits: &ConnectionLimits,
         workers: usize,
     ) -> Result<Hall, AllocError> {
         let Ok(keys) = RandomState::new(rt) else {
@@ -42,11 +41,7 @@ impl Hall {
         let most = most_open(limits.most_connections, workers as u64, most_files());
         let admission = Admission::new(alloc, most, limits.per_address, keys);
         Ok(Hall {
-            limits: TimeLimits {
-                idle,
-                line: limits.line_time,
-                reply: limits.reply_time,
-            },
+            limits: TimeLimits::of(idle, limits),
             admission: Mutex::new(admission),
         })
     }

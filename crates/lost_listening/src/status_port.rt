@@ -1,6 +1,5 @@
 //! Answers status connections.
-use crate::accepting::accept_until;
-use lost_sockets::{Listener, Stream};
+use lost_sockets::{Listener, Stream, accept_until};
 use lost_status::{Deadline, Status, serve_status};
 use std::alloc::{AllocError, Global};
 use std::hash::RandomState;

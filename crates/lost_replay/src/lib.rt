@@ -19,4 +19,4 @@ pub use findings::Findings;
 pub use lost_lines::{Counts, NoGate, ServeError, Turns, Watched};
 pub use outcome::Outcome;
 pub use replayer::Replayer;
-pub use replaying::{Summary, replay, replay_summed};
+pub use replaying::replay;

@@ -25,8 +25,6 @@ pub struct Replayer<'a> {
     scratch: Box<Scratch>,
     /// The outcome of the last line.
     outcome: Outcome,
-    /// The number of refused lines. It stays at its greatest value.
-    refused: u64,
 }
 
 impl<'a> Replayer<'a> {
@@ -40,7 +38,6 @@ impl<'a> Replayer<'a> {
             books: Books::new(alloc)?,
             scratch: Box::new(alloc, Scratch::new(alloc))?,
             outcome: Outcome::Unjudged,
-            refused: 0,
         })
     }
 
@@ -49,11 +46,6 @@ impl<'a> Replayer<'a> {
         ensures { result ≡ outcome_of self.now }
     {
         self.outcome
-    }
-
-    /// The number of lines refused so far. It stays at its greatest value.
-    pub fn refused(&self) -> u64 {
-        self.refused
     }
 
     /// The number of published edits.
@@ -92,9 +84,6 @@ impl Replayer<'_> {
         ensures books { self.new.books ≡ self.old.books }
     {
         self.outcome = outcome;
-        if let Outcome::Refused(_) = outcome {
-            self.refused = self.refused.saturating_add(1);
-        }
     }
 }
 

@@ -39,45 +39,8 @@ pub fn replay<R: Read, W: Write>(
     ensures unread { result ≡ Err ServeError.Memory → input.new ≡ input.old }
     ensures unwritten { result ≡ Err ServeError.Memory → output.new ≡ output.old }
 {
-    let mut summary = Summary::default();
-    replay_summed(alloc, input, output, name, moment, turns, &mut summary)
-}
-
-/// The result of a replay at its end.
-#[derive(Clone, Copy, PartialEq, Eq, Debug, Default)]
-pub struct Summary {
-    /// The number of refused lines.
-    pub refused: u64,
-    /// The number of published edits.
-    pub edition: u64,
-}
-
-/// Does the same as [`replay`], with its errors, and puts its result into `summary`, even after a fault.
-pub fn replay_summed<R: Read, W: Write>(
-    alloc: Global,
-    input: &mut Watched<R>,
-    output: &mut Watched<W>,
-    name: &Source,
-    moment: &Moment,
-    turns: Turns,
-    summary: &mut Summary,
-) -> Result<Counts, ServeError>
-    requires fresh { AreFresh input.old output.old }
-
-    // Each line of the input is answered from scratch over the edits that were committed before it.
-    ensures outcome { IsReplayOutcome name.now moment.now turns
-        (passage_of R.remaining W.contents input.old input.new output.old output.new) result }
-    ensures faults { StreamFaults R.remaining turns input.new output.old output.new result }
-    ensures unread { result ≡ Err ServeError.Memory → input.new ≡ input.old }
-    ensures unwritten { result ≡ Err ServeError.Memory → output.new ≡ output.old }
-{
     let Ok(mut replayer) = Replayer::new(alloc, name, moment) else {
         return Err(ServeError::Memory);
     };
-    let replayed = run_lines(alloc, input, output, &mut replayer, &NoGate, turns);
-    *summary = Summary {
-        refused: replayer.refused(),
-        edition: replayer.edition(),
-    };
-    replayed
+    run_lines(alloc, input, output, &mut replayer, &NoGate, turns)
 }

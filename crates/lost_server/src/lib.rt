@@ -22,8 +22,9 @@ mod watching;
 mod workers;
 
 pub use lost_lines::{Counts, Gate, NoGate, ServeError, Turns, Watched};
-pub use lost_listening::{ClientLimits, Doors, Ready};
+pub use lost_listening::{ConnectionLimits, Doors, Ready};
 pub use lost_replay::{Replayer, replay};
+pub use lost_status::VERSION;
 pub use map::{MapFound, load_map};
 pub use order::{ConnectionSettings, ServerOrder};
 pub use run_fault::RunFault;

@@ -1,5 +1,5 @@
 //! A server's settings.
-use lost_listening::ClientLimits;
+use lost_listening::ConnectionLimits;
 use lost_mapping::Source;
 use lost_sockets::Addresses;
 use std::time::Duration;
@@ -37,5 +37,5 @@ pub struct ServerOrder<'a> {
     /// How connections are treated.
     pub settings: ConnectionSettings,
     /// The limits on query connections if their number is not given.
-    pub limits: ClientLimits,
+    pub limits: ConnectionLimits,
 }

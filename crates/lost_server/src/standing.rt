@@ -11,7 +11,7 @@ use crate::watching::Watcher;
 use crate::workers::{KeyedReader, cached_readers};
 use lost_desk::{Desk, Readers};
 use lost_lines::Counts;
-use lost_listening::{ClientLimits, Doors, Hall};
+use lost_listening::{ConnectionLimits, Doors, Hall};
 use lost_sockets::Listener;
 use std::alloc::AllocError;
 use std::io::Eprint;
@@ -27,7 +27,7 @@ pub(crate) fn watch_all<
     G: Sync,
 >(
     shared: &Shared<'_, R, G>,
-    limits: &ClientLimits,
+    limits: &ConnectionLimits,
     doors: &Doors,
     desk: &mut Desk,
     readers: Readers,

@@ -5,6 +5,8 @@ ghost use Rattle.lost_sockets.specs.Kind.{AreOfKind};
 use crate::listener::Listener;
 use crate::peer::Peer;
 use crate::stream::Stream;
+use std::sync::Wait;
+use std::sync::atomic::{AtomicBool, Ordering};
 use std::thread::sleep;
 use std::time::{Clock, Duration};
 
@@ -24,6 +26,30 @@ pub fn accept<R: Clock>(rt: &R, listener: &Listener) -> Option<(Stream, Peer)>
             return Some(accepted);
         }
         sleep(rt, Duration::from_millis(PAUSE));
+    }
+    None
+}
+
+/// How long to wait when there is no connection, in milliseconds.
+const NEXT_LOOK: u64 = 20;
+
+/// Waits for the next connection, or until `is_over` is set. The listener must not wait. One that fails is asked again
+/// after a pause.
+pub fn accept_until<R: Wait + Clock>(
+    rt: &R,
+    listener: &Listener,
+    is_over: &AtomicBool,
+) -> Option<(Stream, Peer)>
+    ensures { IfSome result (AreOfKind listener.now) }
+{
+    for _ in rt.forever() {
+        if is_over.load(Ordering::SeqCst) {
+            return None;
+        }
+        if let Ok(accepted) = listener.accept_once() {
+            return Some(accepted);
+        }
+        sleep(rt, Duration::from_millis(NEXT_LOOK));
     }
     None
 }

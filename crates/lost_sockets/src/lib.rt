@@ -14,7 +14,7 @@ mod socket_file;
 mod stream;
 mod unix;
 
-pub use accepting::accept;
+pub use accepting::{accept, accept_until};
 pub use address::Address;
 pub use addresses::Addresses;
 pub use files::most_files;

@@ -4,8 +4,8 @@
 
 mod serving;
 
-use lost_command::{ExitReason, end, obey};
-use lost_server::System;
+use lost_command::{ExitReason, end};
+use lost_server::{System, VERSION};
 use serving::serve_as_ordered;
 use std::env;
 use std::io::IsTerminal;
@@ -26,7 +26,7 @@ fn run<R: System + Env + Print + Net<Listener = TcpListener, Stream = TcpStream>
     for word in env::args(rt).map_err(|error| ExitReason::of_words(&error))? {
         words.push(word).map_err(|_| ExitReason::MEMORY)?;
     }
-    match obey(rt, words.as_slice(), is_terminal)? {
+    match lost_command::run(rt, words.as_slice(), VERSION, is_terminal)? {
         Some(order) => serve_as_ordered(rt, &order, is_terminal),
         None => Ok(()),
     }

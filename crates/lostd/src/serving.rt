@@ -4,8 +4,8 @@ ghost use Rattle.lostd.specs.ExitReasons.{serve_reason, map_reason};
 
 use lost_command::{ExitReason, ServeOrder};
 use lost_server::{
-    ClientLimits, ConnectionSettings, Doors, MapFault, Ready, RunFault, ServeError, ServerFault,
-    ServerOrder, System, run_server,
+    ConnectionLimits, ConnectionSettings, Doors, MapFault, Ready, RunFault, ServeError,
+    ServerFault, ServerOrder, System, run_server,
 };
 use lost_sockets::{Addresses, ListenError, Listener};
 use std::io;
@@ -66,8 +66,8 @@ fn settings_of(order: &ServeOrder<'_>) -> ConnectionSettings {
 }
 
 /// The order's limits on query connections.
-fn limits_of(order: &ServeOrder<'_>) -> ClientLimits {
-    ClientLimits {
+fn limits_of(order: &ServeOrder<'_>) -> ConnectionLimits {
+    ConnectionLimits {
         line_time: limit_of(order.line_time),
         reply_time: limit_of(order.reply_time),
         most_connections: order.most_connections,

@@ -1,7 +1,7 @@
 //! A server that is told to end, as the program's never is.
 use lost_mapping::Source;
 use lost_server::{
-    ClientLimits, ConnectionSettings, Counts, Doors, Ready, ServerFault, ServerOrder, System,
+    ConnectionLimits, ConnectionSettings, Counts, Doors, Ready, ServerFault, ServerOrder, System,
     run_server,
 };
 use lost_sockets::{Addresses, Listener};
@@ -55,7 +55,7 @@ pub(crate) fn ended<R: System + Net<Listener = TcpListener, Stream = TcpStream> 
             desk_idle: None,
             is_quiet: false,
         },
-        limits: ClientLimits {
+        limits: ConnectionLimits {
             line_time: None,
             reply_time: None,
             most_connections: 1_000,

@@ -1,6 +1,7 @@
 //! The orders that command lines give a server, and the exit reasons.
-use lost_command::{ExitReason, ServeOrder, obey};
+use lost_command::{ExitReason, ServeOrder, run as run_command};
 use lost_lines::ServeError;
+use lost_status::VERSION;
 use std::alloc::{AllocError, Global};
 use std::rt::Files;
 use std::{fs, io};
@@ -36,7 +37,7 @@ fn print_answer<R: Files + Print + Eprint + Input + AllocGlobal>(
 ) -> io::Result<()> {
     println!(rt; "{line}")?;
     let words = words_of(rt.alloc(), line)?;
-    let answer = obey(rt, words.as_slice(), false);
+    let answer = run_command(rt, words.as_slice(), VERSION, false);
     match answer {
         Ok(Some(order)) => print_order(rt, &order),
         Ok(None) => println!(rt; "no order"),

@@ -1,4 +1,4 @@
-//! Does what the command line says.
+//! Runs what the command line says.
 use crate::arguments::command;
 use crate::checking::check_standard_input;
 use crate::exit_reason::ExitReason;
@@ -7,22 +7,23 @@ use crate::order::{ServeOrder, order_of};
 use crate::replaying::replay_standard_streams;
 use clap::ArgMatches;
 
-/// Does what the command line says. It does not serve connections, but gives the order to serve them (own rule).
-/// `is_terminal` says whether standard error is a terminal.
+/// Runs what the command line of the program of this version says. It does not serve connections, but gives the order to
+/// serve them (own rule). `is_terminal` says whether standard error is a terminal.
 ///
 /// # Errors
 /// The reason for an early end. If its text is empty, it was reported on standard error; else the caller reports it.
-pub fn obey<'a, R: Print + Eprint + Input + AllocGlobal>(
+pub fn run<'a, R: Print + Eprint + Input + AllocGlobal>(
     rt: &R,
     words: &'a [String],
+    version: &'static str,
     is_terminal: bool,
 ) -> Result<Option<ServeOrder<'a>>, ExitReason> {
-    let Ok(command) = command(rt.alloc()) else {
+    let Ok(command) = command(rt.alloc(), version) else {
         return Err(ExitReason::MEMORY);
     };
     match command.try_get_matches_from(words) {
         Ok(matches) => match matches.subcommand() {
-            Some((first, given)) => obey_first(rt, first, given, is_terminal),
+            Some((first, given)) => run_command(rt, first, given, is_terminal),
             None => Err(ExitReason::Words),
         },
         Err(error) => {
@@ -33,8 +34,8 @@ pub fn obey<'a, R: Print + Eprint + Input + AllocGlobal>(
     }
 }
 
-/// Does what the first word and its arguments say.
-fn obey_first<'a, R: Print + Eprint + Input + AllocGlobal>(
+/// Runs the command that is the first word.
+fn run_command<'a, R: Print + Eprint + Input + AllocGlobal>(
     rt: &R,
     first: &str,
     given: &ArgMatches<'a>,
