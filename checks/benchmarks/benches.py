@@ -128,6 +128,20 @@ def read_gateway(text: str) -> Read:
     return table(["Processes", "Answers a second", "Share of a fixed body's", "99 of 100 within, ms"], lines) + f"\n\n{more}", {}
 
 
+SEEN = ["read", "drawn", "zoomed in", "dragged", "zoomed out", "asked", "searched"]
+
+
+def read_page(text: str) -> Read:
+    """What the page of a large map takes, to be made and in a browser."""
+    (districts, lines, made, memory, size), = rows(
+        r"([\d,]+) districts, (\d+) MB of desk lines: made in (\d+) s with (\d+) MB; the page has (.+) MB", text, 1)
+    spent = dict(rows(rf"({'|'.join(SEEN)}): (\d+\.\d\d) s(?: of the main thread; .*)?", text, len(SEEN)))
+    return (
+        f"{districts} districts with crooked borders, {lines} MB of desk lines: `map-page` makes the page in {made} s with {memory} MB,"
+        f" without findings, and it has {size} MB. Times are of the processor, in Chromium of the page's main thread.\n\n"
+    ) + table(["The page", "Seconds"], [[name, spent[name]] for name in SEEN]), {}
+
+
 def read_redis(text: str) -> Read:
     """How lostd compares with redis over TCP, how much more four workers answer, and what idle connections cost."""
     ratio = r"(\d+\.\d\d) \(\d+\.\d\d to \d+\.\d\d\)"
@@ -213,4 +227,5 @@ SECTIONS = [
     Section("Memory", "checks/resident-memory/run", [], read_memory),
     Section("A large map", "checks/benchmarks/loaded-server", [], read_loaded),
     Section("Gateway", "checks/gateway/run", ["--speed"], read_gateway),
+    Section("The page of a large map", "checks/map-page/run", [], read_page),
 ]

@@ -99,6 +99,13 @@ PRINTED: Dict[str, Dict[str, List[str]]] = {
             "ok: a check (90.0 s)", "0 failed",
         ],
     },
+    "map-page": {
+        "": [
+            "60,000 districts, 152 MB of desk lines: made in 29 s with 747 MB; the page has 14.6 MB",
+            "read: 1.16 s of the main thread; large.jsonl: 60,000 mappings, 60,000 polygons, 6,060,000 positions.", "drawn: 0.73 s",
+            "zoomed in: 0.13 s", "dragged: 0.04 s", "zoomed out: 0.52 s", "asked: 0.05 s", "searched: 0.09 s",
+        ],
+    },
 }
 README = ["findService` at a point", "Loading", "Replies", "A commit", "Answers at points"]
 
@@ -143,7 +150,7 @@ class Benchmarks(unittest.TestCase):
     def test_all_sections_and_the_rows_of_readme(self) -> None:
         self.assertEqual(self.run_check(), (0, ""))
         page = self.read("docs/BENCHMARKS.md")
-        self.assertEqual(re.findall("^## (.*)$", page, re.M), ["Lines", "Readers", "Cache", "Connections", "Beside redis", "Beside a plain server", "Memory", "A large map", "Gateway"])
+        self.assertEqual(re.findall("^## (.*)$", page, re.M), ["Lines", "Readers", "Cache", "Connections", "Beside redis", "Beside a plain server", "Memory", "A large map", "Gateway", "The page of a large map"])
         for row in (
             "| Microseconds a line | 1,024 | 60,025 | Instructions |", "| `findService`, found | 3.4 | 12 | 1.03 |",
             "| validation of an address | 3.4 | 12 | 1.03 |", "| withdrawal | 6.8 | 24 | 1.03 |",
@@ -153,7 +160,7 @@ class Benchmarks(unittest.TestCase):
             "| Mappings | 30 | 1,000 | 60,000 |", "| loading | 0.61 | 1.48 | 1.52 |", "| most memory | 0.61 | 1.48 | 1.52 |", "| points all over the map | 0.61 | 1.48 | 1.52 |",
             "| TCP, 1 at a time | 0.61 | 1.48 | 1.52 |", "| instructions of a point | 0.61 | 1.48 | – |",
             "Of one hot point, lostd answers 1.00 times as many at 60,000 mappings as at 1,000.",
-            "| one | 3,360 | 0.55 | 15.0 |", "| 1 | 16 | 45,700 | 54,300 | 0.84 | 0.81 |", "| 64 | 1 | 45,700 | 54,300 | 0.84 | 0.81 |",
+            "| one | 3,360 | 0.55 | 15.0 |", "| read | 1.16 |", "| zoomed out | 0.52 |", "| 1 | 16 | 45,700 | 54,300 | 0.84 | 0.81 |", "| 64 | 1 | 45,700 | 54,300 | 0.84 | 0.81 |",
             f"10,000 idle connections beside 64 leave 0.98 of the replies. Four workers, {CORES}, answer 64 connections 3.01 times (1 at a time) and 3.16 times (16 at a time) as fast as one.",
         ):
             self.assertIn(f"\n{row}\n", page)
