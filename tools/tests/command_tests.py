@@ -69,7 +69,7 @@ class CommandTests(unittest.TestCase):
 
     def test_rows(self) -> None:
         rows = read("command.rows").rstrip("\n").split("\n\n")[1:]
-        self.assertEqual(len(rows), 62)
+        self.assertEqual(len(rows), 65)
         for row in rows:
             with self.subTest(row):
                 self.assertTrue(all(line[0] in MARKS and line[1] == " " for line in row.splitlines()))

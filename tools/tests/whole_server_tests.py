@@ -214,6 +214,7 @@ class DesksAndMaps(WholeServer):
     def test_standard_input_with_and_without_keep_going(self) -> None:
         """A map on standard input with a refused line, or without a commit, starts a server only with --keep-going."""
         for given, edition in ((self.publish + COMMIT + self.publish, 1), (self.publish, 0)):
+            self.queries = self.path(f"queries-{edition}.sock")
             self.assertEqual(self.started(given)[0], 3)
             words = ["--map", "-", "--keep-going", "--queries", f"unix:{self.queries}"]
             with Server(words, given.encode()) as server:
