@@ -34,18 +34,16 @@ class Browser:
         read_commands, self.commands = os.pipe()
         self.replies, write_replies = os.pipe()
 
-        def take_pipes() -> None:
-            high = [os.dup2(read_commands, 60), os.dup2(write_replies, 61)]
-            os.dup2(high[0], 3)
-            os.dup2(high[1], 4)
-
+        # (Chromium reads commands at 3 and writes replies at 4, which here may be closed, or in use)
+        pipes = (read_commands, write_replies)
         words = [
-            str(browser()), "--headless=new", "--no-sandbox", "--disable-gpu", "--disable-dev-shm-usage", "--remote-debugging-pipe",
+            "bash", "-c", 'exec "$0" "$@" 3<&%d 4>&%d' % pipes, str(browser()),
+            "--headless=new", "--no-sandbox", "--disable-gpu", "--disable-dev-shm-usage", "--remote-debugging-pipe",
             f"--user-data-dir={self.folder.name}", f"--window-size={width},{height}", "--no-first-run", "--disable-background-networking",
             "--disable-component-update", "about:blank",
         ]  # fmt: skip
         quiet = {"stdin": subprocess.DEVNULL, "stdout": subprocess.DEVNULL, "stderr": subprocess.DEVNULL}
-        self.process = subprocess.Popen(words, preexec_fn=take_pipes, pass_fds=(3, 4), **quiet)
+        self.process = subprocess.Popen(words, pass_fds=pipes, **quiet)
         os.close(read_commands)
         os.close(write_replies)
         self.buffer, self.count, self.session = b"", 0, ""
