@@ -1,18 +1,22 @@
 -- Lemmas on bursts: a line of which only a front is kept is answered as the line is.
-use Rattle.std.proofs.Common.{take-append-drop, Result, Ok, Err, OnErr, ◌≡◌, ◌≢◌, ◌⊎◌, inl, inr, ℕ, zero, suc, ◌+◌, ◌<◌, ◌≤◌, ◌==◌, Bool, true, false, true≢false, Some, List, [], ◌∷◌, ◌++◌, cond, ◌-◌, min, length, length-append, length-drop, take, drop, take_all, length-take-le, All, refl, sym, ap, subst, ⊎_elim, ◌∙◌, append_assoc, append-nil, arith, lt-ltb, eq-eqb, eqb-true}
+use Rattle.std.proofs.Common.{take-append-drop, ◌≡◌, ◌≢◌, ◌⊎◌, inl, inr, ℕ, zero, suc, ◌+◌, ◌<◌, ◌≤◌, ◌==◌, Bool, true, false, true≢false, List, [], ◌∷◌, ◌++◌, cond, ◌-◌, min, length, length-append, length-drop, take, drop, take_all, length-take-le, All, refl, sym, ap, subst, ⊎_elim, ◌∙◌, append_assoc, append-nil, arith, lt-ltb, eq-eqb, eqb-true}
 use Rattle.std.proofs.lemmas.Bool.{ne_eqb, cond-false, cases_lt}
 use lib.Seq.{take-append-add}
 use Rattle.std.proofs.lemmas.List.{take_more, get_or-drop, get_or_default, take-append-le}
 use Rattle.std.proofs.lemmas.List.Elements.{All-head, All-tail, All-take, All-append, All-nil, All-cons}
+use Rattle.std.proofs.lemmas.List.Sums.{sum_by-cons}
 use Rattle.memchr.specs.Find.{NoneAfter, Passes, is_byte}
 use Rattle.lost_spec.specs.Text.{Text}
 use Rattle.lost_lines.specs.Cutting.{newline, line_limit, with_byte, cut, ended_lines, last_piece, piece_lines, lines_of, is_long}
-use Rattle.lost_lines.specs.Run.{Cut, Whole, TooLong, Unread, IsCut, Reply, Run, text_of}
-use Rattle.lost_lines.proofs.CuttingLemmas.{cut-join, cut-line, cut-piece, lines_of-cut}
+use Rattle.lost_lines.specs.Run.{Cut, Whole, TooLong, Unread, IsCut, Reply, Run, text_of, long_count}
+use Rattle.lost_lines.specs.Serving.{Adds}
 use Rattle.lost_lines.specs.declared.counts.Counts.{Counts}
-use Rattle.lost_lines.specs.Stream.{IsServed, IsCutOff, AppendsFront}
+use Rattle.lost_lines.proofs.CuttingLemmas.{cut-join, cut-line, cut-piece, lines_of-cut}
 use Rattle.lost_worker.specs.Lines.{Worker, Answers}
-use Rattle.lost_connections.specs.Steady.{IsBegun, AnswersAll, AnswersFront}
+use Rattle.lost_connections.specs.declared.faults.ClientFault.{ClientFault}
+use Rattle.lost_connections.specs.declared.faults.ClientFault.TheVariants.{Memory, Spent}
+use Rattle.lost_connections.specs.Begun.{IsBegun}
+use Rattle.lost_connections.specs.Replies.{Replied, AnswersAll, AnswersSome, AnswersFront}
 
 -- a byte that ends no line stands at the front of the first
 cut-other : (b : ℕ) (x : Text) → (b == newline) ≡ false → cut (b ∷ x) ≡ with_byte b (ended_lines x) (last_piece x)
@@ -107,24 +111,64 @@ same_or_long kept piece begun = ⊎_elim
     (λ (within : length piece ≤ line_limit). inl (begun.front ∙ take_all (line_limit + 1) piece (omega (arith, within))))
     (cases_lt line_limit (length piece))
 
--- the lines behind what is kept of a line were answered, and so those behind the line
-answers_long : (name : Text) (old new : Worker) (kept piece g unsent more : Text) → All (λ b. b ≢ newline) piece → AreLong kept piece
-    → AnswersAll name old new (lines_of (kept ++ g)) unsent more → AnswersAll name old new (lines_of (piece ++ g)) unsent more
-answers_long name old new kept piece g unsent more unbroken long answers =
-    let on = first_goes_on g in
-    let run = rw (on.lines kept long.unbroken long.some) at answers.run in
-    record {
-      replies = answers.replies;
-      run = rw (on.lines piece unbroken long.some_piece) (run_other_line name old new (kept ++ on.first) (piece ++ on.first) on.others answers.replies (long.kept_long on.first) (long.piece_long on.first) run);
-      behind = answers.behind;
-    }
+memory_is_spent : Memory ≡ Spent → ⊥
+memory_is_spent is = cc
 
-pub answers_whole : (name : Text) (old new : Worker) (kept piece g unsent more : Text) → IsBegun kept piece
-    → AnswersAll name old new (lines_of (kept ++ g)) unsent more → AnswersAll name old new (lines_of (piece ++ g)) unsent more
-answers_whole name old new kept piece g unsent more begun answers = ⊎_elim
-    (λ (same : kept ≡ piece). subst (λ (p : Text). AnswersAll name old new (lines_of (p ++ g)) unsent more) same answers)
-    (λ (long : AreLong kept piece). answers_long name old new kept piece g unsent more begun.is_open long answers)
-    (same_or_long kept piece begun)
+-- and counted as any other that is
+long_count-other : (l m : Text) (ls : List Text) → is_long l ≡ true → is_long m ≡ true → long_count (l ∷ ls) ≡ long_count (m ∷ ls)
+long_count-other l m ls p q =
+    let f : Text → ℕ = λ line. cond (is_long line) 1 0 in
+    sum_by-cons f l ls ∙ ap (λ (b : Bool). cond b 1 0 + long_count ls) (p ∙ sym q) ∙ sym (sum_by-cons f m ls)
+
+adds_other : (x y : Counts) (l m : Text) (ls : List Text) (rs : List Reply) → is_long l ≡ true → is_long m ≡ true → Adds x y (l ∷ ls) rs → Adds x y (m ∷ ls) rs
+adds_other x y l m ls rs p q adds = record {
+  lines_answered = adds.lines_answered;
+  long_lines = adds.long_lines ∙ ap (λ (n : ℕ). x.long_lines + n) (long_count-other l m ls p q);
+  memory = adds.memory;
+  faults = adds.faults;
+}
+
+module _ (says : ℕ → Bool → Type 0) (name : Text) (old new : Worker) where
+  -- the lines behind what is kept of a line were answered, and so those behind the line
+  answers_other : (l m : Text) (ls : List Text) (x y : Replied) → is_long l ≡ true → is_long m ≡ true
+      → AnswersAll says name old new (l ∷ ls) x y → AnswersAll says name old new (m ∷ ls) x y
+  answers_other l m ls x y p q answers = record {
+    replies = answers.replies;
+    run = run_other_line name old new l m ls answers.replies p q answers.run;
+    let_through = answers.let_through;
+    behind = answers.behind;
+    counted = adds_other x.counts y.counts l m ls answers.replies p q answers.counted;
+    same_most = answers.same_most;
+  }
+
+  answers_long : (kept piece g : Text) (x y : Replied) → All (λ b. b ≢ newline) piece → AreLong kept piece
+      → AnswersAll says name old new (lines_of (kept ++ g)) x y → AnswersAll says name old new (lines_of (piece ++ g)) x y
+  answers_long kept piece g x y unbroken long answers =
+      let on = first_goes_on g in
+      subst (λ (ls : List Text). AnswersAll says name old new ls x y) (sym (on.lines piece unbroken long.some_piece))
+      (answers_other (kept ++ on.first) (piece ++ on.first) on.others x y (long.kept_long on.first) (long.piece_long on.first)
+      (subst (λ (ls : List Text). AnswersAll says name old new ls x y) (on.lines kept long.unbroken long.some) answers))
+
+  pub answers_whole : (kept piece g : Text) (x y : Replied) → IsBegun kept piece
+      → AnswersAll says name old new (lines_of (kept ++ g)) x y → AnswersAll says name old new (lines_of (piece ++ g)) x y
+  answers_whole kept piece g x y begun answers = ⊎_elim
+      (λ (same : kept ≡ piece). subst (λ (p : Text). AnswersAll says name old new (lines_of (p ++ g)) x y) same answers)
+      (λ (long : AreLong kept piece). answers_long kept piece g x y begun.is_open long answers)
+      (same_or_long kept piece begun)
+
+  -- the same of a front of the lines
+  some_other : (l m : Text) (ls : List Text) (rs : List Reply) (x y : Replied) (fault : ClientFault) → is_long l ≡ true → is_long m ≡ true
+      → AnswersSome says name old new (l ∷ ls) rs x y fault → AnswersSome says name old new (m ∷ ls) rs x y fault
+  some_other l m ls rs x y fault p q some = record {
+    run = run_other_line name old new l m ls rs p q some.run;
+    let_through = some.let_through;
+    behind = some.behind;
+    counted = ⊎_elim (λ (none : y.counts ≡ x.counts). inl none) (λ (all : Adds x.counts y.counts (l ∷ ls) rs). inr (adds_other x.counts y.counts l m ls rs p q all)) some.counted;
+    same_most = some.same_most;
+    cause = some.cause;
+    whole = some.whole;
+    spent = some.spent;
+  }
 
 head_of : List Text → Text
 head_of [] = []
@@ -134,93 +178,85 @@ tail_of : List Text → List Text
 tail_of [] = []
 tail_of (l ∷ ls) = ls
 
--- the same of a front of the lines
-front_long : (name : Text) (old new : Worker) (l m : Text) (ms : List Text) (unsent more : Text) → is_long l ≡ true → is_long m ≡ true → (lines others : List Text) (replies : List Reply)
-    → l ∷ ms ≡ lines ++ others → Run (Answers name) old lines replies new → AppendsFront (Some unsent) (Some more) (text_of replies)
-    → AnswersFront name old new (m ∷ ms) unsent more
-unfolding head_of tail_of
-front_long name old new l m ms unsent more p q [] others replies begins run after = record {
-  lines = [];
-  others = m ∷ ms;
-  begins = refl;
-  replies = replies;
-  run = run;
-  behind = after;
-}
-front_long name old new l m ms unsent more p q (x ∷ xs) others replies begins run after =
-    let first : l ≡ x = ap head_of begins in
-    let later : ms ≡ xs ++ others = ap tail_of begins in
-    record {
-      lines = m ∷ xs;
-      others = others;
-      begins = ap (λ (ls : List Text). m ∷ ls) later;
-      replies = replies;
-      run = run_other_line name old new l m xs replies p q (subst (λ (y : Text). Run (Answers name) old (y ∷ xs) replies new) (sym first) run);
-      behind = after;
-    }
+module _ (says : ℕ → Bool → Type 0) (name : Text) (old new : Worker) where
+  front_long : (l m : Text) (ms : List Text) (x y : Replied) (fault : ClientFault) → is_long l ≡ true → is_long m ≡ true → (lines others : List Text) (replies : List Reply)
+      → l ∷ ms ≡ lines ++ others → AnswersSome says name old new lines replies x y fault → AnswersFront says name old new (m ∷ ms) x y fault
+  unfolding head_of tail_of
+  front_long l m ms x y fault p q [] others replies begins some = record { lines = []; others = m ∷ ms; begins = refl; replies = replies; answered = some }
+  front_long l m ms x y fault p q (v ∷ vs) others replies begins some =
+      let first : l ≡ v = ap head_of begins in
+      let later : ms ≡ vs ++ others = ap tail_of begins in
+      record {
+        lines = m ∷ vs;
+        others = others;
+        begins = ap (λ (ls : List Text). m ∷ ls) later;
+        replies = replies;
+        answered = some_other says name old new l m vs replies x y fault p q (subst (λ (u : Text). AnswersSome says name old new (u ∷ vs) replies x y fault) (sym first) some);
+      }
 
-pub front_whole : (name : Text) (old new : Worker) (kept piece g unsent more : Text) → IsBegun kept piece
-    → AnswersFront name old new (lines_of (kept ++ g)) unsent more → AnswersFront name old new (lines_of (piece ++ g)) unsent more
-front_whole name old new kept piece g unsent more begun answers = ⊎_elim
-    (λ (same : kept ≡ piece). subst (λ (p : Text). AnswersFront name old new (lines_of (p ++ g)) unsent more) same answers)
-    (λ (long : AreLong kept piece).
-    let on = first_goes_on g in
-    subst (λ (ls : List Text). AnswersFront name old new ls unsent more) (sym (on.lines piece begun.is_open long.some_piece))
-    (front_long name old new (kept ++ on.first) (piece ++ on.first) on.others unsent more (long.kept_long on.first) (long.piece_long on.first) answers.lines answers.others answers.replies
-    (sym (on.lines kept long.unbroken long.some) ∙ answers.begins) answers.run answers.behind))
-    (same_or_long kept piece begun)
+  pub front_whole : (kept piece g : Text) (x y : Replied) (fault : ClientFault) → IsBegun kept piece
+      → AnswersFront says name old new (lines_of (kept ++ g)) x y fault → AnswersFront says name old new (lines_of (piece ++ g)) x y fault
+  front_whole kept piece g x y fault begun answers = ⊎_elim
+      (λ (same : kept ≡ piece). subst (λ (p : Text). AnswersFront says name old new (lines_of (p ++ g)) x y fault) same answers)
+      (λ (long : AreLong kept piece).
+      let on = first_goes_on g in
+      subst (λ (ls : List Text). AnswersFront says name old new ls x y fault) (sym (on.lines piece begun.is_open long.some_piece))
+      (front_long (kept ++ on.first) (piece ++ on.first) on.others x y fault (long.kept_long on.first) (long.piece_long on.first) answers.lines answers.others answers.replies
+      (sym (on.lines kept long.unbroken long.some) ∙ answers.begins) answers.answered))
+      (same_or_long kept piece begun)
 
--- a front of no lines
-pub front_none : (name : Text) (worker : Worker) (all : List Text) (unsent : Text) → AnswersFront name worker worker all unsent unsent
-front_none name worker all unsent = record {
-  lines = [];
-  others = all;
-  begins = refl;
-  replies = [];
-  run = refl;
-  behind = ([], [], refl, sym (append-nil unsent));
-}
+  -- lines that were answered, where memory is refused behind them
+  pub some_of_all : (all : List Text) (x y : Replied) (answers : AnswersAll says name old new all x y) → AnswersSome says name old new all answers.replies x y Memory
+  some_of_all all x y answers = record {
+    run = answers.run;
+    let_through = answers.let_through;
+    behind = (text_of answers.replies, [], sym (append-nil (text_of answers.replies)), answers.behind);
+    counted = inr answers.counted;
+    same_most = answers.same_most;
+    cause = inl refl;
+    whole = λ is. answers.behind;
+    spent = λ is. absurd (memory_is_spent is);
+  }
 
--- lines that were answered are a front of more
-pub front_of_more : (name : Text) (old new : Worker) (all others : List Text) (unsent more : Text) → AnswersAll name old new all unsent more → AnswersFront name old new (all ++ others) unsent more
-front_of_more name old new all others unsent more answers = record {
-  lines = all;
-  others = others;
-  begins = refl;
-  replies = answers.replies;
-  run = answers.run;
-  behind = (text_of answers.replies, [], sym (append-nil (text_of answers.replies)), answers.behind);
-}
+  pub front_of_all : (all : List Text) (x y : Replied) → AnswersAll says name old new all x y → AnswersFront says name old new all x y Memory
+  front_of_all all x y answers = record { lines = all; others = []; begins = sym (append-nil all); replies = answers.replies; answered = some_of_all all x y answers }
 
-pub front_more : (name : Text) (old new : Worker) (all others : List Text) (unsent more : Text) → AnswersFront name old new all unsent more → AnswersFront name old new (all ++ others) unsent more
-front_more name old new all others unsent more answers = record {
-  lines = answers.lines;
-  others = answers.others ++ others;
-  begins = ap (λ (ls : List Text). ls ++ others) answers.begins ∙ append_assoc answers.lines answers.others others;
-  replies = answers.replies;
-  run = answers.run;
-  behind = answers.behind;
-}
+  -- the same for a line alone
+  pub answers_alone : (kept piece : Text) (x y : Replied) → IsBegun kept piece
+      → AnswersAll says name old new (lines_of kept) x y → AnswersAll says name old new (lines_of piece) x y
+  answers_alone kept piece x y begun answers =
+      subst (λ (t : Text). AnswersAll says name old new (lines_of t) x y) (append-nil piece)
+      (answers_whole says name old new kept piece [] x y begun (subst (λ (t : Text). AnswersAll says name old new (lines_of t) x y) (sym (append-nil kept)) answers))
 
--- what a stream of a known text says of its lines
-pub all_from_served : (says : ℕ → Bool → Type 0) (name : Text) (old new : Worker) (text unsent more : Text) (counts : Counts)
-    → IsServed says (Answers name) old new (Some text) (Some unsent) (Some more) counts → AnswersAll name old new (lines_of text) unsent more
-all_from_served says name old new text unsent more counts s = record {
-  replies = s.replies;
-  run = subst (λ (ls : List Text). Run (Answers name) old ls s.replies new) s.read s.run;
-  behind = s.written;
-}
+  pub front_alone : (kept piece : Text) (x y : Replied) (fault : ClientFault) → IsBegun kept piece
+      → AnswersFront says name old new (lines_of kept) x y fault → AnswersFront says name old new (lines_of piece) x y fault
+  front_alone kept piece x y fault begun answers =
+      subst (λ (t : Text). AnswersFront says name old new (lines_of t) x y fault) (append-nil piece)
+      (front_whole kept piece [] x y fault begun (subst (λ (t : Text). AnswersFront says name old new (lines_of t) x y fault) (sym (append-nil kept)) answers))
 
-pub front_from_cut_off : (says : ℕ → Bool → Type 0) (name : Text) (old new : Worker) (text unsent more : Text)
-    → IsCutOff says (Answers name) old new (Some text) (Some unsent) (Some more) → AnswersFront name old new (lines_of text) unsent more
-front_from_cut_off says name old new text unsent more s = record {
-  lines = s.lines;
-  others = s.read.0;
-  begins = s.read.1;
-  replies = s.replies;
-  run = s.run;
-  behind = s.written;
-}
+  -- the same lines by another name
+  pub front_of_same : (all same : List Text) (x y : Replied) (fault : ClientFault) → same ≡ all → AnswersFront says name old new all x y fault → AnswersFront says name old new same x y fault
+  front_of_same all same x y fault e answers = subst (λ (ls : List Text). AnswersFront says name old new ls x y fault) (sym e) answers
+
+module _ (says : ℕ → Bool → Type 0) (name : Text) (worker : Worker) where
+  -- nothing was answered
+  adds_none : (x : Counts) → Adds x x [] []
+  adds_none x = record { lines_answered = omega arith; long_lines = omega arith; memory = omega arith; faults = refl }
+
+  pub none_answered : (x : Replied) → AnswersAll says name worker worker [] x x
+  none_answered x = record {
+    replies = [];
+    run = refl;
+    let_through = λ line some within. absurd (omega (arith, some, within));
+    behind = sym (append-nil x.unsent);
+    counted = adds_none x.counts;
+    same_most = refl;
+  }
+
+  -- a front of no lines
+  pub front_none : (all : List Text) (x : Replied) → AnswersFront says name worker worker all x x Memory
+  unfolding none_answered
+  front_none all x = record { lines = []; others = all; begins = refl; replies = []; answered = some_of_all says name worker worker [] x x (none_answered x) }
 
 -- ---- the last byte 10 of bytes
 
@@ -294,19 +330,6 @@ none_taken (suc n) (b ∷ piece) some front = absurd (omega (arith, ap length fr
 pub none_begun : (piece : Text) → IsBegun [] piece → piece ≡ []
 none_begun piece begun = none_taken (line_limit + 1) piece (omega arith) begun.front
 
--- ---- the same for a line alone
-pub answers_alone : (name : Text) (old new : Worker) (kept piece unsent more : Text) → IsBegun kept piece
-    → AnswersAll name old new (lines_of kept) unsent more → AnswersAll name old new (lines_of piece) unsent more
-answers_alone name old new kept piece unsent more begun answers =
-    subst (λ (x : Text). AnswersAll name old new (lines_of x) unsent more) (append-nil piece)
-    (answers_whole name old new kept piece [] unsent more begun (subst (λ (x : Text). AnswersAll name old new (lines_of x) unsent more) (sym (append-nil kept)) answers))
-
-pub front_alone : (name : Text) (old new : Worker) (kept piece unsent more : Text) → IsBegun kept piece
-    → AnswersFront name old new (lines_of kept) unsent more → AnswersFront name old new (lines_of piece) unsent more
-front_alone name old new kept piece unsent more begun answers =
-    subst (λ (x : Text). AnswersFront name old new (lines_of x) unsent more) (append-nil piece)
-    (front_whole name old new kept piece [] unsent more begun (subst (λ (x : Text). AnswersFront name old new (lines_of x) unsent more) (sym (append-nil kept)) answers))
-
 -- ---- bytes with a byte 10, split behind the last one
 pub record SplitsAtLast (bytes lines rest : Text) : Type 0 where
   pub front : Text
@@ -332,8 +355,8 @@ cut_split piece bytes lines rest s =
     let all = cut-join (piece ++ lines) rest (ended_lines (piece ++ lines)) [] [] rest (ended piece bytes lines rest s) (cut-piece rest s.unbroken) in
     ap (λ (x : Text). cut x) e ∙ all ∙ ap (λ (ls : List Text). (ls, rest)) (append-nil (ended_lines (piece ++ lines)) ∙ sym (lines_ended piece bytes lines rest s))
 
-pub lines_split : (piece bytes lines rest : Text) → SplitsAtLast bytes lines rest → lines_of (piece ++ bytes) ≡ lines_of (piece ++ lines) ++ piece_lines rest
-lines_split piece bytes lines rest s = lines_of-cut (piece ++ bytes) (lines_of (piece ++ lines)) rest (cut_split piece bytes lines rest s)
+pub ended_split : (piece bytes lines rest : Text) → SplitsAtLast bytes lines rest → ended_lines (piece ++ bytes) ≡ lines_of (piece ++ lines)
+ended_split piece bytes lines rest s = let f : List Text × Text → List Text = λ c. c.0 in ap f (cut_split piece bytes lines rest s)
 
 pub split_of : (bytes lines rest : Text) (n : ℕ) → NoneAfter (Passes (is_byte newline) bytes) 0 (length bytes) n × Passes (is_byte newline) bytes n
     → lines ≡ take (n + 1) bytes → rest ≡ drop (n + 1) bytes → SplitsAtLast bytes lines rest
@@ -343,15 +366,3 @@ split_of bytes lines rest n found front back = record {
   joins = sym (take-append-drop (n + 1) bytes) ∙ ap (λ (x : Text). x ++ drop (n + 1) bytes) (sym front) ∙ ap (λ (x : Text). lines ++ x) (sym back);
   unbroken = rw back (All-after_last bytes n found.0);
 }
-
--- nothing was answered
-pub none_answered : (name : Text) (worker : Worker) (unsent : Text) → AnswersAll name worker worker [] unsent unsent
-none_answered name worker unsent = record { replies = []; run = refl; behind = sym (append-nil unsent) }
-
-pub on_err_from : {T E P : Type 0} (r : Result T E) → P → OnErr r P
-on_err_from (Ok x) p = tt
-on_err_from (Err e) p = p
-
--- the same lines by another name
-pub front_of_same : (name : Text) (old new : Worker) (all same : List Text) (unsent more : Text) → same ≡ all → AnswersFront name old new all unsent more → AnswersFront name old new same unsent more
-front_of_same name old new all same unsent more e answers = subst (λ (ls : List Text). AnswersFront name old new ls unsent more) (sym e) answers

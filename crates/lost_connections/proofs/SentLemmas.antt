@@ -4,7 +4,7 @@ use Rattle.std.specs.Io.KnownBytes.{Keeps, Appends}
 use Rattle.std.proofs.KnownBytes.{Appends-nil, Appends-trans, Appends-kept}
 use lib.Seq.{drop-append_seam}
 use Rattle.lost_spec.specs.Text.{Text}
-use Rattle.lost_connections.specs.Steady.{Sent}
+use Rattle.lost_connections.specs.Sent.{Sent}
 
 pub Sent-none : (before : Option Text) (bytes : Text) → Sent before before bytes bytes
 Sent-none before bytes = record { taken = []; appended = Appends-nil before; splits = refl }

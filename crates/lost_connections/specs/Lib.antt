@@ -1,4 +1,14 @@
+pub mod Deadlines
+pub mod Admission
+pub mod Begun
+pub mod Worker
+pub mod Sent
+pub mod Noted
+pub mod Replies
+pub mod Parts
+pub mod Bursts
+pub mod Steady
 pub mod Client
 pub mod Clients
+pub mod Lends
 pub mod Laws
-pub mod Steady

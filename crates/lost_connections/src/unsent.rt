@@ -1,12 +1,14 @@
 //! The replies that a connection's output did not take yet.
-ghost use Rattle.std.specs.Prelude.{◌≡◌, ◌≤◌, ◌==◌, [], Some, length, take, IfOk, OnErr};
+ghost use Rattle.std.specs.Prelude.{◌≡◌, ◌==◌, true, [], Some, length};
 ghost use Rattle.std.specs.Io.{WritesAtMost};
-ghost use Rattle.std.specs.Io.KnownBytes.{Appends, Keeps, WriteAppends};
-ghost use Rattle.lost_connections.specs.Steady.{Sent};
+ghost use Rattle.std.specs.Io.KnownBytes.{Keeps, WriteAppends};
+ghost use Rattle.lost_connections.specs.Noted.{inner_of, has_failed};
+ghost use Rattle.lost_connections.specs.Sent.{Sent};
 
+use crate::noted::Noted;
 use std::alloc::Global;
 use std::io;
-use std::io::{ErrorKind, Write};
+use std::io::Write;
 use std::marker::Model;
 
 /// The most bytes of room that stay once all are taken.
@@ -14,7 +16,7 @@ const KEPT_ROOM: usize = 65_536;
 
 /// Replies that an output did not take yet, in order. Contracts see them as the bytes that are left.
 #[derive(Drop)]
-pub struct Unsent {
+pub(crate) struct Unsent {
     bytes: Vec<u8>,
     taken: usize,
 }
@@ -32,7 +34,7 @@ impl Model for Unsent {
 
 impl Unsent {
     /// Nothing is left.
-    pub fn new(alloc: Global) -> Unsent
+    pub(crate) fn new(alloc: Global) -> Unsent
         ensures { result ≡ [] }
     {
         Unsent {
@@ -42,28 +44,28 @@ impl Unsent {
     }
 
     /// How many bytes are left.
-    pub fn len(&self) -> usize
+    pub(crate) fn len(&self) -> usize
         ensures { result ≡ length self.now }
     {
         self.bytes.len() - self.taken
     }
 
     /// Whether nothing is left.
-    pub fn is_empty(&self) -> bool
+    pub(crate) fn is_empty(&self) -> bool
         ensures { result ≡ (length self.now == 0) }
     {
         self.len() == 0
     }
 
-    /// Writes as much of what is left as the output takes at once. Says whether no write failed: one that would wait
-    /// did not fail, and one that took nothing did. What was taken before a failure is taken.
-    pub fn send<O: Write>(&mut self, alloc: Global, output: &mut O) -> bool
-        ensures sent { Sent (O.contents output.old) (O.contents output.new) self.old self.new }
+    /// Writes as much of what is left as the output takes at once. A write that fails sets the output's flag; what was
+    /// taken before is taken.
+    pub(crate) fn send<O: Write>(&mut self, alloc: Global, output: &mut Noted<O>)
+        ensures sent { Sent (O.contents (inner_of output.old)) (O.contents (inner_of output.new)) self.old self.new }
+        ensures flag { has_failed output.old ≡ true → has_failed output.new ≡ true }
     {
-        let (rest, is_well) = write_some(output, &self.bytes[self.taken..]);
+        let rest = write_some(output, &self.bytes[self.taken..]);
         self.taken = self.bytes.len() - rest.len();
         self.close_up(alloc);
-        is_well
     }
 
     /// Frees the room of the taken bytes, if they are at least as many as those left.
@@ -86,35 +88,19 @@ impl Unsent {
     }
 }
 
-/// Writes as many of the bytes as the output takes at once. Gives the others, and whether no write failed.
-fn write_some<'b, O: Write>(output: &mut O, bytes: &'b [u8]) -> (&'b [u8], bool)
-    ensures sent { Sent (O.contents output.old) (O.contents output.new) bytes.now result.0.now }
+/// Writes as many of the bytes as the output takes at once, and gives the others.
+fn write_some<'b, O: Write>(output: &mut Noted<O>, bytes: &'b [u8]) -> &'b [u8]
+    ensures sent { Sent (O.contents (inner_of output.old)) (O.contents (inner_of output.new)) bytes.now result.now }
+    ensures flag { has_failed output.old ≡ true → has_failed output.new ≡ true }
 {
     let mut rest = bytes;
     while !rest.is_empty() {
-        let Ok(count) = write_once(output, rest) else {
-            return (rest, false);
-        };
-        if count == 0 {
-            return (rest, true);
+        match output.write(rest) {
+            Ok(count) if count > 0 => rest = &rest[count..],
+            _ => return rest,
         }
-        rest = &rest[count..];
     }
-    (rest, true)
-}
-
-/// Writes some of the bytes, and gives how many; 0 if the output would wait.
-fn write_once<O: Write>(output: &mut O, bytes: &[u8]) -> io::Result<usize>
-    ensures within { IfOk result (λ count. count ≤ length bytes.now) }
-    ensures taken { IfOk result (λ count. Appends (O.contents output.old) (O.contents output.new) (take count bytes.now)) }
-    ensures none { OnErr result (Appends (O.contents output.old) (O.contents output.new) []) }
-{
-    match output.write(bytes) {
-        Ok(0) => Err(io::Error::from(ErrorKind::WriteZero)),
-        Ok(count) => Ok(count),
-        Err(error) if error.kind() == ErrorKind::WouldBlock => Ok(0),
-        Err(error) => Err(error),
-    }
+    rest
 }
 
 impl Write for Unsent {

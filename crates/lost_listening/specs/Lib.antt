@@ -1,3 +1,1 @@
-pub mod Admission
-pub mod Deadlines
 pub mod Strangers

@@ -1,8 +1,7 @@
 //! The state that threads share when they watch many connections.
 ghost use Rattle.std.specs.Prelude.{◌≤◌};
 
-use crate::admission::{Admission, Refusal};
-use crate::limits::{ConnectionLimits, TimeLimits};
+use lost_connections::{Admission, ConnectionLimits, Refusal, TimeLimits};
 use lost_sockets::most_files;
 use std::alloc::{AllocError, Global};
 use std::hash::RandomState;

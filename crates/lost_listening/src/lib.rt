@@ -3,31 +3,23 @@
 //! no worker's answers.
 #![tactic(auto)]
 
-mod admission;
-mod deadlines;
 mod desk_ends;
 mod desk_turns;
 mod doors;
 mod hall;
-mod halves;
-mod laws;
-mod limits;
 mod notices;
 mod peer;
+mod shared_stream;
 mod status_port;
 mod strangers;
 mod voice;
 
-pub use admission::{Admission, Refusal};
-pub use deadlines::{Passed, Shown, Times};
 pub use desk_ends::{DeskTurn, TurnInput, TurnOutput, is_of_waiting};
 pub use desk_turns::DeskDoor;
 pub use doors::{Doors, Ready};
 pub use hall::Hall;
-pub use halves::{InHalf, OutHalf, halves_of};
-pub use laws::law_all_have_left;
-pub use limits::{ConnectionLimits, TimeLimits};
 pub use notices::{Notices, notices_of};
 pub use peer::{Incoming, Outgoing, ends};
+pub use shared_stream::SharedStream;
 pub use status_port::{answer_status, shared_status};
 pub use voice::{Mouth, Voice, start_voice};

@@ -21,8 +21,9 @@ mod threads;
 mod watching;
 mod workers;
 
+pub use lost_connections::ConnectionLimits;
 pub use lost_lines::{Counts, Gate, NoGate, ServeError, Turns, Watched};
-pub use lost_listening::{ConnectionLimits, Doors, Ready};
+pub use lost_listening::{Doors, Ready};
 pub use lost_replay::{Replayer, replay};
 pub use lost_status::VERSION;
 pub use map::{MapFound, load_map};

@@ -1,5 +1,5 @@
 //! A server's settings.
-use lost_listening::ConnectionLimits;
+use lost_connections::ConnectionLimits;
 use lost_mapping::Source;
 use lost_sockets::Addresses;
 use std::time::Duration;

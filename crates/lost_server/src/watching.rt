@@ -5,9 +5,9 @@ use crate::arrivals::{ARRIVALS, Arrival};
 use crate::clock::MachineClock;
 use crate::shared::Shared;
 use crossbeam_channel::{Receiver, TryRecvError};
-use lost_connections::{Client, ClientFault, Clients, Progress, Seat};
-use lost_lines::Counts;
-use lost_listening::{Hall, InHalf, OutHalf, Passed, Shown, Times, halves_of};
+use lost_connections::{Client, ClientFault, Clients, Progress};
+use lost_lines::{Counts, NoGate};
+use lost_listening::{Hall, SharedStream};
 use lost_sockets::{Peer, Stream};
 use lost_status::WorkerCounts;
 use lost_worker::{Moments, Replier};
@@ -44,34 +44,17 @@ struct ConnectionState {
     peer: Peer,
     /// Whether it is in the queue of connections to serve at once.
     is_queued: bool,
-    /// At the last look: how often bytes had come, how often line ends, and how many bytes were taken.
-    reads: u64,
-    ends: u64,
-    taken: u64,
-    times: Times,
 }
 
-impl ConnectionState {
-    /// The state of a connection that begins now.
-    fn new(number: u64, peer: Peer, now: Duration) -> ConnectionState {
-        ConnectionState {
-            number,
-            peer,
-            is_queued: false,
-            reads: 0,
-            ends: 0,
-            taken: 0,
-            times: Times::at(now),
-        }
-    }
-}
+/// The connections of a worker.
+type Connections = Clients<SharedStream, SharedStream, ConnectionState>;
 
 /// The connections that one worker watches: the arriving ones, all of them, and those to serve at once.
 pub(crate) struct Watcher {
     arrivals: Receiver<Arrival>,
     poll: Poll,
     events: Events,
-    clients: Clients<InHalf, OutHalf, ConnectionState>,
+    clients: Connections,
     queue: VecDeque<usize>,
     chunk: Vec<u8>,
     /// The time of this round, by the monotonic clock.
@@ -221,11 +204,12 @@ impl Watcher {
             peer,
         } = arrival;
         shared.status.count_taken();
-        if !self.seat(
-            shared.alloc,
-            stream,
-            ConnectionState::new(number, peer, self.now),
-        ) {
+        let state = ConnectionState {
+            number,
+            peer,
+            is_queued: false,
+        };
+        if !self.hold_polled(shared.alloc, stream, state) {
             hall.leave(shared.rt, peer.address());
             self.count_ended(
                 shared,
@@ -237,7 +221,7 @@ impl Watcher {
     }
 
     /// Watches a connection from here on. Says whether that succeeded; if not, it is closed.
-    fn seat(&mut self, alloc: Global, stream: Stream, state: ConnectionState) -> bool {
+    fn hold_polled(&mut self, alloc: Global, stream: Stream, state: ConnectionState) -> bool {
         let fd = stream.raw_fd();
         let Some(key) = self.hold(alloc, stream, state) else {
             return false;
@@ -257,9 +241,9 @@ impl Watcher {
         if stream.set_nonblocking(true).is_err() || self.queue.reserve(all).is_err() {
             return None;
         }
-        let (input, output) = halves_of(alloc, stream).ok()?;
-        let client = Client::new(alloc, input, output);
-        self.clients.insert(client, state).ok()
+        let (input, output) = SharedStream::pair(alloc, stream).ok()?;
+        let client = Client::new(alloc, input, output, u64::MAX);
+        self.clients.insert(client, self.now, state).ok()
     }
 
     /// Asks for the events of a connection under its key. Says whether they will come.
@@ -295,39 +279,24 @@ impl Watcher {
         replier: &mut P,
         moments: &mut M,
     ) {
-        if let Some(seat) = self.clients.get_mut(key) {
-            seat.state.is_queued = false;
+        if let Some(connected) = self.clients.get_mut(key) {
+            connected.state.is_queued = false;
         }
         let served = self.clients.serve(
             key,
             shared.alloc,
             &mut self.chunk,
+            self.now,
             replier,
             shared.name,
             moments,
+            &NoGate,
         );
         match served {
-            None => {}
+            None | Some(Ok(Progress::Waits)) => {}
+            Some(Ok(Progress::More)) => queue_once(&mut self.clients, &mut self.queue, key),
             Some(Ok(Progress::Over)) => self.end(shared, hall, key, None),
             Some(Err(fault)) => self.end(shared, hall, key, Some(fault_text(fault))),
-            Some(Ok(progress)) => {
-                self.look_at(key);
-                if progress == Progress::More {
-                    queue_once(&mut self.clients, &mut self.queue, key);
-                }
-            }
-        }
-    }
-
-    /// Notes what a burst showed about a connection.
-    fn look_at(&mut self, key: usize) {
-        let now = self.now;
-        if let Some(seat) = self.clients.get_mut(key) {
-            let shown = shown_of(seat);
-            seat.state.times = seat.state.times.after(&shown, now);
-            seat.state.reads = seat.client.input().reads();
-            seat.state.ends = seat.client.input().ends();
-            seat.state.taken = seat.client.output().taken();
         }
     }
 
@@ -341,17 +310,14 @@ impl Watcher {
             return;
         }
         self.swept = self.now;
-        for key in 0..self.clients.bound() {
-            if let Some(passed) = self.passed_at(hall, key) {
-                self.end(shared, hall, key, Some(passed.text()));
-            }
+        let mut from = 0;
+        for _ in 0..self.clients.len() {
+            let Some((key, passed)) = self.clients.next_late(from, &hall.limits, self.now) else {
+                return;
+            };
+            self.end(shared, hall, key, Some(passed.text()));
+            from = key.saturating_add(1);
         }
-    }
-
-    /// The limit that the connection under a key has passed, if any.
-    fn passed_at(&self, hall: &Hall, key: usize) -> Option<Passed> {
-        let seat = self.clients.get(key)?;
-        seat.state.times.passed(&hall.limits, self.now)
     }
 
     /// Closes a connection, and reports the cause if it is a fault.
@@ -362,13 +328,14 @@ impl Watcher {
         key: usize,
         cause: Option<&'static str>,
     ) {
-        let Some(seat) = self.clients.remove(key) else {
+        let Some(connected) = self.clients.remove(key) else {
             return;
         };
-        let lines = seat.client.output().lines();
+        let lines = connected.client.counts().lines;
         self.counts.lines = self.counts.lines.saturating_add(lines);
-        hall.leave(shared.rt, seat.state.peer.address());
-        self.count_ended(shared, seat.state.number, &seat.state.peer, cause);
+        let (number, peer) = (connected.state.number, connected.state.peer);
+        hall.leave(shared.rt, peer.address());
+        self.count_ended(shared, number, &peer, cause);
     }
 
     /// Counts that a connection has ended, and reports the cause if it is a fault.
@@ -388,30 +355,12 @@ impl Watcher {
 }
 
 /// Queues a connection to be served at once, unless it is queued already.
-fn queue_once(
-    clients: &mut Clients<InHalf, OutHalf, ConnectionState>,
-    queue: &mut VecDeque<usize>,
-    key: usize,
-) {
-    if let Some(seat) = clients.get_mut(key)
-        && !seat.state.is_queued
+fn queue_once(clients: &mut Connections, queue: &mut VecDeque<usize>, key: usize) {
+    if let Some(connected) = clients.get_mut(key)
+        && !connected.state.is_queued
         && queue.push_back(key).is_ok()
     {
-        seat.state.is_queued = true;
-    }
-}
-
-/// What a connection shows since the last look.
-fn shown_of(seat: &Seat<InHalf, OutHalf, ConnectionState>) -> Shown {
-    let (input, output) = (seat.client.input(), seat.client.output());
-    let has_taken = output.taken() != seat.state.taken;
-    Shown {
-        has_moved: has_taken || input.reads() != seat.state.reads,
-        has_taken,
-        has_ended_line: input.ends() != seat.state.ends,
-        has_begun: seat.client.has_begun(),
-        has_unsent: seat.client.has_unsent(),
-        is_held: seat.client.is_held(),
+        connected.state.is_queued = true;
     }
 }
 
@@ -428,5 +377,6 @@ fn fault_text(fault: ClientFault) -> &'static str {
         ClientFault::Read => "it could not be read",
         ClientFault::Write => "it could not be written",
         ClientFault::Memory => "memory ran out",
+        ClientFault::Spent => "it sent too many lines for one connection",
     }
 }

@@ -109,13 +109,22 @@ impl Served<'_> {
         most: usize,
     ) -> io::Result<bool> {
         let input = Piecewise::of(self.bytes, place);
-        let mut client = Client::new(alloc, input, Sipping::new(alloc, most));
+        let output = Sipping::new(alloc, most);
+        let mut client = Client::new(alloc, input, output, Turns::USUAL.lines);
         let mut chunk = [0u8; CHUNK];
         let name = &self.setting.name;
         for _ in 0..MOST_BURSTS {
             let mut moments = moments_of(self.setting);
-            match client.serve_burst(alloc, &mut chunk, replier, name, &mut moments) {
-                Ok(Progress::Over) => {
+            let served = client.serve_burst(
+                alloc,
+                &mut chunk,
+                replier,
+                name,
+                &mut moments,
+                &NoGate,
+            );
+            match served {
+                Ok(burst) if burst.progress == Progress::Over => {
                     return Ok(client.output().text.as_slice() == self.whole.as_slice());
                 }
                 Ok(_) => {}
@@ -130,6 +139,8 @@ impl Served<'_> {
 fn fault_error(fault: ClientFault) -> io::Error {
     match fault {
         ClientFault::Memory => io::Error::from(io::ErrorKind::OutOfMemory),
-        ClientFault::Read | ClientFault::Write => io::Error::from(io::ErrorKind::Other),
+        ClientFault::Read | ClientFault::Write | ClientFault::Spent => {
+            io::Error::from(io::ErrorKind::Other)
+        }
     }
 }

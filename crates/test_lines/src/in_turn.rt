@@ -4,12 +4,13 @@ use crate::sipping::Sipping;
 use crate::telling::tell_lines;
 use lost_connections::{Client, Clients};
 use lost_desk::Desk;
-use lost_worker::{Replier, Turns, Watched, serve_desk};
+use lost_worker::{NoGate, Replier, Turns, Watched, serve_desk};
 use std::alloc::{AllocError, Global};
 use std::collections::VecDeque;
 use std::io;
 use std::io::{ErrorKind, Read, Write};
 use std::sync::Wait;
+use std::time::Duration;
 use test_parts::Setting;
 
 /// How many lines the connections send in all.
@@ -52,8 +53,8 @@ pub(crate) fn take_turns<R: Wait + Print + AllocGlobal, P: Replier>(
 ) -> io::Result<()> {
     let alloc = rt.alloc();
     let mut clients = Clients::new(alloc);
-    let one = clients.insert(client_of(alloc), ())?;
-    let other = clients.insert(client_of(alloc), ())?;
+    let one = clients.insert(client_of(alloc), Duration::ZERO, ())?;
+    let other = clients.insert(client_of(alloc), Duration::ZERO, ())?;
     serve_lines(rt, desk, &mut clients, [one, other], replier, setting)?;
     for key in [one, other] {
         serve(alloc, &mut clients, key, replier, setting, 64);
@@ -90,14 +91,18 @@ fn client_of(alloc: Global) -> Client<Inbox, Sipping> {
     let inbox = Inbox {
         bytes: VecDeque::new(alloc),
     };
-    Client::new(alloc, inbox, Sipping::new(alloc, SIP))
+    Client::new(alloc, inbox, Sipping::new(alloc, SIP), LINES)
 }
 
 /// Has a connection send a question whose path has this name.
 fn ask(alloc: Global, clients: &mut InMemory, key: usize, name: &str) -> io::Result<()> {
     let line = format!(in alloc; "{{\"listServices\":{{\"path\":[\"{name}\"]}}}}\n")?;
     match clients.get_mut(key) {
-        Some(seat) => seat.client.input_mut().bytes.write_all(line.as_bytes()),
+        Some(connected) => connected
+            .client
+            .input_mut()
+            .bytes
+            .write_all(line.as_bytes()),
         None => Err(AllocError.into()),
     }
 }
@@ -115,7 +120,16 @@ fn serve<P: Replier>(
     for _ in 0..bursts {
         let mut moments = moments_of(setting);
         // The written text shows the result.
-        let _burst = clients.serve(key, alloc, &mut chunk, replier, &setting.name, &mut moments);
+        let _burst = clients.serve(
+            key,
+            alloc,
+            &mut chunk,
+            Duration::ZERO,
+            replier,
+            &setting.name,
+            &mut moments,
+            &NoGate,
+        );
     }
 }
 
@@ -135,8 +149,8 @@ fn publish<R: Wait + AllocGlobal>(rt: &R, desk: &mut Desk, number: u64) -> io::R
 
 /// Prints what was written to a connection.
 fn tell<R: Print>(rt: &R, clients: &InMemory, key: usize) -> io::Result<()> {
-    let Some(seat) = clients.get(key) else {
+    let Some(connected) = clients.get(key) else {
         return Ok(());
     };
-    tell_lines(rt, seat.client.output().text.as_slice())
+    tell_lines(rt, connected.client.output().text.as_slice())
 }
