@@ -43,18 +43,18 @@ server saves nothing: give it its map at each start.\n\n\
 Without --connections the server runs until a signal ends it. Desks are served one after another: a second desk waits \
 until the first has ended. A desk is disconnected if it sends no whole line in the first 10 seconds of its turn; if, \
 while another waits, it sends no whole line or takes no reply for 10 seconds; or if it speaks HTTP or TLS. Edits \
-without a commit are dropped when the desk's connection ends. With --connections N the server serves one desk connection and N query connections. When all have \
-ended, it prints `done lines=L faults=F`: how many lines it answered, and how many query connections ended in a \
+without a commit are dropped when the desk's connection ends. With --connections N the server serves one desk \
+connection and N query connections. When all have ended, it prints `done lines=L faults=F`: how many lines it answered, and how many query connections ended in a \
 fault.\n\n\
 Each worker watches many connections and answers lines as they come; a slow client keeps nobody waiting. A client \
-with 1 MiB of replies waiting is not read until it takes some. A connection ends when its input ends, when it fails, \
-or when it passes a limit: --line-time stops clients that send a line byte by byte, --reply-time those that do not \
+with 1 MiB of replies waiting is not read until it takes some. Without --connections, a connection ends when its input \
+ends, when it fails, or when it passes a limit: --line-time stops clients that send a line byte by byte, --reply-time those that do not \
 take their replies, --idle those that are gone. A connection over --most-connections or --per-address is closed at \
 once, so that no client keeps the others out. Standard error names connections that fail or pass a limit, at most ten \
 a second.\n\n\
-With --connections each worker answers one connection at a time, from its first line to its last; other connections \
-wait. A connection then ends when its input ends, when it fails, after --idle or after 1,000,000 lines; the other \
-limits do not apply.\n\n\
+With --connections a connection ends when its input ends, when it fails, after 1,000,000 lines, or after --idle \
+without a byte that it sends or, while replies wait, takes; the other limits do not apply. One that comes while the \
+system lets the server open no more waits.\n\n\
 An address is HOST:PORT, such as 127.0.0.1:5222, [::1]:5222 or localhost:5222, or unix:PATH for a Unix socket. Only \
 its owner may use the socket's file, unless --socket-mode allows more.\n\n\
 --status answers HTTP: GET /health gives 200 once the server is ready, and 503 before; GET /metrics is for Prometheus; \

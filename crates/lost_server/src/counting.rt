@@ -1,14 +1,12 @@
-//! Counts the replies of a worker, and the lines of desks.
+//! Counts the replies of a worker.
 ghost use Rattle.std.specs.Prelude.{◌≡◌};
 
-use lost_desk::Desk;
-use lost_json::{DeskReply, internal_error};
+use lost_json::internal_error;
 use lost_mapping::{Moment, Source};
-use lost_status::{Status, WorkerCounts};
-use lost_worker::{CachedReader, DeskWitness, Replied, Replier};
+use lost_status::WorkerCounts;
+use lost_worker::{CachedReader, Replied, Replier};
 use std::alloc::Global;
 use std::hash::BuildHasher;
-use std::time::Clock;
 
 /// A reader whose replies are counted by their kinds. It replies as the reader does.
 #[derive(Drop)]
@@ -44,33 +42,4 @@ impl<S: BuildHasher + Drop> Replier for Counting<'_, '_, S> {
             }
         }
     }
-}
-
-/// Counts the outcomes of a desk's lines.
-#[derive(Drop)]
-pub(crate) struct DeskCounting<'r, 's, R: Clock> {
-    pub(crate) rt: &'r R,
-    pub(crate) status: &'s Status,
-}
-
-impl<R: Clock> DeskWitness for DeskCounting<'_, '_, R> {
-    fn saw(&mut self, _line: Option<&[u8]>, reply: DeskReply, desk: &Desk) {
-        match reply {
-            DeskReply::Staged(_) => {}
-            DeskReply::Committed(_) => {
-                if let Ok(since) = self.rt.since_1970() {
-                    self.status.set_commit(since);
-                }
-            }
-            DeskReply::Refused(code) => self.status.count_refusal(code),
-        }
-        tell_book(self.status, desk);
-    }
-}
-
-/// Tells the status what a desk holds.
-pub(crate) fn tell_book(status: &Status, desk: &Desk) {
-    let edition = desk.edition();
-    let pending = desk.staged().edition().saturating_sub(edition);
-    status.set_book(edition, desk.published().len() as u64, pending);
 }

@@ -7,8 +7,8 @@ use std::time::Duration;
 /// How a server treats its connections.
 #[derive(Clone, Copy, PartialEq, Eq, Debug)]
 pub struct ConnectionSettings {
-    /// How long a read or a write of a query connection may wait; `None` for ever. If many are watched, how long one
-    /// may send no byte while no reply waits to be taken.
+    /// How long a query connection may send no byte while no reply waits to be taken; `None` for ever. If their number
+    /// is given, also how long a client may take no byte of its waiting replies.
     pub idle: Option<Duration>,
     /// How long a read or a write of a desk's connection may wait; `None` for ever.
     pub desk_idle: Option<Duration>,

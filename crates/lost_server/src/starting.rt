@@ -2,38 +2,31 @@
 ghost use Rattle.std.specs.Prelude.{◌≡◌};
 ghost use Rattle.lost_worker.specs.Desking.{IsSameDesk};
 
-use crate::counting::tell_book;
-use crate::map::{MapFound, load_map};
+use crate::listeners::{Listeners, Ready, listen_at, open_listeners, remove_sockets};
+use crate::loading::load_from;
 use crate::order::ServerOrder;
+use crate::run::{Run, limits_of_given};
 use crate::run_fault::{RunFault, fault_of_opening};
-use crate::server_fault::{MapFault, ServerFault};
-use crate::serving::serve_all;
-use crate::shared::Shared;
-use crate::standing::watch_all;
+use crate::server_fault::ServerFault;
+use crate::status_port::answer_status;
 use crate::system::System;
 use lost_book::Limits;
 use lost_desk::{Desk, Readers, open_desk};
+use lost_desks::tell_book;
 use lost_lines::{Counts, NoGate};
-use lost_listening::{Doors, Mouth, Ready, answer_status, notices_of, shared_status, start_voice};
-use lost_sockets::{Address, Addresses, Listener, listen, remove_socket};
+use lost_log::{ConnectionLog, LogSender, start_log};
+use lost_sockets::{Address, Listener, remove_socket};
 use lost_status::Status;
-use std::alloc::{AllocError, Global};
-use std::fs::Files;
-use std::io::{Eprint, ErrorKind, Input};
+use std::alloc::AllocError;
 use std::net::{Net, TcpListener, TcpStream};
-use std::random::RandomSource;
 use std::sync::atomic::{AtomicBool, Ordering};
-use std::sync::{Arc, Wait};
+use std::thread;
 use std::time::{Clock, Duration};
-use std::{fs, thread};
-
-/// The file name that means standard input.
-const STANDARD_INPUT: &str = "-";
 
 /// Runs a server as ordered: it reads its map, listens, tells `ready`, and answers connections. With a number of
 /// connections it ends when all of them have ended. Without one it ends once `is_over` is set, one more connection
 /// comes, and all connections have ended. Its status is answered from the beginning. Gives the sums of the query
-/// connections' counts.
+/// connections' counts, as [`crate::serve`] does.
 ///
 /// # Errors
 ///
@@ -65,6 +58,15 @@ pub fn run_server<
     }
 }
 
+/// The counters of a server with this many workers that starts now.
+fn status_of<R: Clock + AllocGlobal>(rt: &R, workers: u32) -> Result<Status, ServerFault> {
+    let started = rt.since_1970().unwrap_or(Duration::from_secs(0));
+    match Status::new(rt.alloc(), workers, started) {
+        Ok(status) => Ok(status),
+        Err(AllocError) => Err(ServerFault::Run(RunFault::Memory)),
+    }
+}
+
 /// The counts of a server that ran, or why it did not start or stopped.
 type Ran = Result<Counts, ServerFault>;
 
@@ -76,7 +78,7 @@ struct Start<'s, 'o, R, Y> {
     order: &'s ServerOrder<'o>,
     ready: &'s Y,
     is_over: &'s AtomicBool,
-    status: &'s Arc<Status>,
+    status: &'s Status,
 }
 
 impl<R, Y> Start<'_, '_, R, Y>
@@ -138,8 +140,8 @@ where
     {
         self.load(desk)?;
         tell_book(self.status, desk);
-        let doors = open_doors(self.rt, &self.order.addresses)?;
-        let result = self.answer(&doors, desk, readers);
+        let listeners = open_listeners(self.rt, &self.order.addresses)?;
+        let result = self.answer(&listeners, desk, readers);
         remove_sockets(self.rt, &self.order.addresses);
         result
     }
@@ -157,162 +159,58 @@ where
         Ok(())
     }
 
-    /// Tells that it is ready, and answers connections.
-    fn answer(&self, doors: &Doors, desk: &mut Desk, readers: Readers) -> Ran
+    /// Tells that it is ready, and answers connections. Meanwhile a thread writes what is said about them.
+    fn answer(&self, listeners: &Listeners, desk: &mut Desk, readers: Readers) -> Ran
         requires { readers.each.opening ≡ desk.old.opening }
     {
         if self.order.connections.is_none()
-            && let Some(desks) = &doors.desk
+            && let Some(desks) = &listeners.desk
             && desks.set_nonblocking(true).is_err()
         {
             return Err(ServerFault::Run(RunFault::Accept));
         }
-        let Ok((mouth, voice)) = start_voice(self.rt, self.rt.alloc()) else {
+        let Ok((sender, writer)) = start_log(self.rt, self.rt.alloc()) else {
             return Err(ServerFault::Run(RunFault::Memory));
         };
-        let result = self.answer_aloud(mouth, doors, desk, readers);
-        voice.finish(self.rt);
+        let result = self.answer_logged(sender, listeners, desk, readers);
+        writer.finish(self.rt);
         result
     }
 
-    /// Tells that it is ready, and answers connections. Lines about them go to `mouth`.
-    fn answer_aloud(&self, mouth: Mouth, doors: &Doors, desk: &mut Desk, readers: Readers) -> Ran
+    /// Tells that it is ready, and answers connections. Lines about them go to `sender`.
+    fn answer_logged(
+        &self,
+        sender: LogSender,
+        listeners: &Listeners,
+        desk: &mut Desk,
+        readers: Readers,
+    ) -> Ran
         requires { readers.each.opening ≡ desk.old.opening }
     {
-        let (rt, order, status) = (self.rt, self.order, self.status);
-        let Ok(notices) = notices_of(rt, rt.alloc(), order.settings.is_quiet, status, Some(mouth))
-        else {
-            return Err(ServerFault::Run(RunFault::Memory));
-        };
-        let shared = Shared {
+        let (rt, order) = (self.rt, self.order);
+        let log = ConnectionLog::new(rt, rt.alloc(), order.settings.is_quiet, Some(sender));
+        let run = Run {
             rt,
             alloc: rt.alloc(),
             name: order.name,
             gate: &NoGate,
-            notices: &notices,
-            settings: order.settings,
-            is_over: self.is_over,
-            status,
+            log: &log,
+            status: self.status,
             counts_replies: order.addresses.status.is_some(),
+            settings: order.settings,
+            limits: match order.connections {
+                Some(_) => limits_of_given(&order.settings),
+                None => order.limits,
+            },
+            workers: order.workers,
+            connections: order.connections,
+            is_over: self.is_over,
         };
-        status.set_ready();
-        if self.ready.ready(doors).is_err() {
+        self.status.set_ready();
+        if self.ready.ready(listeners).is_err() {
             return Err(ServerFault::Ready);
         }
-        let served = match order.connections {
-            Some(connections) => serve_all(&shared, doors, desk, readers, connections),
-            None => watch_all(&shared, &order.limits, doors, desk, readers),
-        };
-        served.map_err(ServerFault::Run)
-    }
-}
-
-/// Listens on the addresses of queries and of the desk.
-fn open_doors<
-    R: Files + Net<Listener = TcpListener, Stream = TcpStream> + RandomSource + AllocGlobal,
->(rt: &R, addresses: &Addresses<'_>) -> Result<Doors, ServerFault> {
-    let queries = listen_at(rt, "--queries", addresses.queries, addresses.socket_mode)?;
-    let Some(address) = addresses.desk else {
-        return Ok(Doors {
-            queries,
-            desk: None,
-        });
-    };
-    match listen_at(rt, "--desk", address, addresses.socket_mode) {
-        Ok(desk) => Ok(Doors {
-            queries,
-            desk: Some(desk),
-        }),
-        Err(fault) => {
-            remove_socket(rt, Address::of(addresses.queries));
-            Err(fault)
-        }
-    }
-}
-
-/// Removes the files of Unix sockets.
-fn remove_sockets<R: Files>(rt: &R, addresses: &Addresses<'_>) {
-    remove_socket(rt, Address::of(addresses.queries));
-    if let Some(address) = addresses.desk {
-        remove_socket(rt, Address::of(address));
-    }
-}
-
-/// Reads the map from a file, or from standard input.
-fn load_from<R: Wait + Eprint + Input + Files + AllocGlobal>(
-    rt: &R,
-    path: &str,
-    order: &ServerOrder<'_>,
-    desk: &mut Desk,
-) -> Result<(), ServerFault>
-    ensures { IsSameDesk desk.old desk.new }
-{
-    let loaded = if path == STANDARD_INPUT {
-        load_map(
-            rt,
-            rt.alloc(),
-            rt.reader(),
-            desk,
-            order.keeps_going,
-            order.shows_progress,
-        )
-    } else {
-        load_file(rt, path, order, desk)
-    };
-    match loaded {
-        Ok(_) => Ok(()),
-        Err(fault) => Err(ServerFault::Map(fault)),
-    }
-}
-
-/// Reads the map from a file.
-fn load_file<R: Wait + Eprint + Files + AllocGlobal>(
-    rt: &R,
-    path: &str,
-    order: &ServerOrder<'_>,
-    desk: &mut Desk,
-) -> Result<MapFound, MapFault>
-    ensures { IsSameDesk desk.old desk.new }
-{
-    if is_folder(rt, path) {
-        return Err(MapFault::Unopened(ErrorKind::IsADirectory));
-    }
-    match fs::open(rt, path) {
-        Ok(file) => load_map(
-            rt,
-            rt.alloc(),
-            file,
-            desk,
-            order.keeps_going,
-            order.shows_progress,
-        ),
-        Err(error) => Err(MapFault::Unopened(error.kind())),
-    }
-}
-
-/// Whether a path leads to a folder.
-fn is_folder<R: Files>(rt: &R, path: &str) -> bool {
-    match fs::metadata(rt, path) {
-        Ok(metadata) => metadata.is_dir(),
-        Err(_) => false,
-    }
-}
-
-/// Listens on the address of an option.
-fn listen_at<
-    R: Files + Net<Listener = TcpListener, Stream = TcpStream> + RandomSource + AllocGlobal,
->(rt: &R, option: &'static str, address: &str, mode: u32) -> Result<Listener, ServerFault> {
-    match listen(rt, Address::of(address), mode) {
-        Ok(listener) => Ok(listener),
-        Err(error) => Err(ServerFault::Address(option, error)),
-    }
-}
-
-/// The counters of a server with this many workers that starts now.
-fn status_of<R: Clock + AllocGlobal>(rt: &R, workers: u32) -> Result<Arc<Status>, ServerFault> {
-    let started = rt.since_1970().unwrap_or(Duration::from_secs(0));
-    match shared_status(rt.alloc(), workers, started) {
-        Ok(status) => Ok(status),
-        Err(AllocError) => Err(ServerFault::Run(RunFault::Memory)),
+        run.answer(listeners, desk, readers)
+            .map_err(ServerFault::Run)
     }
 }

@@ -1,13 +1,16 @@
-//! The threads of a server: one for each worker, one for desks, and the one that lets connections in.
+//! The threads of a server: one for each worker, one for desks, and the one that accepts connections.
 ghost use Rattle.std.specs.Prelude.{◌≡◌, ◌≢◌, Err};
 
 use crate::run_fault::RunFault;
 use lost_lines::Counts;
+use lost_loop::{Acceptor, WorkerHandle};
 use std::alloc::Global;
+use std::io::Eprint;
 use std::sync::Wait;
-use std::sync::atomic::{AtomicBool, Ordering};
+use std::sync::atomic::Ordering;
 use std::thread;
 use std::thread::{JoinHandle, Threads};
+use std::time::Clock;
 
 /// What a thread does.
 pub(crate) trait Task {
@@ -18,35 +21,25 @@ pub(crate) trait Task {
     fn run(self) -> Self::Output;
 }
 
-/// Where connections come in.
-pub(crate) trait Entry {
-    /// Lets connections in until the server is over. Counts a fault for each that no worker could take.
-    fn let_all_in(&self) -> Result<Counts, RunFault>
-        ensures { result ≢ Err RunFault.Workers };
-
-    /// Tells the workers that no further connections come. They are woken by what this has, so it outlives them.
-    fn close(&mut self);
-}
-
-/// Runs each worker in a thread of its own, and desks in one more. Lets connections in from this thread until the server
-/// is over, and waits for all threads. Gives the sum of all counts.
+/// Runs each worker in a thread of its own, and desks in one more. Accepts connections in this thread until the server
+/// is over, and waits for all threads. Gives the sum of all counts. `handles` wake the workers, so they outlive them.
 ///
 /// # Errors
 ///
-/// [`RunFault::Memory`] if a thread was refused. [`RunFault::Accept`] if `desks` says that one was expected and none
-/// came. Those of [`Entry::let_all_in`].
+/// [`RunFault::Memory`] if a thread was refused. [`RunFault::Accept`] if the listener was given up, or if `desks` says
+/// that one was expected and none came.
 pub(crate) fn run_threads<
-    R: Threads + Wait,
+    R: Threads + Wait + Clock + Eprint + Sync,
+    G: Sync,
     W: Task<Output = Counts> + Send + Drop,
     D: Task<Output = bool> + Send + Drop,
-    E: Entry + Drop,
 >(
     rt: &R,
     alloc: Global,
-    is_over: &AtomicBool,
     workers: Vec<W>,
     desks: D,
-    entry: E,
+    acceptor: &Acceptor<'_, R, G>,
+    handles: Vec<WorkerHandle>,
 ) -> Result<Counts, RunFault>
     ensures { result ≢ Err RunFault.Workers }
 {
@@ -56,7 +49,7 @@ pub(crate) fn run_threads<
         |scope| -> Result<Counts, RunFault>
             ensures { result ≢ Err RunFault.Workers }
         {
-            let mut entry = entry;
+            let mut handles = handles;
             let mut threads = Vec::new(alloc);
             let mut is_short = false;
             for worker in workers {
@@ -71,27 +64,42 @@ pub(crate) fn run_threads<
             } else {
                 scope.spawn(move || desks.run()).ok()
             };
-            let let_in = if desks.is_none() {
+            let accepted = if desks.is_none() {
                 Err(RunFault::Memory)
             } else {
-                entry.let_all_in()
+                accept_all(acceptor, handles.as_slice())
             };
-            is_over.store(true, Ordering::SeqCst);
-            entry.close();
-            join_all(rt, threads, desks, let_in)
+            acceptor.is_over.store(true, Ordering::SeqCst);
+            for handle in handles.iter_mut() {
+                handle.close();
+            }
+            join_all(rt, threads, desks, accepted)
         },
     )
 }
 
-/// Waits for the threads of all workers and of desks. Gives the sum of all counts, if no desk was missed and all were
-/// let in.
+/// Accepts connections until the server is over. Counts a fault for each that no worker could take.
+fn accept_all<R: Wait + Clock + Eprint, G>(
+    acceptor: &Acceptor<'_, R, G>,
+    handles: &[WorkerHandle],
+) -> Result<Counts, RunFault>
+    ensures { result ≢ Err RunFault.Workers }
+{
+    match acceptor.accept_all(handles) {
+        Some(counts) => Ok(counts),
+        None => Err(RunFault::Accept),
+    }
+}
+
+/// Waits for the threads of all workers and of desks. Gives the sum of all counts, if no desk was missed and all
+/// connections were accepted.
 fn join_all<R: Threads + Wait>(
     rt: &R,
     threads: Vec<JoinHandle<Counts>>,
     desks: Option<JoinHandle<bool>>,
-    let_in: Result<Counts, RunFault>,
+    accepted: Result<Counts, RunFault>,
 ) -> Result<Counts, RunFault>
-    requires { let_in ≢ Err RunFault.Workers }
+    requires { accepted ≢ Err RunFault.Workers }
     ensures { result ≢ Err RunFault.Workers }
 {
     let mut sum = Counts::default();
@@ -103,5 +111,5 @@ fn join_all<R: Threads + Wait>(
     {
         return Err(RunFault::Accept);
     }
-    Ok(sum.plus(let_in?))
+    Ok(sum.plus(accepted?))
 }

@@ -1,23 +1,21 @@
 //! The workers.
-ghost use Rattle.std.specs.Prelude.{◌≡◌, IfSome};
+ghost use Rattle.std.specs.Prelude.{◌≡◌, IfSome, IfOk, All};
 ghost use Rattle.lost_spec.specs.Laws.{BeginsWith};
 
 use crate::clock::MachineClock;
 use crate::counting::Counting;
-use crate::queries::Queries;
-use crate::shared::Shared;
 use crate::threads::Task;
 use lost_desk::{Desk, Reader, Readers};
-use lost_worker::{CachedReader, Counts, Gate, Replier, Turns, worker_loop};
+use lost_lines::{Counts, Gate};
+use lost_loop::{EventLoop, Service, WorkerHandle, open_worker};
+use lost_worker::CachedReader;
 use std::alloc::{AllocError, Global};
 use std::hash::RandomState;
 use std::io::Eprint;
+use std::net::Net;
 use std::random::RandomSource;
 use std::sync::Wait;
 use std::time::Clock;
-
-/// The most workers.
-const MAX_WORKERS: u32 = 64;
 
 /// How many places each worker's cache has room for.
 const PLACES: u32 = 1_024;
@@ -25,46 +23,78 @@ const PLACES: u32 = 1_024;
 /// A reader with a cache whose hashes have keys of its own.
 pub(crate) type KeyedReader = CachedReader<RandomState>;
 
-/// One worker: its number, from 0, its reader, and where it takes connections from.
+/// One worker: its number, from 0, its reader, and its connections.
 #[derive(Drop)]
-pub(crate) struct Worker<'s, 'n, R: Wait + Clock + Eprint + Drop, G, P> {
-    shared: &'s Shared<'n, R, G>,
+pub(crate) struct Worker<'s, R, G> {
+    service: &'s Service<'s, R, G>,
+    /// Whether its replies are counted, as when somebody may ask for the counts.
+    counts_replies: bool,
     number: usize,
-    reader: P,
-    queries: Queries<R>,
+    reader: KeyedReader,
+    event_loop: EventLoop,
 }
 
-/// A worker for each reader. All take query connections from one channel.
-pub(crate) fn workers_of<'s, 'n, R: Wait + Clock + Eprint + Drop, G, P: Drop>(
-    shared: &'s Shared<'n, R, G>,
-    readers: Vec<P>,
-    queries: Queries<R>,
-) -> Result<Vec<Worker<'s, 'n, R, G, P>>, AllocError> {
-    let mut workers = Vec::new(shared.alloc);
+/// A worker for each reader. Adds the handle of each.
+pub(crate) fn workers_of<'s, R: Net, G>(
+    rt: &R,
+    service: &'s Service<'s, R, G>,
+    counts_replies: bool,
+    readers: Vec<KeyedReader>,
+    handles: &mut Vec<WorkerHandle>,
+) -> Result<Vec<Worker<'s, R, G>>, AllocError> {
+    let mut workers = Vec::new(service.alloc);
     for reader in readers {
+        let (handle, arrivals) = open_worker(rt, service.alloc)?;
+        handles.push(handle)?;
         workers.push(Worker {
-            shared,
+            service,
+            counts_replies,
             number: workers.len(),
             reader,
-            queries: queries.clone()?,
+            event_loop: EventLoop::new(service.alloc, arrivals)?,
         })?;
     }
     Ok(workers)
 }
 
-/// All readers, each with a cache. Each begins with what the desk has published, and keeps places by hashes with keys of
-/// its own, which no client knows.
+/// It serves connections until no more come, and gives its counts.
+impl<R: Wait + Clock + Eprint, G: Gate> Task for Worker<'_, R, G> {
+    type Output = Counts;
+
+    fn run(self) -> Counts {
+        let Worker {
+            service,
+            counts_replies,
+            number,
+            mut reader,
+            mut event_loop,
+        } = self;
+        let mut clock = MachineClock::new(service.rt);
+        match service.status.worker(number) {
+            Some(counts) if counts_replies => {
+                let mut counting = Counting::of(&mut reader, counts);
+                event_loop.run(service, Some(counts), &mut counting, &mut clock)
+            }
+            _ => event_loop.run(service, None, &mut reader, &mut clock),
+        }
+    }
+}
+
+/// The readers of this many workers, each with a cache. Each begins with what the desk has published, and keeps places by
+/// hashes with keys of its own, which no client knows.
 pub(crate) fn cached_readers<R: RandomSource>(
     rt: &R,
     alloc: Global,
+    workers: u32,
     desk: &mut Desk,
     mut readers: Readers,
 ) -> Result<Vec<KeyedReader>, AllocError>
     requires { readers.each.opening ≡ desk.old.opening }
-    ensures { desk.new ≡ desk.old }
+    ensures told { IfOk result (λ cached. All (λ reader. BeginsWith reader.seen desk.old.published) cached.items) }
+    ensures desk { desk.new ≡ desk.old }
 {
     let mut cached = Vec::new(alloc);
-    for _number in 0..MAX_WORKERS {
+    for _number in 0..workers {
         let Some(reader) = told_reader(desk, &mut readers) else {
             break;
         };
@@ -89,44 +119,4 @@ fn told_reader(desk: &mut Desk, readers: &mut Readers) -> Option<Reader>
     let mut reader = readers.take()?;
     reader.learn(desk.tell());
     Some(reader)
-}
-
-/// It serves query connections until there are no more, and gives its counts.
-impl<R: Wait + Clock + Eprint + Drop, G: Gate> Task for Worker<'_, '_, R, G, KeyedReader> {
-    type Output = Counts;
-
-    fn run(self) -> Counts {
-        let Worker {
-            shared,
-            number,
-            mut reader,
-            queries,
-        } = self;
-        match shared.status.worker(number) {
-            Some(counts) if shared.counts_replies => {
-                let mut counting = Counting::of(&mut reader, counts);
-                answer_queries(shared, &queries, &mut counting)
-            }
-            _ => answer_queries(shared, &queries, &mut reader),
-        }
-    }
-}
-
-/// Serves query connections with this replier until there are no more.
-fn answer_queries<R: Wait + Clock + Eprint + Drop, P: Replier, G: Gate>(
-    shared: &Shared<'_, R, G>,
-    queries: &Queries<R>,
-    replier: &mut P,
-) -> Counts {
-    let mut clock = MachineClock::new(shared.rt);
-    worker_loop(
-        shared.rt,
-        shared.alloc,
-        queries,
-        replier,
-        shared.name,
-        &mut clock,
-        shared.gate,
-        Turns::USUAL,
-    )
 }

@@ -4,7 +4,7 @@ ghost use Rattle.lostd.specs.ExitReasons.{serve_reason, map_reason};
 
 use lost_command::{ExitReason, ServeOrder};
 use lost_server::{
-    ConnectionLimits, ConnectionSettings, Doors, MapFault, Ready, RunFault, ServeError,
+    ConnectionLimits, ConnectionSettings, Listeners, MapFault, Ready, RunFault, ServeError,
     ServerFault, ServerOrder, System, run_server,
 };
 use lost_sockets::{Addresses, ListenError, Listener};
@@ -51,7 +51,7 @@ struct ReadyLine<'r, R> {
 impl<R: Print> Ready for ReadyLine<'_, R> {
     fn begins(&self, _status: &Listener) {}
 
-    fn ready(&self, _doors: &Doors) -> io::Result<()> {
+    fn ready(&self, _listeners: &Listeners) -> io::Result<()> {
         println!(self.rt; "ready")
     }
 }

@@ -1,8 +1,8 @@
 //! A server that is told to end, as the program's never is.
 use lost_mapping::Source;
 use lost_server::{
-    ConnectionLimits, ConnectionSettings, Counts, Doors, Ready, ServerFault, ServerOrder, System,
-    run_server,
+    ConnectionLimits, ConnectionSettings, Counts, Listeners, Ready, ServerFault, ServerOrder,
+    System, run_server,
 };
 use lost_sockets::{Addresses, Listener};
 use std::io;
@@ -22,9 +22,9 @@ struct Ending<'a, R> {
 impl<R: Net<Listener = TcpListener, Stream = TcpStream>> Ready for Ending<'_, R> {
     fn begins(&self, _status: &Listener) {}
 
-    fn ready(&self, doors: &Doors) -> io::Result<()> {
+    fn ready(&self, listeners: &Listeners) -> io::Result<()> {
         self.is_over.store(true, Ordering::SeqCst);
-        if let Listener::Tcp(listener) = &doors.queries {
+        if let Listener::Tcp(listener) = &listeners.queries {
             drop(TcpStream::connect(self.rt, listener.local_addr()?)?);
         }
         Ok(())

@@ -47,7 +47,6 @@ fn answer<
         + Eprint
         + Print
         + RandomSource
-        + Clone
         + Send
         + Sync
         + AllocGlobal,
@@ -73,7 +72,7 @@ fn answer<
 
 /// Serves two connections by two workers.
 fn served<
-    R: Threads + Wait + Clock + Eprint + RandomSource + Clone + Send + Sync + AllocGlobal,
+    R: Threads + Wait + Clock + Eprint + RandomSource + Net + Send + Sync + AllocGlobal,
     G: Gate + Sync,
 >(rt: &R, setting: &Setting, doors: &Doors, gate: &G) -> Result<Counts, RunFault> {
     let settings = ConnectionSettings {

@@ -1,0 +1,16 @@
+//! The connections of desks (own rules): one is served at a time, and edits that it leaves pending are dropped. If desks
+//! are served one after another, a desk that sends no whole line gives way to the next.
+#![tactic(auto)]
+
+mod counting;
+mod desk_input;
+mod desk_output;
+mod desk_queue;
+mod desk_turn;
+mod protocol;
+mod serving;
+mod turn_end;
+
+pub use counting::tell_book;
+pub use serving::{DeskService, serve_desks, serve_one_desk};
+pub use turn_end::{TurnEnd, TurnState, input_state, output_state};

@@ -1,0 +1,159 @@
+//! Serves the connections of desks.
+ghost use Rattle.std.specs.Prelude.{◌≡◌, [], IsTrue};
+ghost use Rattle.lost_lines.specs.Calls.{AreFresh};
+ghost use Rattle.lost_worker.specs.Desking.{IsSameDesk};
+
+use crate::counting::{DeskCounting, tell_book};
+use crate::desk_input::DeskInput;
+use crate::desk_output::DeskOutput;
+use crate::desk_queue::DeskQueue;
+use crate::desk_turn::DeskTurn;
+use lost_desk::Desk;
+use lost_lines::{Counts, ServeError, Turns, Watched};
+use lost_log::ConnectionLog;
+use lost_sockets::{Listener, Peer, Stream, accept};
+use lost_status::Status;
+use lost_worker::serve_desk_with;
+use std::alloc::Global;
+use std::io::{Eprint, Read, Write};
+use std::sync::Wait;
+use std::sync::atomic::AtomicBool;
+use std::time::{Clock, Duration};
+
+/// What serves desks.
+#[derive(Drop)]
+pub struct DeskService<'s, R> {
+    pub rt: &'s R,
+    pub alloc: Global,
+    pub log: &'s ConnectionLog<'s, R>,
+    pub status: &'s Status,
+    /// How long a read or a write may wait; `None` for ever.
+    pub idle: Option<Duration>,
+    /// Whether the server is over, so that no further desk is taken.
+    pub is_over: &'s AtomicBool,
+}
+
+/// Serves one connection of a desk, and says whether one came. Afterwards nothing is pending, unless memory is refused.
+pub fn serve_one_desk<R: Wait + Clock + Eprint>(
+    service: &DeskService<'_, R>,
+    listener: &Listener,
+    desk: &mut Desk,
+) -> bool
+    ensures { IsSameDesk desk.old desk.new }
+{
+    let Some((stream, peer)) = accept(service.rt, listener) else {
+        service.log.report_listener();
+        return false;
+    };
+    service.serve(None, &stream, &peer, desk);
+    true
+}
+
+/// Serves the connections of desks in turn, until the server is over. The listener must not wait. The edits that a desk
+/// left pending are dropped before the next one is served.
+pub fn serve_desks<R: Wait + Clock + Eprint>(
+    service: &DeskService<'_, R>,
+    listener: &Listener,
+    desk: &mut Desk,
+)
+    ensures { IsSameDesk desk.old desk.new }
+{
+    let queue = DeskQueue::new(listener);
+    for _turn in service.rt.forever() {
+        let Some((stream, peer)) = queue.next(service.rt, service.is_over) else {
+            return;
+        };
+        service.serve(Some(&queue), &stream, &peer, desk);
+    }
+}
+
+impl<R: Wait + Clock + Eprint> DeskService<'_, R> {
+    /// Serves a desk's connection during its turn, and drops the edits that it leaves pending. Reports a fault.
+    fn serve(&self, queue: Option<&DeskQueue<'_>>, stream: &Stream, peer: &Peer, desk: &mut Desk)
+        ensures { IsSameDesk desk.old desk.new }
+    {
+        self.status.set_desk(true);
+        if let Some(cause) = self.serve_turn(queue, stream, desk) {
+            self.log.report_desk(peer, cause);
+        }
+        self.status.set_desk(false);
+        if !has_dropped(desk) {
+            self.log.report_pending();
+        }
+        tell_book(self.status, desk);
+    }
+
+    /// Answers the lines of a desk's connection during its turn. Gives the cause if it ended in a fault.
+    fn serve_turn(
+        &self,
+        queue: Option<&DeskQueue<'_>>,
+        stream: &Stream,
+        desk: &mut Desk,
+    ) -> Option<&'static str>
+        ensures { IsSameDesk desk.old desk.new }
+    {
+        let turn = DeskTurn {
+            rt: self.rt,
+            queue,
+            stream,
+            idle: self.idle,
+        };
+        if !turn.begin() {
+            return Some("it could not be read");
+        }
+        let mut input = Watched::new(DeskInput::new(self.alloc, &turn));
+        let mut output = Watched::new(DeskOutput::new(&turn));
+        let Err(fault) = self.answer_lines(&mut input, &mut output, desk) else {
+            return None;
+        };
+        let end = input.inner().end().or(output.inner().end());
+        match end {
+            Some(end) => Some(end.text()),
+            None => Some(fault_text(fault)),
+        }
+    }
+
+    /// Answers a desk's lines, and counts their outcomes.
+    fn answer_lines<I: Read, O: Write>(
+        &self,
+        input: &mut Watched<I>,
+        output: &mut Watched<O>,
+        desk: &mut Desk,
+    ) -> Result<Counts, ServeError>
+        requires fresh { AreFresh input.old output.old }
+        ensures { IsSameDesk desk.old desk.new }
+    {
+        let mut counting = DeskCounting {
+            rt: self.rt,
+            status: self.status,
+        };
+        serve_desk_with(
+            self.rt,
+            self.alloc,
+            input,
+            output,
+            desk,
+            &mut counting,
+            Turns::USUAL,
+        )
+    }
+}
+
+/// Drops what a desk left pending. Says whether that succeeded; if not, memory was refused, and it stays pending.
+fn has_dropped(desk: &mut Desk) -> bool
+    ensures dropped { IsTrue result → desk.new.pending ≡ [] }
+    ensures published { desk.new.published ≡ desk.old.published }
+    ensures same { IsSameDesk desk.old desk.new }
+{
+    desk.drop_pending().is_ok()
+}
+
+/// The report of a desk's connection that ended in a fault of a stream.
+fn fault_text(fault: ServeError) -> &'static str {
+    match fault {
+        ServeError::Read => "it could not be read",
+        ServeError::Write => "it could not be written",
+        ServeError::TurnsSpent => "it sent more than 1,000,000 lines",
+        ServeError::Memory => "memory ran out",
+    }
+}
