@@ -1,2 +1,3 @@
+pub mod LineWait
 pub mod Protocol
 pub mod Turns

@@ -1,8 +1,11 @@
 //! The lines of a desk during its turn.
+ghost use Rattle.std.specs.Prelude.{◌≡◌};
+ghost use Rattle.lost_desks.specs.LineWait.{wait_after_read, wait_before_read};
+
 use crate::desk_turn::{DeskTurn, is_of_waiting};
+use crate::line_wait::LineWait;
 use crate::protocol::{MOST_LOOKED_AT, other_protocol};
 use crate::turn_end::{TurnEnd, input_state};
-use memchr::memrchr;
 use std::alloc::Global;
 use std::io;
 use std::io::{ErrorKind, Read};
@@ -15,11 +18,8 @@ pub(crate) struct DeskInput<'t, 'l, R> {
     turn: &'t DeskTurn<'t, 'l, R>,
     /// The first bytes that came.
     front: Vec<u8>,
-    /// When the wait for a whole line began.
-    since: Duration,
-    /// Whether a whole line has come, and whether one ended in the last read.
-    has_line: bool,
-    is_at_line: bool,
+    /// Since when it has sent no whole line.
+    wait: LineWait,
     /// Why the turn is over.
     end: Option<TurnEnd>,
 }
@@ -30,9 +30,7 @@ impl<'t, 'l, R: Wait + Clock> DeskInput<'t, 'l, R> {
         DeskInput {
             turn,
             front: Vec::new(alloc),
-            since: turn.now(Duration::ZERO),
-            has_line: false,
-            is_at_line: false,
+            wait: LineWait::new(turn.now(Duration::ZERO)),
             end: None,
         }
     }
@@ -49,17 +47,25 @@ impl<'t, 'l, R: Wait + Clock> DeskInput<'t, 'l, R> {
             self.turn.idle,
             self.turn.length(),
             now.saturating_sub(heard),
-            now.saturating_sub(self.since),
-            self.has_line,
+            now.saturating_sub(self.wait.since),
+            self.wait.has_line,
         ))
     }
 
+    /// Begins a read, and gives its moment.
+    fn begin_read(&mut self) -> Duration
+        ensures { self.new.wait ≡ wait_before_read self.old.wait result }
+    {
+        let now = self.turn.now(self.wait.since);
+        self.wait = self.wait.before_read(now);
+        now
+    }
+
     /// Looks at bytes that came. Gives why the turn is over if they are not a desk's.
-    fn look_at(&mut self, bytes: &[u8]) -> Option<TurnEnd> {
-        if memrchr(b'\n', bytes).is_some() {
-            self.has_line = true;
-            self.is_at_line = true;
-        }
+    fn look_at(&mut self, bytes: &[u8]) -> Option<TurnEnd>
+        ensures { self.new.wait ≡ wait_after_read self.old.wait bytes.now }
+    {
+        self.wait = self.wait.after_read(bytes);
         let room = MOST_LOOKED_AT.saturating_sub(self.front.len());
         if room == 0 {
             return None;
@@ -80,11 +86,7 @@ impl<'t, 'l, R: Wait + Clock> DeskInput<'t, 'l, R> {
 
 impl<R: Wait + Clock> Read for DeskInput<'_, '_, R> {
     fn read(&mut self, buf: &mut [u8]) -> io::Result<usize> {
-        let heard = self.turn.now(self.since);
-        if self.is_at_line {
-            self.since = heard;
-            self.is_at_line = false;
-        }
+        let heard = self.begin_read();
         for _ in self.turn.rt.forever() {
             if let Some(end) = self.end_after(heard) {
                 return Err(self.fail(end));

@@ -7,10 +7,12 @@ mod desk_input;
 mod desk_output;
 mod desk_queue;
 mod desk_turn;
+mod line_wait;
 mod protocol;
 mod serving;
 mod turn_end;
 
 pub use counting::tell_book;
-pub use serving::{DeskService, serve_desks, serve_one_desk};
+pub use line_wait::LineWait;
+pub use serving::{DeskService, Left, serve_desks, serve_one_desk};
 pub use turn_end::{TurnEnd, TurnState, input_state, output_state};

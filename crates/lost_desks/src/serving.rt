@@ -1,5 +1,5 @@
 //! Serves the connections of desks.
-ghost use Rattle.std.specs.Prelude.{◌≡◌, [], IsTrue};
+ghost use Rattle.std.specs.Prelude.{◌≡◌, []};
 ghost use Rattle.lost_lines.specs.Calls.{AreFresh};
 ghost use Rattle.lost_worker.specs.Desking.{IsSameDesk};
 
@@ -33,6 +33,15 @@ pub struct DeskService<'s, R> {
     pub is_over: &'s AtomicBool,
 }
 
+/// What a desk leaves when its turn is over.
+#[derive(Clone, Copy, PartialEq, Eq, Debug)]
+pub enum Left {
+    /// Nothing is pending.
+    Nothing,
+    /// Edits are pending that could not be dropped: memory was refused. That is reported.
+    Pending,
+}
+
 /// Serves one connection of a desk, and says whether one came. Afterwards nothing is pending, unless memory is refused.
 pub fn serve_one_desk<R: Wait + Clock + Eprint>(
     service: &DeskService<'_, R>,
@@ -45,7 +54,7 @@ pub fn serve_one_desk<R: Wait + Clock + Eprint>(
         service.log.report_listener();
         return false;
     };
-    service.serve(None, &stream, &peer, desk);
+    let _left = service.serve(None, &stream, &peer, desk);
     true
 }
 
@@ -63,24 +72,34 @@ pub fn serve_desks<R: Wait + Clock + Eprint>(
         let Some((stream, peer)) = queue.next(service.rt, service.is_over) else {
             return;
         };
-        service.serve(Some(&queue), &stream, &peer, desk);
+        let _left = service.serve(Some(&queue), &stream, &peer, desk);
     }
 }
 
 impl<R: Wait + Clock + Eprint> DeskService<'_, R> {
-    /// Serves a desk's connection during its turn, and drops the edits that it leaves pending. Reports a fault.
-    fn serve(&self, queue: Option<&DeskQueue<'_>>, stream: &Stream, peer: &Peer, desk: &mut Desk)
-        ensures { IsSameDesk desk.old desk.new }
+    /// Serves a desk's connection during its turn, and drops the edits that it leaves pending. Reports a fault, and if
+    /// edits could not be dropped.
+    fn serve(
+        &self,
+        queue: Option<&DeskQueue<'_>>,
+        stream: &Stream,
+        peer: &Peer,
+        desk: &mut Desk,
+    ) -> Left
+        ensures nothing_pending { result ≡ Left.Nothing → desk.new.pending ≡ [] }
+        ensures same { IsSameDesk desk.old desk.new }
     {
         self.status.set_desk(true);
         if let Some(cause) = self.serve_turn(queue, stream, desk) {
             self.log.report_desk(peer, cause);
         }
         self.status.set_desk(false);
-        if !has_dropped(desk) {
+        let left = drop_pending(desk);
+        if left == Left::Pending {
             self.log.report_pending();
         }
         tell_book(self.status, desk);
+        left
     }
 
     /// Answers the lines of a desk's connection during its turn. Gives the cause if it ended in a fault.
@@ -139,13 +158,16 @@ impl<R: Wait + Clock + Eprint> DeskService<'_, R> {
     }
 }
 
-/// Drops what a desk left pending. Says whether that succeeded; if not, memory was refused, and it stays pending.
-fn has_dropped(desk: &mut Desk) -> bool
-    ensures dropped { IsTrue result → desk.new.pending ≡ [] }
+/// Drops what a desk left pending, unless memory is refused.
+fn drop_pending(desk: &mut Desk) -> Left
+    ensures dropped { result ≡ Left.Nothing → desk.new.pending ≡ [] }
     ensures published { desk.new.published ≡ desk.old.published }
     ensures same { IsSameDesk desk.old desk.new }
 {
-    desk.drop_pending().is_ok()
+    match desk.drop_pending() {
+        Ok(()) => Left::Nothing,
+        Err(_) => Left::Pending,
+    }
 }
 
 /// The report of a desk's connection that ended in a fault of a stream.

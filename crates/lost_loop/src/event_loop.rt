@@ -1,12 +1,17 @@
 //! The event loop of a worker.
-ghost use Rattle.std.specs.Prelude.{◌≡◌, ◌<◌, length};
+ghost use Rattle.std.specs.Prelude.{◌≡◌, ◌<◌, ℕ, false, IsTrue, MatchOption, length, is_some};
 ghost use Rattle.lost_worker.specs.Lines.{HasSeenMore};
-ghost use Rattle.lost_connections.specs.Clients.{KeepsOthers};
+ghost use Rattle.lost_connections.specs.Worker.{worker};
+ghost use Rattle.lost_connections.specs.Clients.{connected_at, KeepsAll, KeepsOthers};
+ghost use Rattle.lost_loop.specs.Keys.{flag_at};
+ghost use Rattle.lost_loop.specs.Loop.{Bursts, Follows, IsPlus, IsTurn, IsTaken, Leaves, TakesOrCloses, one_fault};
 
 use crate::connection_state::{ConnectionState, Connections, fault_text};
+use crate::deciding::{Next, Patience, next_after, patience_for};
 use crate::ready_queue::ReadyQueue;
 use crate::service::Service;
 use crate::shared_stream::SharedStream;
+use crate::spent_keys::SpentKeys;
 use crate::worker_handle::{ARRIVALS, Arrival, Arrivals};
 use crossbeam_channel::TryRecvError;
 use lost_connections::{Client, ClientFault, Clients, Progress};
@@ -17,7 +22,7 @@ use lost_worker::{Moments, Replier};
 use mio::unix::SourceFd;
 use mio::{Events, Interest, Token};
 use std::alloc::{AllocError, Global};
-use std::io::Eprint;
+use std::io::{Eprint, Read, Write};
 use std::os::fd::RawFd;
 use std::sync::Wait;
 use std::thread::sleep;
@@ -32,8 +37,8 @@ const MOST_EVENTS: usize = 1_024;
 /// How often in a row to ask for further events, if as many came as are reported at once.
 const MOST_POLLS: u32 = 256;
 
-/// How often to check which connections have passed a limit, in milliseconds.
-pub(crate) const SWEEP: u64 = 250;
+/// How long to wait for events at most where a connection could pass a limit, in milliseconds.
+const SWEEP: u64 = 250;
 
 /// How long to pause if waiting for events fails, in milliseconds.
 const PAUSE: u64 = 20;
@@ -44,8 +49,8 @@ pub struct EventLoop {
     events: Events,
     pub(crate) clients: Connections,
     queue: ReadyQueue,
-    /// The keys of those that sent too many lines, which are closed once their replies are taken.
-    spent: Vec<usize>,
+    /// Those that have no line left, which are closed once their replies are taken.
+    spent: SpentKeys,
     chunk: Vec<u8>,
     /// The time of this round, by the monotonic clock.
     pub(crate) now: Duration,
@@ -53,7 +58,7 @@ pub struct EventLoop {
     pub(crate) swept: Duration,
     /// Whether no more connections come.
     is_closing: bool,
-    counts: Counts,
+    pub(crate) counts: Counts,
     ghost room: { 0 < length chunk.items },
 }
 
@@ -86,7 +91,7 @@ impl EventLoop {
             events: Events::with_capacity(alloc, MOST_EVENTS)?,
             clients: Clients::new(alloc),
             queue: ReadyQueue::new(alloc),
-            spent: Vec::new(alloc),
+            spent: SpentKeys::new(alloc),
             chunk: Vec::from_elem(alloc, 0, CHUNK)?,
             now: Duration::ZERO,
             swept: Duration::ZERO,
@@ -141,15 +146,14 @@ impl EventLoop {
         }
     }
 
-    /// How long to wait for events: for ever if no connection could pass a limit.
+    /// How long to wait for events; `None` for ever.
     fn patience<R, G>(&self, service: &Service<'_, R, G>) -> Option<Duration> {
-        if !self.queue.is_empty() {
-            return Some(Duration::ZERO);
+        let may_pass = !self.clients.is_empty() && !service.limits.are_none();
+        match patience_for(!self.queue.is_empty(), may_pass) {
+            Patience::Nothing => Some(Duration::ZERO),
+            Patience::UntilSweep => Some(Duration::from_millis(SWEEP)),
+            Patience::UntilEvent => None,
         }
-        if self.clients.is_empty() || service.limits.are_none() {
-            return None;
-        }
-        Some(Duration::from_millis(SWEEP))
     }
 
     /// Queues the connections at which something happened. Says whether new ones came.
@@ -180,8 +184,12 @@ impl EventLoop {
         }
     }
 
-    /// Takes a connection, or closes it if it cannot be watched.
-    fn take<R: Wait + Clock + Eprint, G>(&mut self, service: &Service<'_, R, G>, arrival: Arrival) {
+    /// Takes a connection, or closes it if it cannot be watched, and counts that as a fault.
+    fn take<R: Wait + Clock + Eprint, G>(&mut self, service: &Service<'_, R, G>, arrival: Arrival)
+        ensures { TakesOrCloses ⟦<SharedStream as Read>⟧.remaining ⟦<SharedStream as Write>⟧.contents
+            service.now.most_lines self.old.now (record { number = arrival.number; peer = arrival.peer })
+            self.old.clients self.new.clients self.old.counts self.new.counts }
+    {
         let Arrival {
             stream,
             number,
@@ -203,13 +211,20 @@ impl EventLoop {
         stream: Stream,
         state: ConnectionState,
         most_lines: u64,
-    ) -> bool {
+    ) -> bool
+        ensures taken { IsTrue result → (key : ℕ) × IsTaken ⟦<SharedStream as Read>⟧.remaining ⟦<SharedStream as Write>⟧.contents most_lines self.old.now state self.old.clients self.new.clients key }
+        ensures closed { result ≡ false → KeepsAll self.old.clients self.new.clients }
+        ensures counts { self.new.counts ≡ self.old.counts }
+    {
         let fd = stream.raw_fd();
         let Some(key) = self.hold(alloc, stream, state, most_lines) else {
             return false;
         };
         // Each is queued once at most, so there is room for all.
-        if self.queue.make_room(key, self.clients.len()).is_err() || !self.is_polled(fd, key) {
+        if self.queue.make_room(key, self.clients.len()).is_err()
+            || self.spent.make_room(key).is_err()
+            || !self.is_polled(fd, key)
+        {
             let _closed = self.clients.remove(key);
             return false;
         }
@@ -224,7 +239,11 @@ impl EventLoop {
         stream: Stream,
         state: ConnectionState,
         most_lines: u64,
-    ) -> Option<usize> {
+    ) -> Option<usize>
+        ensures { MatchOption result (KeepsAll self.old.clients self.new.clients)
+            (λ key. IsTaken ⟦<SharedStream as Read>⟧.remaining ⟦<SharedStream as Write>⟧.contents most_lines self.old.now state self.old.clients self.new.clients key) }
+        ensures counts { self.new.counts ≡ self.old.counts }
+    {
         if stream.set_nonblocking(true).is_err() {
             return None;
         }
@@ -278,26 +297,37 @@ impl EventLoop {
         replier: &mut P,
         moments: &mut M,
     )
+        ensures turn { IsTurn ⟦<SharedStream as Read>⟧.remaining ⟦<SharedStream as Write>⟧.contents (G.says service.now.gate.now) service.now.name.now
+            (flag_at self.old.spent.flags.items key)
+            (worker (P.reader replier.old) (M.coming moments.old)) (worker (P.reader replier.new) (M.coming moments.new))
+            self.old.now self.old.clients self.new.clients self.old.counts self.new.counts key }
         ensures others { KeepsOthers self.old.clients self.new.clients key }
         ensures seen { HasSeenMore (P.reader replier.old) (P.reader replier.new) }
     {
-        if let Some(served) = self.burst(service, key, replier, moments) {
-            self.follow(service, key, served);
+        let is_spent = self.spent.has(key);
+        if let Some(served) = self.burst(service, key, is_spent, replier, moments) {
+            self.follow(service, key, next_after(served, is_spent));
         }
     }
 
-    /// Serves a burst of a connection; of one that is closing, only sends what waits. Nothing if there is none.
+    /// Serves a burst of a connection; of one that has no line left, sends the rest of its replies. Nothing if there is
+    /// none.
     fn burst<R: Wait + Clock + Eprint, P: Replier, M: Moments, G: Gate>(
         &mut self,
         service: &Service<'_, R, G>,
         key: usize,
+        is_spent: bool,
         replier: &mut P,
         moments: &mut M,
     ) -> Option<Result<Progress, ClientFault>>
+        ensures bursts { Bursts ⟦<SharedStream as Read>⟧.remaining ⟦<SharedStream as Write>⟧.contents (G.says service.now.gate.now) service.now.name.now is_spent
+            (worker (P.reader replier.old) (M.coming moments.old)) (worker (P.reader replier.new) (M.coming moments.new))
+            self.old.now (connected_at self.old.clients key) (connected_at self.new.clients key) result }
         ensures others { KeepsOthers self.old.clients self.new.clients key }
+        ensures counts { self.new.counts ≡ self.old.counts }
         ensures seen { HasSeenMore (P.reader replier.old) (P.reader replier.new) }
     {
-        if self.spent.contains(&key) {
+        if is_spent {
             return self.clients.send_rest(key, service.alloc, self.now);
         }
         self.clients.serve(
@@ -312,25 +342,33 @@ impl EventLoop {
         )
     }
 
-    /// Does what the outcome of a burst asks for: queues the connection behind the others if more may be there at once,
-    /// and closes it if it is over or ended in a fault.
+    /// Does what is next for a connection.
     fn follow<R: Wait + Clock + Eprint, G>(
         &mut self,
         service: &Service<'_, R, G>,
         key: usize,
-        served: Result<Progress, ClientFault>,
+        next: Next,
     )
-        ensures others { KeepsOthers self.old.clients self.new.clients key }
+        ensures { Follows ⟦<SharedStream as Read>⟧.remaining ⟦<SharedStream as Write>⟧.contents next self.old.clients self.new.clients self.old.counts self.new.counts key }
     {
-        match served {
-            Ok(Progress::Waits) => {}
-            Ok(Progress::More) => self.queue.push(key),
-            Ok(Progress::Over) if self.spent.contains(&key) => {
-                self.end(service, key, Some(fault_text(ClientFault::Spent)));
-            }
-            Ok(Progress::Over) => self.end(service, key, None),
-            Err(ClientFault::Spent) if self.spent.push(key).is_ok() => self.queue.push(key),
-            Err(fault) => self.end(service, key, Some(fault_text(fault))),
+        match next {
+            Next::Waits => {}
+            Next::Goes => self.queue.push(key),
+            Next::Rests => self.rest(service, key),
+            Next::Ends(None) => self.end(service, key, None),
+            Next::Ends(Some(fault)) => self.end(service, key, Some(fault_text(fault))),
+        }
+    }
+
+    /// Notes that a connection has no line left, and queues it so that its replies are sent. It is closed if there is no
+    /// room to note that.
+    fn rest<R: Wait + Clock + Eprint, G>(&mut self, service: &Service<'_, R, G>, key: usize)
+        ensures { Follows ⟦<SharedStream as Read>⟧.remaining ⟦<SharedStream as Write>⟧.contents Next.Rests self.old.clients self.new.clients self.old.counts self.new.counts key }
+    {
+        if self.spent.note(key, true) {
+            self.queue.push(key);
+        } else {
+            self.end(service, key, Some(fault_text(ClientFault::Spent)));
         }
     }
 
@@ -341,12 +379,14 @@ impl EventLoop {
         key: usize,
         cause: Option<&'static str>,
     )
-        ensures others { KeepsOthers self.old.clients self.new.clients key }
+        ensures leaves { Leaves ⟦<SharedStream as Read>⟧.remaining ⟦<SharedStream as Write>⟧.contents (is_some cause) self.old.clients self.new.clients self.old.counts self.new.counts key }
+        ensures forgotten { flag_at self.new.spent.flags.items key ≡ false }
+        ensures now { self.new.now ≡ self.old.now }
     {
+        self.spent.forget(key);
         let Some(connected) = self.clients.remove(key) else {
             return;
         };
-        self.forget_spent(key);
         let peer = connected.state.peer;
         service.admission.leave(service.rt, peer.address());
         match cause {
@@ -358,15 +398,6 @@ impl EventLoop {
         }
     }
 
-    /// Forgets that the connection under a key sent too many lines, if it did.
-    fn forget_spent(&mut self, key: usize)
-        ensures clients { self.new.clients ≡ self.old.clients }
-    {
-        if let Some(place) = self.spent.iter().position(|spent| *spent == key) {
-            let _key = self.spent.swap_remove(place);
-        }
-    }
-
     /// Counts a connection that ended in a fault, and reports the cause.
     fn count_fault<R: Wait + Clock + Eprint, G>(
         &mut self,
@@ -375,6 +406,8 @@ impl EventLoop {
         cause: &'static str,
     )
         ensures clients { self.new.clients ≡ self.old.clients }
+        ensures counted { IsPlus self.old.counts one_fault self.new.counts }
+        ensures others { (self.new.now ≡ self.old.now) × (self.new.spent ≡ self.old.spent) }
     {
         self.counts = self.counts.plus(Counts::of_fault());
         service.status.count_ended(true);

@@ -4,11 +4,13 @@
 
 mod accepting;
 mod connection_state;
+mod deciding;
 mod event_loop;
 mod ready_queue;
 mod service;
 mod shared_admission;
 mod shared_stream;
+mod spent_keys;
 mod sweeping;
 mod worker_handle;
 

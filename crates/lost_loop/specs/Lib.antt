@@ -1,0 +1,4 @@
+pub mod Keys
+pub mod Next
+pub mod Loop
+pub mod Swept
