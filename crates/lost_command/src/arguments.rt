@@ -4,7 +4,7 @@ use std::alloc::Global;
 
 const HELP: &str =
     "Examples:\n  lostd replay --name lost.example --now 2026-01-01T00:00:00Z < examples/one-mapping.jsonl\n  \
-lostd check --name lost.example --now 2026-01-01T00:00:00Z < examples/one-mapping.jsonl\n  \
+lostd check examples/one-mapping.jsonl\n  \
 lostd serve --name lost.example --queries 127.0.0.1:5222 --desk 127.0.0.1:5223 --workers 4 --connections 1000\n\n\
 `lostd replay --help`, `lostd check --help` and `lostd serve --help` explain the arguments and the exit status.";
 
@@ -23,12 +23,13 @@ const CHECK_HELP: &str =
 prints the line's number, the code and name of the refusal, and the cause with its place in the line. Lines count \
 from 1, and items of a list from 0:\n  \
 line 12: 9 BadRegion: serviceBoundary[2].polygon: the last position is not the first\n\
-It prints nothing about other lines. At the end it prints `done lines=L refused=R badRequest=B internalError=I \
+It prints nothing about other lines. --name and --now change nothing of that. At the end it prints `done lines=L refused=R badRequest=B internalError=I \
 edition=E`: how many lines it read, how many of them would be refused or answered `badRequest`, how many it could not \
-check because memory ran out, and how many edits would be published. If standard error is a terminal, it shows its \
+check because memory ran out, and how many edits would be published. Of several files each is checked by itself, \
+behind a line with its name. If standard error is a terminal, it shows its \
 progress there, every 100,000 lines.\n\n\
-Example:\n  lostd check --name lost.example --now 2026-01-01T00:00:00Z < examples/one-mapping.jsonl\n\n\
-Exit status: 0 if all lines are good; 1 if standard input or output fails, the input has more lines than --lines \
+Example:\n  lostd check examples/one-mapping.jsonl\n\n\
+Exit status: 0 if all lines are good; 1 if a file cannot be read, standard input or output fails, the input has more lines than --lines \
 allows, or memory runs out at the start; 2 for a mistake on the command line; 3 if a line would be refused or answered \
 `badRequest`, or could not be checked.";
 
@@ -103,11 +104,20 @@ fn replay_command<'a>(alloc: Global) -> Result<Command<'a>, Error> {
 fn check_command<'a>(alloc: Global) -> Result<Command<'a>, Error> {
     let command = Command::new(alloc, "check")
         .about(
-            "Checks the desk lines and requests on standard input, and prints which would be refused and why",
+            "Checks the desk lines and requests of files or of standard input, and prints which would be refused and why",
         )
         .after_help(CHECK_HELP)
-        .arg(name_argument(alloc))?
-        .arg(now_argument(alloc))?
+        .arg(files_argument(alloc))?
+        .arg(
+            name_argument(alloc)
+                .required(false)
+                .default_value("localhost"),
+        )?
+        .arg(
+            now_argument(alloc)
+                .required(false)
+                .default_value("1970-01-01T00:00:00Z"),
+        )?
         .arg(lines_argument(alloc))?
         .arg(flag_argument(
             alloc,
@@ -185,6 +195,14 @@ no limit; not with --connections",
         .arg(most_connections_argument(alloc).conflicts_with("connections")?)?
         .arg(per_address_argument(alloc).conflicts_with("connections")?)?;
     Ok(command)
+}
+
+fn files_argument<'a>(alloc: Global) -> Arg<'a> {
+    Arg::new(alloc, "files")
+        .value_name("FILE")
+        .num_args(0..)
+        .action(ArgAction::Append)
+        .help("The files to check, each by itself; without one, standard input")
 }
 
 fn map_argument<'a>(alloc: Global) -> Arg<'a> {

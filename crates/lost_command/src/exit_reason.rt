@@ -41,8 +41,8 @@ pub enum ExitReason {
     Found,
     /// A server is given neither a desk nor a map.
     NoEdits,
-    /// A map could not be read, which was reported already.
-    Map,
+    /// A file could not be read, which was reported already.
+    File,
     /// Lines of a map were refused or not committed, which was reported already.
     MapRefused,
 }
@@ -70,7 +70,7 @@ impl ExitReason {
             ExitReason::CommandLine
             | ExitReason::Address
             | ExitReason::Found
-            | ExitReason::Map
+            | ExitReason::File
             | ExitReason::MapRefused => "",
             ExitReason::Name => {
                 "is not a server name: it must have 1 to 253 characters, in labels of letters, digits and hyphens joined by single dots, such as lost.example"
@@ -102,7 +102,7 @@ impl ExitReason {
             | ExitReason::Run(_)
             | ExitReason::Workers
             | ExitReason::Accept
-            | ExitReason::Map => RUN_FAULT,
+            | ExitReason::File => RUN_FAULT,
             ExitReason::Found | ExitReason::MapRefused => FOUND,
             _ => COMMAND_LINE,
         }

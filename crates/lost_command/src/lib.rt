@@ -1,5 +1,5 @@
-//! The command line of `lostd` (own rules): its words are read and judged, `replay` and `check` run over standard input
-//! and output, and `serve` is ordered. An early end is one line on standard error, and the exit status.
+//! The command line of `lostd` (own rules): its words are read and judged, `replay` and `check` run over standard input,
+//! output and files, and `serve` is ordered. An early end is one line on standard error, and the exit status.
 #![tactic(auto)]
 
 mod arguments;
@@ -7,6 +7,7 @@ mod checking;
 mod exit_reason;
 mod given;
 mod mistake;
+mod opening;
 mod order;
 mod outcome;
 mod progress;
@@ -16,6 +17,7 @@ mod summary;
 
 pub use exit_reason::ExitReason;
 pub use given::{begin, server_name};
+pub use opening::opening_failed;
 pub use order::ServeOrder;
 pub use outcome::{check_outcome, end, replay_outcome};
 pub use running::run;

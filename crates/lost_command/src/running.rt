@@ -1,18 +1,19 @@
 //! Runs what the command line says.
 use crate::arguments::command;
-use crate::checking::check_standard_input;
+use crate::checking::check_as_ordered;
 use crate::exit_reason::ExitReason;
 use crate::mistake::show;
 use crate::order::{ServeOrder, order_of};
 use crate::replaying::replay_standard_streams;
 use clap::ArgMatches;
+use std::fs::Files;
 
 /// Runs what the command line of the program of this version says. It does not serve connections, but gives the order to
 /// serve them (own rule). `is_terminal` says whether standard error is a terminal.
 ///
 /// # Errors
 /// The reason for an early end. If its text is empty, it was reported on standard error; else the caller reports it.
-pub fn run<'a, R: Print + Eprint + Input + AllocGlobal>(
+pub fn run<'a, R: Print + Eprint + Input + Files + AllocGlobal>(
     rt: &R,
     words: &'a [String],
     version: &'static str,
@@ -35,7 +36,7 @@ pub fn run<'a, R: Print + Eprint + Input + AllocGlobal>(
 }
 
 /// Runs the command that is the first word.
-fn run_command<'a, R: Print + Eprint + Input + AllocGlobal>(
+fn run_command<'a, R: Print + Eprint + Input + Files + AllocGlobal>(
     rt: &R,
     first: &str,
     given: &ArgMatches<'a>,
@@ -43,7 +44,7 @@ fn run_command<'a, R: Print + Eprint + Input + AllocGlobal>(
 ) -> Result<Option<ServeOrder<'a>>, ExitReason> {
     match first {
         "replay" => replay_standard_streams(rt, given, is_terminal)?,
-        "check" => check_standard_input(rt, given, is_terminal)?,
+        "check" => check_as_ordered(rt, given, is_terminal)?,
         "serve" => return Ok(Some(order_of(rt, given)?)),
         _ => return Err(ExitReason::Words),
     }

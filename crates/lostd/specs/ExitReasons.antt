@@ -5,7 +5,7 @@ use Rattle.lost_server.specs.declared.run_fault.RunFault.TheVariants.{Workers, A
 use Rattle.lost_server.specs.declared.server_fault.MapFault.{MapFault}
 use Rattle.lost_server.specs.declared.server_fault.MapFault.TheVariants.{Unopened, Unread, Refused, Memory as NoMapMemory}
 use Rattle.lost_command.specs.declared.exit_reason.ExitReason.{ExitReason}
-use Rattle.lost_command.specs.declared.exit_reason.ExitReason.TheVariants.{Run, Workers as WrongWorkers, Accept as NotAccepted, Map as BadMap, MapRefused}
+use Rattle.lost_command.specs.declared.exit_reason.ExitReason.TheVariants.{Run, Workers as WrongWorkers, Accept as NotAccepted, File as BadFile, MapRefused}
 
 abbrev pub serve_reason : RunFault → ExitReason
 serve_reason Workers = WrongWorkers
@@ -14,7 +14,7 @@ serve_reason Memory = Run NoMemory
 
 -- what ends the program where a map was not loaded
 abbrev pub map_reason : MapFault → ExitReason
-map_reason (Unopened kind) = BadMap
-map_reason Unread = BadMap
+map_reason (Unopened kind) = BadFile
+map_reason Unread = BadFile
 map_reason (Refused refused pending) = MapRefused
 map_reason NoMapMemory = Run NoMemory

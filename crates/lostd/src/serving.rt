@@ -2,7 +2,7 @@
 ghost use Rattle.std.specs.Prelude.{◌≡◌};
 ghost use Rattle.lostd.specs.ExitReasons.{serve_reason, map_reason};
 
-use lost_command::{ExitReason, ServeOrder};
+use lost_command::{ExitReason, ServeOrder, opening_failed};
 use lost_server::{
     ConnectionLimits, ConnectionSettings, Listeners, MapFault, Ready, RunFault, ServeError,
     ServerFault, ServerOrder, System, run_server,
@@ -118,7 +118,7 @@ fn map_reason(fault: MapFault) -> ExitReason
     ensures { result ≡ map_reason fault }
 {
     match fault {
-        MapFault::Unopened(_) | MapFault::Unread => ExitReason::Map,
+        MapFault::Unopened(_) | MapFault::Unread => ExitReason::File,
         MapFault::Refused { .. } => ExitReason::MapRefused,
         MapFault::Memory => ExitReason::MEMORY,
     }
@@ -153,15 +153,4 @@ fn say_of_map<R: Eprint>(rt: &R, path: &str, fault: MapFault) {
         }
         MapFault::Memory => Ok(()),
     };
-}
-
-/// Why a file cannot be opened.
-fn opening_failed(kind: ErrorKind) -> &'static str {
-    match kind {
-        ErrorKind::NotFound => "there is no such file",
-        ErrorKind::PermissionDenied => "this user may not read it",
-        ErrorKind::IsADirectory => "it is a folder",
-        ErrorKind::OutOfMemory => "memory ran out",
-        _ => "it could not be opened",
-    }
 }

@@ -17,7 +17,7 @@ const REASONS: [ExitReason; 8] = [
     ExitReason::Run(ServeError::Memory),
     ExitReason::Workers,
     ExitReason::Accept,
-    ExitReason::Map,
+    ExitReason::File,
     ExitReason::MapRefused,
 ];
 
