@@ -3,6 +3,7 @@ from __future__ import annotations
 
 import os
 import subprocess
+import tempfile
 import unittest
 from typing import List, Tuple
 
@@ -50,6 +51,27 @@ class CheckTests(unittest.TestCase):
         for name in names:
             with open(f"{ROWS}/{name}.jsonl", "rb") as lines, open(f"{ROWS}/{name}.expected", encoding="utf-8") as report:
                 self.assertEqual(check(lines.read()), (3, report.read()), name)
+
+    def test_files(self) -> None:
+        """Files are checked each by itself, without a name and a time; several behind their names. The first that cannot be read
+        ends the check."""
+        with tempfile.TemporaryDirectory() as folder:
+            good, bad, missing = (f"{folder}/{name}.jsonl" for name in ("good", "bad", "missing"))
+            for path, lines in ((good, publish(1, 1) + COMMIT), (bad, publish(1, 1) * 2 + COMMIT)):
+                with open(path, "w", encoding="utf-8") as file:
+                    file.write(lines)
+            held = 'line 2: 13 IdentityHeld: map.example / 1 is held: send it as replace\n'
+            for words, status, told, said in (
+                ([good], 0, done(2, edition=1), ""),
+                ([bad], 3, held + done(3, refused=1, edition=1), ""),
+                ([good, bad, good], 3, f"{good}:\n{done(2, edition=1)}{bad}:\n{held}{done(3, refused=1, edition=1)}{good}:\n{done(2, edition=1)}", ""),
+                ([missing], 1, "", f"lostd: '{missing}' cannot be read: there is no such file\n"),
+                ([folder], 1, "", f"lostd: '{folder}' cannot be read: it is a folder\n"),
+                ([missing, good], 1, f"{missing}:\n", f"lostd: '{missing}' cannot be read: there is no such file\n"),
+            ):
+                with self.subTest(words):
+                    ran = subprocess.run([str(lostd()), "check", *words], capture_output=True, timeout=60)
+                    self.assertEqual((ran.returncode, ran.stdout.decode(), ran.stderr.decode()), (status, told, said))
 
     def test_full(self) -> None:
         """One mapping more than may be held."""
