@@ -57,9 +57,9 @@ class WholeServer(unittest.TestCase):
         """A server of a desk and clients over Unix sockets, which is ready."""
         return self.ready("--desk", f"unix:{self.desk}", "--queries", f"unix:{self.queries}", *words)
 
-    def ready(self, *words: str) -> Server:
+    def ready(self, *words: str, workers: int = 2) -> Server:
         """A server that is ready."""
-        server = Server(list(words))
+        server = Server(list(words), workers=workers)
         self.assertEqual(server.first_line(), READY)
         return server
 
@@ -96,6 +96,22 @@ class Clients(WholeServer):
                     self.assertTrue(ended(refused))
             with socket.create_connection(("127.0.0.1", self.port), PATIENCE, ("127.0.0.2", 0)) as other:
                 self.assertEqual(ask(other, LIST), NOTHING % 0)
+
+    def test_clients_after_faults(self) -> None:
+        """A worker whose clients were reset or passed a limit goes on answering those that stay, and those that come."""
+        words = ["--desk", f"unix:{self.desk}", "--queries", f"127.0.0.1:{self.port}", "--line-time", "1", "--quiet"]
+        with self.ready(*words, workers=1), tcp(self.port) as stays:
+            for _ in range(8):
+                with tcp(self.port) as reset:
+                    reset.sendall(LIST.encode() + b'{"list')
+                    self.assertEqual(reset.recv(4096).decode(), NOTHING % 0)
+                    reset.setsockopt(socket.SOL_SOCKET, socket.SO_LINGER, struct.pack("ii", 1, 0))
+            with tcp(self.port) as slow:
+                slow.sendall(b'{"list')
+                self.assertTrue(ended(slow))
+            for client in (stays, tcp(self.port)):
+                with client:
+                    self.assertEqual(ask(client, LIST), NOTHING % 0)
 
     def test_a_late_reader(self) -> None:
         """A client that reads only once some 3 MiB of replies are due gets each of them, and others are answered meanwhile."""
