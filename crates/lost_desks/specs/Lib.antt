@@ -1,2 +1,3 @@
 pub mod Protocol
 pub mod Turns
+pub mod Counting

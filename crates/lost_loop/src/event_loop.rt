@@ -1,7 +1,9 @@
 //! The event loop of a worker.
-ghost use Rattle.std.specs.Prelude.{◌≡◌, ◌<◌, length};
+ghost use Rattle.std.specs.Prelude.{◌≡◌, ◌⊎◌, ◌<◌, length};
+ghost use Rattle.lost_status.specs.Figures.{connections_counted};
+ghost use Rattle.lost_loop.specs.Counting.{end_counted, lost_counted};
 ghost use Rattle.lost_worker.specs.Lines.{HasSeenMore};
-ghost use Rattle.lost_connections.specs.Clients.{KeepsOthers};
+ghost use Rattle.lost_connections.specs.Clients.{KeepsOthers, connected_at};
 
 use crate::connection_state::{ConnectionState, Connections, fault_text};
 use crate::ready_queue::ReadyQueue;
@@ -12,7 +14,7 @@ use crossbeam_channel::TryRecvError;
 use lost_connections::{Client, ClientFault, Clients, Progress};
 use lost_lines::{Counts, Gate};
 use lost_sockets::Stream;
-use lost_status::WorkerCounts;
+use lost_status::{ConnectionCounter, ConnectionEvent};
 use lost_worker::{Moments, Replier};
 use mio::unix::SourceFd;
 use mio::{Events, Interest, Token};
@@ -39,7 +41,7 @@ pub(crate) const SWEEP: u64 = 250;
 const PAUSE: u64 = 20;
 
 /// The connections that one worker watches: the arriving ones, all of them, and those to serve at once.
-pub struct EventLoop {
+pub struct EventLoop<'s> {
     arrivals: Arrivals,
     events: Events,
     pub(crate) clients: Connections,
@@ -54,10 +56,12 @@ pub struct EventLoop {
     /// Whether no more connections come.
     is_closing: bool,
     counts: Counts,
+    /// What it counts for the status.
+    counter: ConnectionCounter<'s>,
     ghost room: { 0 < length chunk.items },
 }
 
-impl Drop for EventLoop {
+impl Drop for EventLoop<'_> {
     fn drop(self) {
         let EventLoop {
             arrivals: _,
@@ -70,17 +74,22 @@ impl Drop for EventLoop {
             swept: _,
             is_closing: _,
             counts: _,
+            counter: _,
         } = self;
     }
 }
 
-impl EventLoop {
-    /// No connections. New ones come from `arrivals`.
+impl<'s> EventLoop<'s> {
+    /// No connections. New ones come from `arrivals`, and are counted by `counter`.
     ///
     /// # Errors
     ///
     /// If memory is refused.
-    pub fn new(alloc: Global, arrivals: Arrivals) -> Result<EventLoop, AllocError> {
+    pub fn new(
+        alloc: Global,
+        arrivals: Arrivals,
+        counter: ConnectionCounter<'s>,
+    ) -> Result<EventLoop<'s>, AllocError> {
         Ok(EventLoop {
             arrivals,
             events: Events::with_capacity(alloc, MOST_EVENTS)?,
@@ -92,6 +101,7 @@ impl EventLoop {
             swept: Duration::ZERO,
             is_closing: false,
             counts: Counts::default(),
+            counter,
         })
     }
 
@@ -100,7 +110,6 @@ impl EventLoop {
     pub fn run<R: Wait + Clock + Eprint, P: Replier, M: Moments, G: Gate>(
         &mut self,
         service: &Service<'_, R, G>,
-        busy: Option<&WorkerCounts>,
         replier: &mut P,
         moments: &mut M,
     ) -> Counts
@@ -109,9 +118,9 @@ impl EventLoop {
     {
         for _round in service.rt.forever() {
             self.wait(service);
-            set_busy(busy, true);
+            self.counter.count(ConnectionEvent::Busy);
             self.serve_queued(service, replier, moments);
-            set_busy(busy, false);
+            self.counter.count(ConnectionEvent::Idle);
             self.sweep(service);
             if self.is_closing && self.clients.is_empty() {
                 break;
@@ -181,13 +190,16 @@ impl EventLoop {
     }
 
     /// Takes a connection, or closes it if it cannot be watched.
-    fn take<R: Wait + Clock + Eprint, G>(&mut self, service: &Service<'_, R, G>, arrival: Arrival) {
+    fn take<R: Wait + Clock + Eprint, G>(&mut self, service: &Service<'_, R, G>, arrival: Arrival)
+        ensures counted { (self.new.counter ≡ connections_counted self.old.counter ConnectionEvent.Taken)
+            ⊎ (self.new.counter ≡ lost_counted self.old.counter) }
+    {
         let Arrival {
             stream,
             number,
             peer,
         } = arrival;
-        service.status.count_taken();
+        self.counter.count(ConnectionEvent::Taken);
         let state = ConnectionState { number, peer };
         if !self.watch(service.alloc, stream, state, service.most_lines) {
             service.admission.leave(service.rt, peer.address());
@@ -203,7 +215,9 @@ impl EventLoop {
         stream: Stream,
         state: ConnectionState,
         most_lines: u64,
-    ) -> bool {
+    ) -> bool
+        ensures counter { self.new.counter ≡ self.old.counter }
+    {
         let fd = stream.raw_fd();
         let Some(key) = self.hold(alloc, stream, state, most_lines) else {
             return false;
@@ -224,7 +238,9 @@ impl EventLoop {
         stream: Stream,
         state: ConnectionState,
         most_lines: u64,
-    ) -> Option<usize> {
+    ) -> Option<usize>
+        ensures counter { self.new.counter ≡ self.old.counter }
+    {
         if stream.set_nonblocking(true).is_err() {
             return None;
         }
@@ -342,6 +358,8 @@ impl EventLoop {
         cause: Option<&'static str>,
     )
         ensures others { KeepsOthers self.old.clients self.new.clients key }
+        ensures counted { self.new.counter
+            ≡ end_counted self.old.counter (connected_at self.old.clients key) cause }
     {
         let Some(connected) = self.clients.remove(key) else {
             return;
@@ -353,7 +371,7 @@ impl EventLoop {
             Some(cause) => self.count_fault(service, connected.state, cause),
             None => {
                 self.counts = self.counts.plus(connected.client.counts());
-                service.status.count_ended(false);
+                self.counter.count(ConnectionEvent::Ended);
             }
         }
     }
@@ -361,6 +379,7 @@ impl EventLoop {
     /// Forgets that the connection under a key sent too many lines, if it did.
     fn forget_spent(&mut self, key: usize)
         ensures clients { self.new.clients ≡ self.old.clients }
+        ensures counter { self.new.counter ≡ self.old.counter }
     {
         if let Some(place) = self.spent.iter().position(|spent| *spent == key) {
             let _key = self.spent.swap_remove(place);
@@ -375,16 +394,10 @@ impl EventLoop {
         cause: &'static str,
     )
         ensures clients { self.new.clients ≡ self.old.clients }
+        ensures counted { self.new.counter ≡ connections_counted self.old.counter ConnectionEvent.Failed }
     {
         self.counts = self.counts.plus(Counts::of_fault());
-        service.status.count_ended(true);
+        self.counter.count(ConnectionEvent::Failed);
         service.log.report_query(state.number, &state.peer, cause);
-    }
-}
-
-/// Sets in the status whether a worker serves.
-fn set_busy(counts: Option<&WorkerCounts>, is_busy: bool) {
-    if let Some(counts) = counts {
-        counts.set_busy(is_busy);
     }
 }

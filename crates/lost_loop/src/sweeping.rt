@@ -5,7 +5,7 @@ use std::io::Eprint;
 use std::sync::Wait;
 use std::time::{Clock, Duration};
 
-impl EventLoop {
+impl EventLoop<'_> {
     /// Closes the connections that have passed a limit, if a check is due.
     pub(crate) fn sweep<R: Wait + Clock + Eprint, G>(&mut self, service: &Service<'_, R, G>) {
         if self.now.saturating_sub(self.swept) < Duration::from_millis(SWEEP) {
