@@ -1,3 +1,4 @@
 pub mod LineWait
 pub mod Protocol
 pub mod Turns
+pub mod Counting

@@ -1,5 +1,5 @@
 //! Serves the connections of desks.
-ghost use Rattle.std.specs.Prelude.{◌≡◌, []};
+ghost use Rattle.std.specs.Prelude.{◌≡◌, [], IsFalse};
 ghost use Rattle.lost_lines.specs.Calls.{AreFresh};
 ghost use Rattle.lost_worker.specs.Desking.{IsSameDesk};
 
@@ -12,7 +12,7 @@ use lost_desk::Desk;
 use lost_lines::{Counts, ServeError, Turns, Watched};
 use lost_log::ConnectionLog;
 use lost_sockets::{Listener, Peer, Stream, accept};
-use lost_status::Status;
+use lost_status::{DeskCounter, DeskEvent};
 use lost_worker::serve_desk_with;
 use std::alloc::Global;
 use std::io::{Eprint, Read, Write};
@@ -26,7 +26,6 @@ pub struct DeskService<'s, R> {
     pub rt: &'s R,
     pub alloc: Global,
     pub log: &'s ConnectionLog<'s, R>,
-    pub status: &'s Status,
     /// How long a read or a write may wait; `None` for ever.
     pub idle: Option<Duration>,
     /// Whether the server is over, so that no further desk is taken.
@@ -42,11 +41,13 @@ pub enum Left {
     Pending,
 }
 
-/// Serves one connection of a desk, and says whether one came. Afterwards nothing is pending, unless memory is refused.
+/// Serves one connection of a desk, and says whether one came. Counts its lines, and what the desk holds after each.
+/// Afterwards nothing is pending, unless memory is refused.
 pub fn serve_one_desk<R: Wait + Clock + Eprint>(
     service: &DeskService<'_, R>,
     listener: &Listener,
     desk: &mut Desk,
+    counter: &mut DeskCounter<'_>,
 ) -> bool
     ensures { IsSameDesk desk.old desk.new }
 {
@@ -54,16 +55,17 @@ pub fn serve_one_desk<R: Wait + Clock + Eprint>(
         service.log.report_listener();
         return false;
     };
-    let _left = service.serve(None, &stream, &peer, desk);
+    let _left = service.serve(None, &stream, &peer, desk, counter);
     true
 }
 
-/// Serves the connections of desks in turn, until the server is over. The listener must not wait. The edits that a desk
-/// left pending are dropped before the next one is served.
+/// Serves the connections of desks in turn, until the server is over. Counts their lines, and what the desk holds after
+/// each. The listener must not wait. The edits that a desk left pending are dropped before the next one is served.
 pub fn serve_desks<R: Wait + Clock + Eprint>(
     service: &DeskService<'_, R>,
     listener: &Listener,
     desk: &mut Desk,
+    counter: &mut DeskCounter<'_>,
 )
     ensures { IsSameDesk desk.old desk.new }
 {
@@ -72,7 +74,7 @@ pub fn serve_desks<R: Wait + Clock + Eprint>(
         let Some((stream, peer)) = queue.next(service.rt, service.is_over) else {
             return;
         };
-        let _left = service.serve(Some(&queue), &stream, &peer, desk);
+        let _left = service.serve(Some(&queue), &stream, &peer, desk, counter);
     }
 }
 
@@ -85,20 +87,22 @@ impl<R: Wait + Clock + Eprint> DeskService<'_, R> {
         stream: &Stream,
         peer: &Peer,
         desk: &mut Desk,
+        counter: &mut DeskCounter<'_>,
     ) -> Left
         ensures nothing_pending { result ≡ Left.Nothing → desk.new.pending ≡ [] }
         ensures same { IsSameDesk desk.old desk.new }
+        ensures left { IsFalse counter.new.is_open }
     {
-        self.status.set_desk(true);
-        if let Some(cause) = self.serve_turn(queue, stream, desk) {
+        counter.count(DeskEvent::Connected);
+        if let Some(cause) = self.serve_turn(queue, stream, desk, counter) {
             self.log.report_desk(peer, cause);
         }
-        self.status.set_desk(false);
+        counter.count(DeskEvent::Left);
         let left = drop_pending(desk);
         if left == Left::Pending {
             self.log.report_pending();
         }
-        tell_book(self.status, desk);
+        tell_book(counter, desk);
         left
     }
 
@@ -108,6 +112,7 @@ impl<R: Wait + Clock + Eprint> DeskService<'_, R> {
         queue: Option<&DeskQueue<'_>>,
         stream: &Stream,
         desk: &mut Desk,
+        counter: &mut DeskCounter<'_>,
     ) -> Option<&'static str>
         ensures { IsSameDesk desk.old desk.new }
     {
@@ -122,7 +127,7 @@ impl<R: Wait + Clock + Eprint> DeskService<'_, R> {
         }
         let mut input = Watched::new(DeskInput::new(self.alloc, &turn));
         let mut output = Watched::new(DeskOutput::new(&turn));
-        let Err(fault) = self.answer_lines(&mut input, &mut output, desk) else {
+        let Err(fault) = self.answer_lines(&mut input, &mut output, desk, counter) else {
             return None;
         };
         let end = input.inner().end().or(output.inner().end());
@@ -138,13 +143,14 @@ impl<R: Wait + Clock + Eprint> DeskService<'_, R> {
         input: &mut Watched<I>,
         output: &mut Watched<O>,
         desk: &mut Desk,
+        counter: &mut DeskCounter<'_>,
     ) -> Result<Counts, ServeError>
         requires fresh { AreFresh input.old output.old }
         ensures { IsSameDesk desk.old desk.new }
     {
         let mut counting = DeskCounting {
             rt: self.rt,
-            status: self.status,
+            counter,
         };
         serve_desk_with(
             self.rt,

@@ -1,9 +1,13 @@
 //! Accepts connections, and gives them to workers.
+ghost use Rattle.std.specs.Prelude.{◌≡◌};
+ghost use Rattle.lost_loop.specs.Counting.{IsLetIn, lost_counted};
+
 use crate::service::Service;
 use crate::worker_handle::{Arrival, WorkerHandle};
 use lost_connections::Refusal;
 use lost_lines::Counts;
 use lost_sockets::{Listener, Peer, accept};
+use lost_status::{ConnectionCounter, ConnectionEvent};
 use std::io::Eprint;
 use std::net::IpAddr;
 use std::sync::Wait;
@@ -37,9 +41,10 @@ pub struct Acceptor<'s, R, G> {
 
 impl<R: Wait + Clock + Eprint, G> Acceptor<'_, R, G> {
     /// Accepts as many connections as it may, or connections until the server is over, and gives each to a worker in
-    /// turn, or closes it if it is past a limit. Gives one fault for each that no worker could take, or nothing if the
-    /// listener was given up.
+    /// turn, or closes it if it is past a limit. Counts them in the status, whose acceptor it is. Gives one fault for each
+    /// that no worker could take, or nothing if the listener was given up.
     pub fn accept_all(&self, workers: &[WorkerHandle]) -> Option<Counts> {
+        let mut counter = self.service.status.acceptor();
         let mut counts = Counts::default();
         for number in 1..=self.most {
             let Some((stream, peer)) = accept(self.service.rt, self.listener) else {
@@ -54,7 +59,7 @@ impl<R: Wait + Clock + Eprint, G> Acceptor<'_, R, G> {
                 number,
                 peer,
             };
-            if !self.let_in(workers, arrival) {
+            if !self.let_in(workers, arrival, &mut counter) {
                 counts = counts.plus(Counts::of_fault());
             }
         }
@@ -62,20 +67,27 @@ impl<R: Wait + Clock + Eprint, G> Acceptor<'_, R, G> {
     }
 
     /// Gives a connection to a worker, or closes it. Says whether all is well, as it is with one past a limit.
-    fn let_in(&self, workers: &[WorkerHandle], arrival: Arrival) -> bool {
+    fn let_in(
+        &self,
+        workers: &[WorkerHandle],
+        arrival: Arrival,
+        counter: &mut ConnectionCounter<'_>,
+    ) -> bool
+        ensures { IsLetIn counter.old result counter.new }
+    {
         let service = self.service;
         let (number, peer) = (arrival.number, arrival.peer);
         if let Err(refusal) = self.enter(peer.address()) {
             drop(arrival);
-            service.status.count_refused();
+            counter.count(ConnectionEvent::TurnedAway);
             service.log.report_query(number, &peer, refusal.text());
             return true;
         }
-        service.status.count_accepted();
+        counter.count(ConnectionEvent::Accepted);
         if give_in_turn(service.rt, workers, arrival) {
             return true;
         }
-        self.count_lost(number, &peer);
+        self.count_lost(number, &peer, counter);
         false
     }
 
@@ -93,11 +105,13 @@ impl<R: Wait + Clock + Eprint, G> Acceptor<'_, R, G> {
     }
 
     /// Counts an admitted connection that no worker could take, and reports it.
-    fn count_lost(&self, number: u64, peer: &Peer) {
+    fn count_lost(&self, number: u64, peer: &Peer, counter: &mut ConnectionCounter<'_>)
+        ensures { counter.new ≡ lost_counted counter.old }
+    {
         let service = self.service;
         service.admission.leave(service.rt, peer.address());
-        service.status.count_taken();
-        service.status.count_ended(true);
+        counter.count(ConnectionEvent::Taken);
+        counter.count(ConnectionEvent::Failed);
         service
             .log
             .report_query(number, peer, "no worker could take it: memory ran out");

@@ -1,8 +1,10 @@
 //! The event loop of a worker.
-ghost use Rattle.std.specs.Prelude.{◌≡◌, ◌<◌, ℕ, false, IsTrue, MatchOption, length, is_some};
+ghost use Rattle.std.specs.Prelude.{◌≡◌, ◌⊎◌, ◌<◌, ℕ, false, IsTrue, MatchOption, length, is_some};
 ghost use Rattle.lost_worker.specs.Lines.{HasSeenMore};
+ghost use Rattle.lost_status.specs.Figures.{connections_counted};
 ghost use Rattle.lost_connections.specs.Worker.{worker};
 ghost use Rattle.lost_connections.specs.Clients.{connected_at, KeepsAll, KeepsOthers};
+ghost use Rattle.lost_loop.specs.Counting.{end_counted, lost_counted};
 ghost use Rattle.lost_loop.specs.Keys.{flag_at};
 ghost use Rattle.lost_loop.specs.Loop.{Bursts, Follows, IsPlus, IsTurn, IsTaken, Leaves, TakesOrCloses, one_fault};
 
@@ -17,7 +19,7 @@ use crossbeam_channel::TryRecvError;
 use lost_connections::{Client, ClientFault, Clients, Progress};
 use lost_lines::{Counts, Gate};
 use lost_sockets::Stream;
-use lost_status::WorkerCounts;
+use lost_status::{ConnectionCounter, ConnectionEvent};
 use lost_worker::{Moments, Replier};
 use mio::unix::SourceFd;
 use mio::{Events, Interest, Token};
@@ -44,7 +46,7 @@ const SWEEP: u64 = 250;
 const PAUSE: u64 = 20;
 
 /// The connections that one worker watches: the arriving ones, all of them, and those to serve at once.
-pub struct EventLoop {
+pub struct EventLoop<'s> {
     arrivals: Arrivals,
     events: Events,
     pub(crate) clients: Connections,
@@ -59,10 +61,12 @@ pub struct EventLoop {
     /// Whether no more connections come.
     is_closing: bool,
     pub(crate) counts: Counts,
+    /// What it counts for the status.
+    counter: ConnectionCounter<'s>,
     ghost room: { 0 < length chunk.items },
 }
 
-impl Drop for EventLoop {
+impl Drop for EventLoop<'_> {
     fn drop(self) {
         let EventLoop {
             arrivals: _,
@@ -75,17 +79,22 @@ impl Drop for EventLoop {
             swept: _,
             is_closing: _,
             counts: _,
+            counter: _,
         } = self;
     }
 }
 
-impl EventLoop {
-    /// No connections. New ones come from `arrivals`.
+impl<'s> EventLoop<'s> {
+    /// No connections. New ones come from `arrivals`, and are counted by `counter`.
     ///
     /// # Errors
     ///
     /// If memory is refused.
-    pub fn new(alloc: Global, arrivals: Arrivals) -> Result<EventLoop, AllocError> {
+    pub fn new(
+        alloc: Global,
+        arrivals: Arrivals,
+        counter: ConnectionCounter<'s>,
+    ) -> Result<EventLoop<'s>, AllocError> {
         Ok(EventLoop {
             arrivals,
             events: Events::with_capacity(alloc, MOST_EVENTS)?,
@@ -97,6 +106,7 @@ impl EventLoop {
             swept: Duration::ZERO,
             is_closing: false,
             counts: Counts::default(),
+            counter,
         })
     }
 
@@ -105,7 +115,6 @@ impl EventLoop {
     pub fn run<R: Wait + Clock + Eprint, P: Replier, M: Moments, G: Gate>(
         &mut self,
         service: &Service<'_, R, G>,
-        busy: Option<&WorkerCounts>,
         replier: &mut P,
         moments: &mut M,
     ) -> Counts
@@ -114,9 +123,9 @@ impl EventLoop {
     {
         for _round in service.rt.forever() {
             self.wait(service);
-            set_busy(busy, true);
+            self.counter.count(ConnectionEvent::Busy);
             self.serve_queued(service, replier, moments);
-            set_busy(busy, false);
+            self.counter.count(ConnectionEvent::Idle);
             self.sweep(service);
             if self.is_closing && self.clients.is_empty() {
                 break;
@@ -186,16 +195,18 @@ impl EventLoop {
 
     /// Takes a connection, or closes it if it cannot be watched, and counts that as a fault.
     fn take<R: Wait + Clock + Eprint, G>(&mut self, service: &Service<'_, R, G>, arrival: Arrival)
-        ensures { TakesOrCloses ⟦<SharedStream as Read>⟧.remaining ⟦<SharedStream as Write>⟧.contents
+        ensures taken { TakesOrCloses ⟦<SharedStream as Read>⟧.remaining ⟦<SharedStream as Write>⟧.contents
             service.now.most_lines self.old.now (record { number = arrival.number; peer = arrival.peer })
             self.old.clients self.new.clients self.old.counts self.new.counts }
+        ensures counted { (self.new.counter ≡ connections_counted self.old.counter ConnectionEvent.Taken)
+            ⊎ (self.new.counter ≡ lost_counted self.old.counter) }
     {
         let Arrival {
             stream,
             number,
             peer,
         } = arrival;
-        service.status.count_taken();
+        self.counter.count(ConnectionEvent::Taken);
         let state = ConnectionState { number, peer };
         if !self.watch(service.alloc, stream, state, service.most_lines) {
             service.admission.leave(service.rt, peer.address());
@@ -215,6 +226,7 @@ impl EventLoop {
         ensures taken { IsTrue result → (key : ℕ) × IsTaken ⟦<SharedStream as Read>⟧.remaining ⟦<SharedStream as Write>⟧.contents most_lines self.old.now state self.old.clients self.new.clients key }
         ensures closed { result ≡ false → KeepsAll self.old.clients self.new.clients }
         ensures counts { self.new.counts ≡ self.old.counts }
+        ensures counter { self.new.counter ≡ self.old.counter }
     {
         let fd = stream.raw_fd();
         let Some(key) = self.hold(alloc, stream, state, most_lines) else {
@@ -240,9 +252,10 @@ impl EventLoop {
         state: ConnectionState,
         most_lines: u64,
     ) -> Option<usize>
-        ensures { MatchOption result (KeepsAll self.old.clients self.new.clients)
+        ensures held { MatchOption result (KeepsAll self.old.clients self.new.clients)
             (λ key. IsTaken ⟦<SharedStream as Read>⟧.remaining ⟦<SharedStream as Write>⟧.contents most_lines self.old.now state self.old.clients self.new.clients key) }
         ensures counts { self.new.counts ≡ self.old.counts }
+        ensures counter { self.new.counter ≡ self.old.counter }
     {
         if stream.set_nonblocking(true).is_err() {
             return None;
@@ -382,6 +395,8 @@ impl EventLoop {
         ensures leaves { Leaves ⟦<SharedStream as Read>⟧.remaining ⟦<SharedStream as Write>⟧.contents (is_some cause) self.old.clients self.new.clients self.old.counts self.new.counts key }
         ensures forgotten { flag_at self.new.spent.flags.items key ≡ false }
         ensures now { self.new.now ≡ self.old.now }
+        ensures counted { self.new.counter
+            ≡ end_counted self.old.counter (connected_at self.old.clients key) cause }
     {
         self.spent.forget(key);
         let Some(connected) = self.clients.remove(key) else {
@@ -393,7 +408,7 @@ impl EventLoop {
             Some(cause) => self.count_fault(service, connected.state, cause),
             None => {
                 self.counts = self.counts.plus(connected.client.counts());
-                service.status.count_ended(false);
+                self.counter.count(ConnectionEvent::Ended);
             }
         }
     }
@@ -408,16 +423,10 @@ impl EventLoop {
         ensures clients { self.new.clients ≡ self.old.clients }
         ensures counted { IsPlus self.old.counts one_fault self.new.counts }
         ensures others { (self.new.now ≡ self.old.now) × (self.new.spent ≡ self.old.spent) }
+        ensures counter { self.new.counter ≡ connections_counted self.old.counter ConnectionEvent.Failed }
     {
         self.counts = self.counts.plus(Counts::of_fault());
-        service.status.count_ended(true);
+        self.counter.count(ConnectionEvent::Failed);
         service.log.report_query(state.number, &state.peer, cause);
-    }
-}
-
-/// Sets in the status whether a worker serves.
-fn set_busy(counts: Option<&WorkerCounts>, is_busy: bool) {
-    if let Some(counts) = counts {
-        counts.set_busy(is_busy);
     }
 }

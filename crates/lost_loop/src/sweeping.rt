@@ -11,7 +11,7 @@ use std::io::Eprint;
 use std::sync::Wait;
 use std::time::Clock;
 
-impl EventLoop {
+impl EventLoop<'_> {
     /// Closes all connections that have passed a limit, and no other, if a check is due.
     pub(crate) fn sweep<R: Wait + Clock + Eprint, G>(&mut self, service: &Service<'_, R, G>)
         ensures due { is_due_since self.old.swept self.old.now ≡ true → IsSwept service.now.limits self.old.now self.old.clients self.new.clients }

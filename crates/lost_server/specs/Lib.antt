@@ -1,2 +1,3 @@
 pub mod Map
 pub mod RunFault
+pub mod Counting

@@ -1,9 +1,10 @@
 //! Counts the replies of a worker.
 ghost use Rattle.std.specs.Prelude.{◌≡◌};
+ghost use Rattle.lost_server.specs.Counting.{CountsReplied};
 
 use lost_json::internal_error;
 use lost_mapping::{Moment, Source};
-use lost_status::WorkerCounts;
+use lost_status::ReplyCounter;
 use lost_worker::{CachedReader, Replied, Replier};
 use std::alloc::Global;
 use std::hash::BuildHasher;
@@ -12,16 +13,16 @@ use std::hash::BuildHasher;
 #[derive(Drop)]
 pub(crate) struct Counting<'r, 's, S: BuildHasher + Drop> {
     reader: &'r mut CachedReader<S>,
-    counts: &'s WorkerCounts,
+    counter: ReplyCounter<'s>,
 }
 
 impl<'r, 's, S: BuildHasher + Drop> Counting<'r, 's, S> {
     /// This reader, counted here.
     pub(crate) fn of(
         reader: &'r mut CachedReader<S>,
-        counts: &'s WorkerCounts,
+        counter: ReplyCounter<'s>,
     ) -> Counting<'r, 's, S> {
-        Counting { reader, counts }
+        Counting { reader, counter }
     }
 }
 
@@ -29,17 +30,20 @@ impl<S: BuildHasher + Drop> Replier for Counting<'_, '_, S> {
     ghost reader = { λ c. c.reader.now };
 
     fn reply_line(&mut self, alloc: Global, name: &Source, time: &Moment, line: &[u8]) -> Replied {
-        match self.reader.reply_line(alloc, name, time, line) {
-            Ok(reply) => {
-                self.counts.count_reply(reply.as_slice());
-                self.counts.set_cache_hits(self.reader.hits());
-                Ok(reply)
-            }
-            Err(refused) => {
-                // The line's reply is then `internalError`.
-                self.counts.count_reply(internal_error().text.bytes());
-                Err(refused)
-            }
-        }
+        let replied = self.reader.reply_line(alloc, name, time, line);
+        count(&mut self.counter, &replied);
+        self.counter.set_cache_hits(self.reader.hits());
+        replied
+    }
+}
+
+/// Counts the reply to a line, once, by its kind.
+fn count(counter: &mut ReplyCounter<'_>, replied: &Replied)
+    ensures { CountsReplied (λ reply. reply.items) counter.old replied.now counter.new }
+{
+    match replied {
+        Ok(reply) => counter.count_reply(reply.as_slice()),
+        // The line's reply is then `internalError`.
+        Err(_) => counter.count_reply(internal_error().text.bytes()),
     }
 }

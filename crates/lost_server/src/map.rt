@@ -124,6 +124,8 @@ struct MapReading<'r, R: Eprint> {
 }
 
 impl<R: Eprint> DeskWitness for MapReading<'_, R> {
+    ghost step = { λ _ _ _. Unit {0} };
+
     fn saw(&mut self, line: Option<&[u8]>, reply: DeskReply, desk: &Desk) {
         self.found.lines = self.found.lines.saturating_add(1);
         let lines = self.found.lines;

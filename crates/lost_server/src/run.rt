@@ -14,7 +14,7 @@ use lost_log::ConnectionLog;
 use lost_loop::{Acceptor, Service, SharedAdmission, WhenFull};
 use lost_mapping::Source;
 use lost_sockets::Listener;
-use lost_status::Status;
+use lost_status::{DeskCounter, Status};
 use std::alloc::Global;
 use std::io::Eprint;
 use std::net::Net;
@@ -61,11 +61,13 @@ where
     G: Gate + Sync,
 {
     /// Answers all connections, with one worker for each reader. Each worker begins with what the desk has published.
+    /// What happens at the desk is counted by `counter`.
     pub(crate) fn answer(
         &self,
         listeners: &Listeners,
         desk: &mut Desk,
         readers: Readers,
+        counter: DeskCounter<'_>,
     ) -> Result<Counts, RunFault>
         requires { readers.each.opening ≡ desk.old.opening }
         ensures { result ≢ Err RunFault.Workers }
@@ -87,6 +89,7 @@ where
             listener: listeners.desk.as_ref(),
             is_only_one: self.connections.is_some(),
             desk,
+            counter,
         };
         let acceptor = self.acceptor(&service, &listeners.queries);
         run_threads(self.rt, self.alloc, workers, desks, &acceptor, handles)
@@ -116,7 +119,6 @@ where
             rt: self.rt,
             alloc: self.alloc,
             log: self.log,
-            status: self.status,
             idle: self.settings.desk_idle,
             is_over: self.is_over,
         }
@@ -150,6 +152,7 @@ struct DeskTask<'s, R> {
     /// Whether only one desk is served.
     is_only_one: bool,
     desk: &'s mut Desk,
+    counter: DeskCounter<'s>,
 }
 
 /// False if one desk was expected and none came.
@@ -157,13 +160,20 @@ impl<R: Wait + Clock + Eprint> Task for DeskTask<'_, R> {
     type Output = bool;
 
     fn run(self) -> bool {
-        let Some(listener) = self.listener else {
+        let DeskTask {
+            service,
+            listener,
+            is_only_one,
+            desk,
+            mut counter,
+        } = self;
+        let Some(listener) = listener else {
             return true;
         };
-        if self.is_only_one {
-            return serve_one_desk(&self.service, listener, self.desk);
+        if is_only_one {
+            return serve_one_desk(&service, listener, desk, &mut counter);
         }
-        serve_desks(&self.service, listener, self.desk);
+        serve_desks(&service, listener, desk, &mut counter);
         true
     }
 }

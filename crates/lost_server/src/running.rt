@@ -110,7 +110,7 @@ where
             connections: Some(self.connections),
             is_over: &is_over,
         };
-        run.answer(&listeners, desk, readers)
+        run.answer(&listeners, desk, readers, status.desk())
     }
 }
 

@@ -16,7 +16,7 @@ use lost_desks::tell_book;
 use lost_lines::{Counts, NoGate};
 use lost_log::{ConnectionLog, LogSender, start_log};
 use lost_sockets::{Address, Listener, remove_socket};
-use lost_status::Status;
+use lost_status::{DeskCounter, DeskEvent, Status};
 use std::alloc::AllocError;
 use std::net::{Net, TcpListener, TcpStream};
 use std::sync::atomic::{AtomicBool, Ordering};
@@ -138,29 +138,36 @@ where
     fn start(&self, desk: &mut Desk, readers: Readers) -> Ran
         requires { readers.each.opening ≡ desk.old.opening }
     {
-        self.load(desk)?;
-        tell_book(self.status, desk);
+        let mut counter = self.status.desk();
+        self.load(desk, &mut counter)?;
+        tell_book(&mut counter, desk);
         let listeners = open_listeners(self.rt, &self.order.addresses)?;
-        let result = self.answer(&listeners, desk, readers);
+        let result = self.answer(&listeners, desk, readers, counter);
         remove_sockets(self.rt, &self.order.addresses);
         result
     }
 
-    /// Reads the map, if there is one, and tells the status when.
-    fn load(&self, desk: &mut Desk) -> Result<(), ServerFault>
+    /// Reads the map, if there is one, and counts its end as a commit.
+    fn load(&self, desk: &mut Desk, counter: &mut DeskCounter<'_>) -> Result<(), ServerFault>
         ensures { IsSameDesk desk.old desk.new }
     {
         if let Some(path) = self.order.map {
             load_from(self.rt, path, self.order, desk)?;
             if let Ok(since) = self.rt.since_1970() {
-                self.status.set_commit(since);
+                counter.count(DeskEvent::Committed(since.as_secs()));
             }
         }
         Ok(())
     }
 
     /// Tells that it is ready, and answers connections. Meanwhile a thread writes what is said about them.
-    fn answer(&self, listeners: &Listeners, desk: &mut Desk, readers: Readers) -> Ran
+    fn answer(
+        &self,
+        listeners: &Listeners,
+        desk: &mut Desk,
+        readers: Readers,
+        counter: DeskCounter<'_>,
+    ) -> Ran
         requires { readers.each.opening ≡ desk.old.opening }
     {
         if self.order.connections.is_none()
@@ -172,7 +179,7 @@ where
         let Ok((sender, writer)) = start_log(self.rt, self.rt.alloc()) else {
             return Err(ServerFault::Run(RunFault::Memory));
         };
-        let result = self.answer_logged(sender, listeners, desk, readers);
+        let result = self.answer_logged(sender, listeners, desk, readers, counter);
         writer.finish(self.rt);
         result
     }
@@ -184,6 +191,7 @@ where
         listeners: &Listeners,
         desk: &mut Desk,
         readers: Readers,
+        counter: DeskCounter<'_>,
     ) -> Ran
         requires { readers.each.opening ≡ desk.old.opening }
     {
@@ -210,7 +218,7 @@ where
         if self.ready.ready(listeners).is_err() {
             return Err(ServerFault::Ready);
         }
-        run.answer(listeners, desk, readers)
+        run.answer(listeners, desk, readers, counter)
             .map_err(ServerFault::Run)
     }
 }

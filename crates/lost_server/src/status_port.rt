@@ -31,14 +31,15 @@ pub(crate) fn answer_status<R: Wait + Clock + RandomSource>(
     }
 }
 
-/// Answers a status connection. A slow one is closed.
+/// Answers a status connection by the server's numbers at its beginning. A slow one is closed.
 fn answer_one<R: Clock + RandomSource>(rt: &R, alloc: Global, stream: &Stream, status: &Status) {
     let Ok(keys) = RandomState::new(rt) else {
         return;
     };
     if stream.limit_waiting(Some(Duration::from_secs(PATIENCE))) {
+        let now = status.snapshot(rt.since_1970().unwrap_or(Duration::ZERO));
         let mut input = Deadline::new(rt, stream, Duration::from_secs(LIFE));
         let mut output = Deadline::new(rt, stream, Duration::from_secs(LIFE));
-        serve_status(rt, alloc, keys, status, &mut input, &mut output);
+        serve_status(alloc, keys, &now, &mut input, &mut output);
     }
 }

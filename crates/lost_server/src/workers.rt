@@ -8,6 +8,7 @@ use crate::threads::Task;
 use lost_desk::{Desk, Reader, Readers};
 use lost_lines::{Counts, Gate};
 use lost_loop::{EventLoop, Service, WorkerHandle, open_worker};
+use lost_status::{ReplyCounter, WorkerCounters};
 use lost_worker::CachedReader;
 use std::alloc::{AllocError, Global};
 use std::hash::RandomState;
@@ -23,18 +24,18 @@ const PLACES: u32 = 1_024;
 /// A reader with a cache whose hashes have keys of its own.
 pub(crate) type KeyedReader = CachedReader<RandomState>;
 
-/// One worker: its number, from 0, its reader, and its connections.
+/// One worker: its reader, what it counts of its replies, and its connections.
 #[derive(Drop)]
 pub(crate) struct Worker<'s, R, G> {
     service: &'s Service<'s, R, G>,
     /// Whether its replies are counted, as when somebody may ask for the counts.
     counts_replies: bool,
-    number: usize,
     reader: KeyedReader,
-    event_loop: EventLoop,
+    replies: ReplyCounter<'s>,
+    event_loop: EventLoop<'s>,
 }
 
-/// A worker for each reader. Adds the handle of each.
+/// A worker for each reader, of which there are as many as the status has workers. Adds the handle of each.
 pub(crate) fn workers_of<'s, R: Net, G>(
     rt: &R,
     service: &'s Service<'s, R, G>,
@@ -44,14 +45,21 @@ pub(crate) fn workers_of<'s, R: Net, G>(
 ) -> Result<Vec<Worker<'s, R, G>>, AllocError> {
     let mut workers = Vec::new(service.alloc);
     for reader in readers {
+        let Some(counters) = service.status.worker(workers.len()) else {
+            return Err(AllocError);
+        };
+        let WorkerCounters {
+            connections,
+            replies,
+        } = counters;
         let (handle, arrivals) = open_worker(rt, service.alloc)?;
         handles.push(handle)?;
         workers.push(Worker {
             service,
             counts_replies,
-            number: workers.len(),
             reader,
-            event_loop: EventLoop::new(service.alloc, arrivals)?,
+            replies,
+            event_loop: EventLoop::new(service.alloc, arrivals, connections)?,
         })?;
     }
     Ok(workers)
@@ -65,17 +73,16 @@ impl<R: Wait + Clock + Eprint, G: Gate> Task for Worker<'_, R, G> {
         let Worker {
             service,
             counts_replies,
-            number,
             mut reader,
+            replies,
             mut event_loop,
         } = self;
         let mut clock = MachineClock::new(service.rt);
-        match service.status.worker(number) {
-            Some(counts) if counts_replies => {
-                let mut counting = Counting::of(&mut reader, counts);
-                event_loop.run(service, Some(counts), &mut counting, &mut clock)
-            }
-            _ => event_loop.run(service, None, &mut reader, &mut clock),
+        if counts_replies {
+            let mut counting = Counting::of(&mut reader, replies);
+            event_loop.run(service, &mut counting, &mut clock)
+        } else {
+            event_loop.run(service, &mut reader, &mut clock)
         }
     }
 }

@@ -1,7 +1,9 @@
 pub mod ReplyKind
 pub mod LineKind
+pub mod Figures
 pub mod Exposition
 pub mod Page
+pub mod Shown
 pub mod Status
 pub mod Deadline
 pub mod Answered

@@ -1,5 +1,5 @@
 -- What a request of HTTP asks for. (The paths are own; the methods are those of RFC 9110, sections 9.3.1 and 9.3.2.)
-use Rattle.std.specs.Prelude.{◌≡◌, ◌⊎◌, ℕ, Bool, true, false, ◌||◌, if◌then◌else◌, Option, Some, None, codes}
+use Rattle.std.specs.Prelude.{Bool, true, false, ◌||◌, if◌then◌else◌, Option, Some, None, codes}
 use Rattle.lost_spec.specs.Text.{Text, same_text}
 use Rattle.lost_status.specs.declared.page.Page.{Page}
 use Rattle.lost_status.specs.declared.page.Page.TheVariants.{Health, Metrics, Report}
@@ -26,11 +26,3 @@ asked_of false (Some page) = OtherMethod
 -- what a method and a path ask for
 abbrev pub asked_for : (method path : Text) → Asked
 asked_for method path = asked_of (is_reading method) (page_at path)
-
--- the status code that one may get who asks so: that of the health is 503 until the server is ready
-abbrev pub MayGet : Asked → ℕ → Type 0
-MayGet (Shown Health) code = (code ≡ 200) ⊎ (code ≡ 503)
-MayGet (Shown Metrics) code = code ≡ 200
-MayGet (Shown Report) code = code ≡ 200
-MayGet OtherMethod code = code ≡ 405
-MayGet OtherPath code = code ≡ 404

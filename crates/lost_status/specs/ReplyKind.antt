@@ -1,5 +1,5 @@
 -- The kinds of replies, by which they are counted. (RFC 5222, sections 8.4, 9 to 11 and 13.1; the counting is own.)
-use Rattle.std.specs.Prelude.{codes}
+use Rattle.std.specs.Prelude.{ℕ, codes}
 use Rattle.lost_spec.specs.Text.{Text}
 use Rattle.lost_spec.specs.Request as spec
 use Rattle.lost_spec.specs.declared.answers.AnswerError.{AnswerError}
@@ -42,3 +42,19 @@ kind_name ServiceNotImplemented = error_name error.ServiceNotImplemented
 kind_name BadRequest = codes "badRequest"
 kind_name InternalError = codes "internalError"
 kind_name Other = codes "other"
+
+-- the place of a kind among all kinds, in the order in which they are shown
+abbrev pub kind_place : ReplyKind → ℕ
+kind_place FindServiceResponse = 0
+kind_place ListServicesByLocationResponse = 1
+kind_place ListServicesResponse = 2
+kind_place GetServiceBoundaryResponse = 3
+kind_place Loop = 4
+kind_place LocationProfileUnrecognized = 5
+kind_place SrsInvalid = 6
+kind_place LocationInvalid = 7
+kind_place NotFound = 8
+kind_place ServiceNotImplemented = 9
+kind_place BadRequest = 10
+kind_place InternalError = 11
+kind_place Other = 12

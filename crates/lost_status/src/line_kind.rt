@@ -22,7 +22,8 @@ const EIGHTH_LETTER: usize = 12;
 /// The kind of a reply's line, with its byte 10. It looks at few of the bytes, so the kind of any other line means
 /// nothing.
 pub fn kind_of(line: &[u8]) -> ReplyKind
-    ensures { (reply : Reply) → line.now ≡ reply_text reply → result ≡ kind_of_reply reply }
+    ensures told { result ≡ told_kind_of line.now }
+    ensures kind { (reply : Reply) → line.now ≡ reply_text reply → result ≡ kind_of_reply reply }
 {
     told_kind(line)
 }

@@ -3,8 +3,8 @@ ghost use Rattle.std.specs.Prelude.{◌≡◌, ◌∷◌, ◌++◌, OnOk, codes,
 ghost use Rattle.lost_writing.specs.DeskReplies.{IsCode, refusal_name as refusal_name_of};
 ghost use Rattle.lost_status.specs.Exposition.{counted, label, labelled};
 
-use crate::connection_counts::Connections;
-use crate::desk_state::{CODES, DeskNow, LAST_CODE};
+use crate::connection_event::ConnectionFigures;
+use crate::desk_event::{CODES, DeskFigures, LAST_CODE};
 use crate::exposition::MetricType::{Counter, Gauge};
 use crate::exposition::{describe, write_metric};
 use crate::reply_kind::{KINDS, ReplyKind};
@@ -22,7 +22,7 @@ pub(crate) fn metrics_text(alloc: Global, now: &Snapshot) -> Result<String, Allo
     let mut text = String::with_capacity(alloc, ROOM)?;
     write_server(&mut text, now)?;
     write_desk(&mut text, &now.desk)?;
-    write_replies(&mut text, &now.replies)?;
+    write_replies(&mut text, &now.replies.replies)?;
     write_refusals(&mut text, &now.desk.refusals)?;
     write_connections(&mut text, &now.connections)?;
     write_workers(&mut text, now)?;
@@ -55,7 +55,7 @@ fn write_server(text: &mut String, now: &Snapshot) -> Result<(), AllocError> {
 }
 
 /// Writes what the desk holds, and when it last committed.
-fn write_desk(text: &mut String, desk: &DeskNow) -> Result<(), AllocError> {
+fn write_desk(text: &mut String, desk: &DeskFigures) -> Result<(), AllocError> {
     write_metric(
         text,
         Gauge,
@@ -144,7 +144,7 @@ fn write_code(text: &mut String, code: u8, count: u64) -> Result<(), AllocError>
 }
 
 /// Writes the counts of query connections.
-fn write_connections(text: &mut String, connections: &Connections) -> Result<(), AllocError> {
+fn write_connections(text: &mut String, connections: &ConnectionFigures) -> Result<(), AllocError> {
     write_metric(
         text,
         Counter,
@@ -157,14 +157,14 @@ fn write_connections(text: &mut String, connections: &Connections) -> Result<(),
         Gauge,
         "lostd_connections_open",
         "Query connections that have not ended, those that wait included.",
-        connections.open,
+        connections.open(),
     )?;
     write_metric(
         text,
         Gauge,
         "lostd_connections_waiting",
         "Query connections that wait for a worker.",
-        connections.waiting,
+        connections.waiting(),
     )?;
     write_metric(
         text,
@@ -178,7 +178,7 @@ fn write_connections(text: &mut String, connections: &Connections) -> Result<(),
         Counter,
         "lostd_connections_refused_total",
         "Query connections that were closed at once, past a limit.",
-        connections.refused,
+        connections.turned_away,
     )
 }
 
@@ -196,13 +196,13 @@ fn write_workers(text: &mut String, now: &Snapshot) -> Result<(), AllocError> {
         Gauge,
         "lostd_workers_busy",
         "How many workers serve a connection.",
-        now.busy,
+        now.connections.busy,
     )?;
     write_metric(
         text,
         Counter,
         "lostd_cache_hits_total",
         "How often a worker found the place of a request in its cache.",
-        now.cache_hits,
+        now.replies.cache_hits,
     )
 }

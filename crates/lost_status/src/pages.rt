@@ -1,29 +1,27 @@
 //! The answer to an HTTP request (RFC 9110; own texts).
-ghost use Rattle.std.specs.Prelude.{◌≡◌, OnOk};
+ghost use Rattle.std.specs.Prelude.{◌≡◌, [], ◌++◌, OnOk};
 ghost use Rattle.lost_status.specs.declared.page.Asked.{Asked};
-ghost use Rattle.lost_status.specs.Page.{MayGet};
+ghost use Rattle.lost_status.specs.Shown.{HasText, code_of, methods_text, paths_text};
 ghost use Rattle.lost_status.specs.Answered.{HasMore};
 
 use crate::page::{Asked, Page, asked_by};
-use crate::status::Status;
+use crate::snapshot::Snapshot;
 use bytes::{BufMut, Bytes};
 use http::{HeaderValue, Request, StatusCode, header};
 use http_server::{Response, Service};
 use std::alloc::{AllocError, Global};
-use std::time::{Clock, Duration};
 
-/// The pages of a server, as an HTTP service. Each answer ends its connection.
+/// The pages of a server with these numbers, as an HTTP service. Each answer ends its connection.
 #[derive(Drop)]
-pub(crate) struct Pages<'s, R: Clock> {
-    pub(crate) rt: &'s R,
+pub(crate) struct Pages<'s> {
     pub(crate) alloc: Global,
-    pub(crate) status: &'s Status,
+    pub(crate) now: &'s Snapshot,
 }
 
-impl<R: Clock> Service for Pages<'_, R> {
-    ghost use Rattle.lost_status.specs.Answered.{IsAnswerTo};
+impl Service for Pages<'_> {
+    ghost use Rattle.lost_status.specs.Answered.{Answers};
 
-    ghost answers = { λ _ request response _. IsAnswerTo request response };
+    ghost answers = { λ old request response new. Answers old.now.now new.now.now request response };
 
     fn call(
         &mut self,
@@ -32,55 +30,57 @@ impl<R: Clock> Service for Pages<'_, R> {
     ) -> Result<(), AllocError> {
         response.add_header(header::CONNECTION, HeaderValue::from_static("close"))?;
         match asked_by(request.method().as_str(), request.uri().path()) {
-            Asked::Shown(page) => self.show(page, response),
+            Asked::Shown(page) => show(self.alloc, self.now, page, response),
             Asked::OtherMethod => refuse_method(response),
             Asked::OtherPath => list_paths(response),
         }
     }
 }
 
-impl<R: Clock> Pages<'_, R> {
-    /// Answers with a page.
-    fn show(&self, page: Page, response: &mut Response) -> Result<(), AllocError>
-        requires { response.old.status ≡ 200 }
-        ensures status { OnOk result (MayGet (Asked.Shown page) response.new.status) }
-        ensures more { OnOk result (HasMore response.old response.new) }
-    {
-        match page {
-            Page::Health => self.show_health(response),
-            Page::Metrics => {
-                let text = self.status.metrics(self.alloc, self.now())?;
-                let kind = HeaderValue::from_static("text/plain; version=0.0.4; charset=utf-8");
-                write(response, kind, text.as_str())
-            }
-            Page::Report => {
-                let mut text = self.status.json(self.alloc, self.now())?;
-                text.push('\n')?;
-                let kind = HeaderValue::from_static("application/json");
-                write(response, kind, text.as_str())
-            }
+/// Answers with a page.
+fn show(
+    alloc: Global,
+    now: &Snapshot,
+    page: Page,
+    response: &mut Response,
+) -> Result<(), AllocError>
+    requires status { response.old.status ≡ 200 }
+    requires empty { response.old.body.items ≡ [] }
+    ensures status { OnOk result (response.new.status ≡ code_of now.now (Asked.Shown page)) }
+    ensures text { OnOk result (HasText now.now (Asked.Shown page) response.new.body.items) }
+    ensures more { OnOk result (HasMore response.old response.new) }
+{
+    match page {
+        Page::Health => show_health(alloc, now, response),
+        Page::Metrics => {
+            let text = now.metrics(alloc)?;
+            let kind = HeaderValue::from_static("text/plain; version=0.0.4; charset=utf-8");
+            write(response, kind, text.as_str())
+        }
+        Page::Report => {
+            let mut text = now.json(alloc)?;
+            text.push('\n')?;
+            let kind = HeaderValue::from_static("application/json");
+            write(response, kind, text.as_str())
         }
     }
+}
 
-    /// Answers whether the server is ready, and with which edition.
-    fn show_health(&self, response: &mut Response) -> Result<(), AllocError>
-        requires { response.old.status ≡ 200 }
-        ensures status { OnOk result (MayGet (Asked.Shown Page.Health) response.new.status) }
-        ensures more { OnOk result (HasMore response.old response.new) }
-    {
-        if self.status.is_ready() {
-            let edition = self.status.edition();
-            let text = format!(in self.alloc; "ready\nedition {edition}\n")?;
-            return write(response, plain(), text.as_str());
-        }
-        response.status = StatusCode::SERVICE_UNAVAILABLE;
-        write(response, plain(), "not ready\n")
+/// Answers whether the server is ready, and with which edition.
+fn show_health(alloc: Global, now: &Snapshot, response: &mut Response) -> Result<(), AllocError>
+    requires status { response.old.status ≡ 200 }
+    requires empty { response.old.body.items ≡ [] }
+    ensures status { OnOk result (response.new.status ≡ code_of now.now (Asked.Shown Page.Health)) }
+    ensures text { OnOk result (HasText now.now (Asked.Shown Page.Health) response.new.body.items) }
+    ensures more { OnOk result (HasMore response.old response.new) }
+{
+    if now.is_ready {
+        let edition = now.desk.edition;
+        let text = format!(in alloc; "ready\nedition {edition}\n")?;
+        return write(response, plain(), text.as_str());
     }
-
-    /// The time since 1970; 0 if the clock cannot be read.
-    fn now(&self) -> Duration {
-        self.rt.since_1970().unwrap_or(Duration::ZERO)
-    }
+    response.status = StatusCode::SERVICE_UNAVAILABLE;
+    write(response, plain(), "not ready\n")
 }
 
 /// The content type of plain text.
@@ -90,7 +90,9 @@ fn plain() -> HeaderValue {
 
 /// Answers that the page can only be read.
 fn refuse_method(response: &mut Response) -> Result<(), AllocError>
+    requires { response.old.body.items ≡ [] }
     ensures status { response.new.status ≡ 405 }
+    ensures text { OnOk result (response.new.body.items ≡ methods_text) }
     ensures more { OnOk result (HasMore response.old response.new) }
 {
     response.status = StatusCode::METHOD_NOT_ALLOWED;
@@ -100,7 +102,9 @@ fn refuse_method(response: &mut Response) -> Result<(), AllocError>
 
 /// Answers with the list of paths.
 fn list_paths(response: &mut Response) -> Result<(), AllocError>
+    requires { response.old.body.items ≡ [] }
     ensures status { response.new.status ≡ 404 }
+    ensures text { OnOk result (response.new.body.items ≡ paths_text) }
     ensures more { OnOk result (HasMore response.old response.new) }
 {
     response.status = StatusCode::NOT_FOUND;
@@ -110,6 +114,7 @@ fn list_paths(response: &mut Response) -> Result<(), AllocError>
 /// Gives a response its text and content type.
 fn write(response: &mut Response, kind: HeaderValue, text: &str) -> Result<(), AllocError>
     ensures status { response.new.status ≡ response.old.status }
+    ensures text { OnOk result (response.new.body.items ≡ response.old.body.items ++ text.now) }
     ensures more { OnOk result (HasMore response.old response.new) }
 {
     response.add_header(header::CONTENT_TYPE, kind)?;

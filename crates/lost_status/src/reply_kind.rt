@@ -1,6 +1,6 @@
 //! The kinds of replies.
 ghost use Rattle.std.specs.Prelude.{◌≡◌, ◌<◌};
-ghost use Rattle.lost_status.specs.ReplyKind.{kind_name};
+ghost use Rattle.lost_status.specs.ReplyKind.{kind_name, kind_place};
 
 /// How many kinds there are.
 pub(crate) const KINDS: usize = 13;
@@ -56,7 +56,8 @@ impl ReplyKind {
 
     /// The kind's position in [`ReplyKind::ALL`], from 0 to 12.
     pub(crate) fn index(self) -> usize
-        ensures { result < KINDS }
+        ensures place { result ≡ kind_place self }
+        ensures within { result < KINDS }
     {
         self as usize
     }

@@ -1,6 +1,6 @@
 //! The numbers of a server as one JSON object (own names).
-use crate::connection_counts::Connections;
-use crate::desk_state::{DeskNow, LAST_CODE};
+use crate::connection_event::ConnectionFigures;
+use crate::desk_event::{DeskFigures, LAST_CODE};
 use crate::reply_kind::{KINDS, ReplyKind};
 use crate::snapshot::Snapshot;
 use crate::status::VERSION;
@@ -20,7 +20,7 @@ fn report_of(alloc: Global, now: &Snapshot) -> Result<Value, AllocError> {
     let mut report = numbers(
         alloc,
         &[
-            ("cacheHits", now.cache_hits),
+            ("cacheHits", now.replies.cache_hits),
             ("edition", now.desk.edition),
             ("faults", now.connections.faults),
             ("mappings", now.desk.mappings),
@@ -64,26 +64,29 @@ fn add_counts(
 ) -> Result<(), AllocError> {
     let connections = connections_of(alloc, &now.connections)?;
     put(report, alloc, "connections", Value::Object(connections))?;
-    let workers = numbers(alloc, &[("busy", now.busy), ("count", now.workers)])?;
+    let workers = numbers(
+        alloc,
+        &[("busy", now.connections.busy), ("count", now.workers)],
+    )?;
     put(report, alloc, "workers", Value::Object(workers))?;
     let refusals = refusals_of(alloc, &now.desk)?;
     put(report, alloc, "refusals", refusals)?;
-    let replies = replies_of(alloc, &now.replies)?;
+    let replies = replies_of(alloc, &now.replies.replies)?;
     put(report, alloc, "replies", replies)
 }
 
 /// The counts of query connections.
 fn connections_of(
     alloc: Global,
-    connections: &Connections,
+    connections: &ConnectionFigures,
 ) -> Result<Map<String, Value>, AllocError> {
     numbers(
         alloc,
         &[
             ("accepted", connections.accepted),
-            ("open", connections.open),
-            ("refused", connections.refused),
-            ("waiting", connections.waiting),
+            ("open", connections.open()),
+            ("refused", connections.turned_away),
+            ("waiting", connections.waiting()),
         ],
     )
 }
@@ -100,7 +103,7 @@ fn last_commit_of(alloc: Global, second: u64) -> Result<Value, AllocError> {
 }
 
 /// The number of refused desk lines by the names of their codes, without those that are 0.
-fn refusals_of(alloc: Global, desk: &DeskNow) -> Result<Value, AllocError> {
+fn refusals_of(alloc: Global, desk: &DeskFigures) -> Result<Value, AllocError> {
     let mut counts = Map::new(alloc);
     for code in 1..=LAST_CODE {
         let count = desk.refusals[usize::from(code) - 1];

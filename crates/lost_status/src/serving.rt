@@ -2,38 +2,36 @@
 ghost use Rattle.lost_status.specs.Answered.{IsAnswered, IsNarrow};
 
 use crate::pages::Pages;
-use crate::status::Status;
+use crate::snapshot::Snapshot;
 use http_server::{Config, Connection, serve};
 use std::alloc::Global;
 use std::hash::RandomState;
 use std::io::{Read, Write};
-use std::time::Clock;
 
 /// The most bytes that a request's head may have.
 const MAX_HEAD: usize = 8_192;
 
 /// Answers one request of HTTP/1.1 or 1.0, and returns when the caller is to close the connection: after the answer or
-/// a refusal, or if a read, a write or memory fails. `GET` and `HEAD` are answered: `/health` with 200, the text
-/// `ready` and the edition once the server is ready, and with 503 before; `/metrics` with the numbers for Prometheus;
-/// `/status` with the numbers as a JSON object. Any other path is 404, with these three paths as its text, and any
-/// other method on one of them is 405. A head of more than 8,192 bytes or 64 fields is refused, and so is a body.
-/// `keys` must be secret, since the peer chooses the names of fields.
+/// a refusal, or if a read, a write or memory fails. `GET` and `HEAD` are answered, all by the numbers `now`: `/health`
+/// with 200, the text `ready` and the edition if the server is ready, and with 503 and `not ready` if not; `/metrics`
+/// with the numbers for Prometheus; `/status` with the numbers as a JSON object. Any other path is 404, with these three
+/// paths as its text, and any other method on one of them is 405. A head of more than 8,192 bytes or 64 fields is
+/// refused, and so is a body. `keys` must be secret, since the peer chooses the names of fields.
 ///
 /// The reads and writes of `input` and `output` must fail in time: see
 /// [`Deadline`](crate::Deadline).
-pub fn serve_status<R: Clock, I: Read, O: Write>(
-    rt: &R,
+pub fn serve_status<I: Read, O: Write>(
     alloc: Global,
     keys: RandomState,
-    status: &Status,
+    now: &Snapshot,
     input: &mut I,
     output: &mut O,
 )
-    ensures { IsAnswered (I.remaining input.old) (I.remaining input.new)
+    ensures { IsAnswered now.now (I.remaining input.old) (I.remaining input.new)
         (O.contents output.old) (O.contents output.new) }
 {
     let mut connection = Connection::new(alloc, keys, narrow());
-    let mut pages = Pages { rt, alloc, status };
+    let mut pages = Pages { alloc, now };
     // The connection is over, whatever the outcome.
     let _outcome = serve(&mut connection, &mut pages, input, output);
 }

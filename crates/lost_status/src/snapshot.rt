@@ -1,24 +1,36 @@
 //! The numbers of a server at one moment.
-use crate::connection_counts::Connections;
-use crate::desk_state::DeskNow;
-use crate::reply_kind::KINDS;
+use crate::connection_event::ConnectionFigures;
+use crate::desk_event::DeskFigures;
+use crate::metrics::metrics_text;
+use crate::reply_counter::ReplyFigures;
+use crate::report::report_text;
+use std::alloc::{AllocError, Global};
 
 /// The numbers of a server at one moment. They are read one after another while the server goes on, so they are not all
 /// of one instant.
 #[derive(Clone, Copy)]
-pub(crate) struct Snapshot {
+pub struct Snapshot {
     /// How long the server has run, in seconds.
     pub(crate) uptime: u64,
     /// Whether it answers from its map.
     pub(crate) is_ready: bool,
-    pub(crate) desk: DeskNow,
-    pub(crate) connections: Connections,
+    pub(crate) desk: DeskFigures,
+    /// What all threads have counted of connections.
+    pub(crate) connections: ConnectionFigures,
     /// How many workers there are.
     pub(crate) workers: u64,
-    /// How many of them serve a connection.
-    pub(crate) busy: u64,
-    /// How many hits the workers' caches of places had.
-    pub(crate) cache_hits: u64,
-    /// How many replies were given, by kind, in the order of all kinds.
-    pub(crate) replies: [u64; KINDS],
+    /// What all workers have counted of their replies.
+    pub(crate) replies: ReplyFigures,
+}
+
+impl Snapshot {
+    /// All numbers in Prometheus' text format, version 0.0.4.
+    pub fn metrics(&self, alloc: Global) -> Result<String, AllocError> {
+        metrics_text(alloc, self)
+    }
+
+    /// All numbers as the compact text of one JSON object.
+    pub fn json(&self, alloc: Global) -> Result<String, AllocError> {
+        report_text(alloc, self)
+    }
 }

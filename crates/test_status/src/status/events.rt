@@ -14,76 +14,119 @@
 //! | `desk`, `no desk` | a desk connects, and leaves |
 //! | `after SECONDS` | so many seconds pass |
 use super::watch::Watch;
-use lost_status::{Status, WorkerCounts};
+use lost_status::{
+    ConnectionCounter, ConnectionEvent, DeskCounter, DeskEvent, Status, WorkerCounters,
+};
 use std::alloc::{AllocError, Global};
-use std::time::Duration;
 
-/// Lets an event happen. Any other line counts as `no desk`.
-pub(crate) fn happen(
-    alloc: Global,
-    event: &str,
-    status: &Status,
-    watch: &Watch,
-) -> Result<(), AllocError> {
-    let (word, rest) = event.split_once(' ').unwrap_or((event, ""));
-    match word {
-        "reply" | "busy" | "idle" | "hits" => return at_worker(alloc, word, rest, status),
-        "after" => watch.pass(number_of(rest)),
-        "ready" => status.set_ready(),
-        _ => at_connection(event, status),
+/// What the threads of a row's server count by.
+#[derive(Drop)]
+pub(crate) struct Threads<'s> {
+    status: &'s Status,
+    acceptor: ConnectionCounter<'s>,
+    desk: DeskCounter<'s>,
+    workers: Vec<WorkerCounters<'s>>,
+}
+
+impl<'s> Threads<'s> {
+    /// The threads of a server, with this many workers.
+    pub(crate) fn of(
+        alloc: Global,
+        status: &'s Status,
+        count: u32,
+    ) -> Result<Threads<'s>, AllocError> {
+        let mut workers = Vec::new(alloc);
+        for number in 0..count {
+            if let Some(worker) = status.worker(number as usize) {
+                workers.push(worker)?;
+            }
+        }
+        Ok(Threads {
+            status,
+            acceptor: status.acceptor(),
+            desk: status.desk(),
+            workers,
+        })
     }
-    Ok(())
-}
 
-/// Lets an event of a query connection happen, or one of the desk.
-fn at_connection(event: &str, status: &Status) {
-    match event {
-        "accepted" => status.count_accepted(),
-        "taken" => status.count_taken(),
-        "ended" => status.count_ended(false),
-        "failed" => status.count_ended(true),
-        "turned away" => status.count_refused(),
-        _ => at_desk(event, status),
+    /// Lets an event happen. Any other line counts as `no desk`.
+    pub(crate) fn happen(
+        &mut self,
+        alloc: Global,
+        event: &str,
+        watch: &Watch,
+    ) -> Result<(), AllocError> {
+        let (word, rest) = event.split_once(' ').unwrap_or((event, ""));
+        match word {
+            "reply" | "busy" | "idle" | "hits" => return self.at_worker(alloc, word, rest),
+            "after" => watch.pass(number_of(rest)),
+            "ready" => self.status.set_ready(),
+            _ => self.at_connection(event),
+        }
+        Ok(())
+    }
+
+    /// Lets an event of a query connection happen, or one of the desk. Connections are those of the first worker.
+    fn at_connection(&mut self, event: &str) {
+        match event {
+            "accepted" => self.acceptor.count(ConnectionEvent::Accepted),
+            "turned away" => self.acceptor.count(ConnectionEvent::TurnedAway),
+            "taken" => self.at_first(ConnectionEvent::Taken),
+            "ended" => self.at_first(ConnectionEvent::Ended),
+            "failed" => self.at_first(ConnectionEvent::Failed),
+            _ => self.at_desk(event),
+        }
+    }
+
+    /// Lets an event of a query connection happen at the first worker.
+    fn at_first(&mut self, event: ConnectionEvent) {
+        if let Some(worker) = self.workers.get_mut(0) {
+            worker.connections.count(event);
+        }
+    }
+
+    /// Lets an event of a worker happen.
+    fn at_worker(&mut self, alloc: Global, word: &str, rest: &str) -> Result<(), AllocError> {
+        let (number, rest) = rest.split_once(' ').unwrap_or((rest, ""));
+        let number = number.parse::<usize>().unwrap_or(usize::MAX);
+        let Some(worker) = self.workers.get_mut(number) else {
+            return Ok(());
+        };
+        match word {
+            "reply" => {
+                // Its line ends in byte 10.
+                let line = format!(in alloc; "{rest}\n")?;
+                worker.replies.count_reply(line.as_bytes());
+            }
+            "hits" => worker.replies.set_cache_hits(number_of(rest)),
+            "busy" => worker.connections.count(ConnectionEvent::Busy),
+            _ => worker.connections.count(ConnectionEvent::Idle),
+        }
+        Ok(())
+    }
+
+    /// Lets an event of the desk happen.
+    fn at_desk(&mut self, event: &str) {
+        let (word, rest) = event.split_once(' ').unwrap_or((event, ""));
+        self.desk.count(match word {
+            "refused" => DeskEvent::Refused(rest.parse::<u8>().unwrap_or(0)),
+            "commit" => DeskEvent::Committed(number_of(rest)),
+            "book" => held(rest),
+            "desk" => DeskEvent::Connected,
+            _ => DeskEvent::Left,
+        });
     }
 }
 
-/// Lets an event of a worker happen.
-fn at_worker(alloc: Global, word: &str, rest: &str, status: &Status) -> Result<(), AllocError> {
-    let (number, rest) = rest.split_once(' ').unwrap_or((rest, ""));
-    let Some(worker) = status.worker(number.parse::<usize>().unwrap_or(usize::MAX)) else {
-        return Ok(());
-    };
-    match word {
-        "reply" => return count(alloc, worker, rest),
-        "hits" => worker.set_cache_hits(number_of(rest)),
-        _ => worker.set_busy(word == "busy"),
-    }
-    Ok(())
-}
-
-/// Counts a reply, whose line ends in byte 10.
-fn count(alloc: Global, worker: &WorkerCounts, line: &str) -> Result<(), AllocError> {
-    let line = format!(in alloc; "{line}\n")?;
-    worker.count_reply(line.as_bytes());
-    Ok(())
-}
-
-/// Lets an event of the desk happen.
-fn at_desk(event: &str, status: &Status) {
-    let (word, rest) = event.split_once(' ').unwrap_or((event, ""));
-    match word {
-        "refused" => status.count_refusal(rest.parse::<u8>().unwrap_or(0)),
-        "commit" => status.set_commit(Duration::from_secs(number_of(rest))),
-        "book" => set_book(rest, status),
-        _ => status.set_desk(word == "desk"),
-    }
-}
-
-/// Sets the desk's numbers.
-fn set_book(numbers: &str, status: &Status) {
+/// What a desk holds, by its numbers.
+fn held(numbers: &str) -> DeskEvent {
     let (edition, rest) = numbers.split_once(' ').unwrap_or((numbers, ""));
     let (mappings, pending) = rest.split_once(' ').unwrap_or((rest, ""));
-    status.set_book(number_of(edition), number_of(mappings), number_of(pending));
+    DeskEvent::Holds {
+        edition: number_of(edition),
+        mappings: number_of(mappings),
+        pending: number_of(pending),
+    }
 }
 
 /// A number; 0 where the text is none.

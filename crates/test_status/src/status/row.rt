@@ -1,12 +1,12 @@
 //! One row.
-use super::events::happen;
+use super::events::Threads;
 use super::watch::{STARTED, Watch};
 use lost_status::{Status, serve_status};
 use std::alloc::{AllocError, Global};
 use std::hash::RandomState;
 use std::io;
 use std::random::RandomSource;
-use std::time::Duration;
+use std::time::{Clock, Duration};
 use test_parts::{Feed, Sink};
 
 /// How many workers the server of a row has.
@@ -51,9 +51,10 @@ fn marked<'r>(row: &'r str, mark: &str) -> Option<&'r str> {
 fn answer_of(alloc: Global, keys: RandomState, row: &str) -> io::Result<Answer> {
     let watch = Watch::new();
     let status = Status::new(alloc, WORKERS, Duration::from_secs(STARTED))?;
+    let mut threads = Threads::of(alloc, &status, WORKERS)?;
     for line in row.lines() {
         if let Some(event) = line.strip_prefix("! ") {
-            happen(alloc, event, &status, &watch)?;
+            threads.happen(alloc, event, &watch)?;
         }
     }
     let request = request_of(alloc, row)?;
@@ -102,7 +103,8 @@ fn answer_to(
 ) -> io::Result<Answer> {
     let mut input = Feed::of(request, 7);
     let mut output = Sink::new(alloc, 7)?;
-    serve_status(watch, alloc, keys, status, &mut input, &mut output);
+    let now = status.snapshot(watch.since_1970()?);
+    serve_status(alloc, keys, &now, &mut input, &mut output);
     answer_in(alloc, output.text.as_slice())
 }
 
