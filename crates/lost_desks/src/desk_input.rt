@@ -7,17 +7,21 @@ use crate::line_wait::LineWait;
 use crate::protocol::{MOST_LOOKED_AT, other_protocol};
 use crate::turn_end::{TurnEnd, input_state};
 use std::alloc::Global;
-use std::io;
 use std::io::{ErrorKind, Read};
 use std::sync::Wait;
 use std::time::{Clock, Duration};
+use std::{io, mem};
 
 /// The input of a desk's lines. A read fails once the turn is over, or if the bytes show that this is no desk.
 #[derive(Drop)]
 pub(crate) struct DeskInput<'t, 'l, R> {
     turn: &'t DeskTurn<'t, 'l, R>,
-    /// The first bytes that came.
+    /// The first bytes that came, until they are enough to look at.
     front: Vec<u8>,
+    /// All bytes that came, if they are the front of a request of HTTP.
+    request: Vec<u8>,
+    /// Whether a request of HTTP is being read, so that bytes are not looked at any more.
+    is_http: bool,
     /// Since when it has sent no whole line.
     wait: LineWait,
     /// Why the turn is over.
@@ -30,9 +34,19 @@ impl<'t, 'l, R: Wait + Clock> DeskInput<'t, 'l, R> {
         DeskInput {
             turn,
             front: Vec::new(alloc),
+            request: Vec::new(alloc),
+            is_http: false,
             wait: LineWait::new(turn.now(Duration::ZERO)),
             end: None,
         }
+    }
+
+    /// Goes on with the same turn for a request of HTTP. Gives what has come of that.
+    pub(crate) fn take_request(&mut self) -> Vec<u8> {
+        let nothing = Vec::new(*self.request.allocator());
+        self.end = None;
+        self.is_http = true;
+        mem::replace(&mut self.request, nothing)
     }
 
     /// Why the turn is over, if this half found it.
@@ -66,15 +80,18 @@ impl<'t, 'l, R: Wait + Clock> DeskInput<'t, 'l, R> {
         ensures { self.new.wait ≡ wait_after_read self.old.wait bytes.now }
     {
         self.wait = self.wait.after_read(bytes);
-        let room = MOST_LOOKED_AT.saturating_sub(self.front.len());
-        if room == 0 {
+        if self.is_http || self.front.len() >= MOST_LOOKED_AT {
             return None;
         }
-        let count = room.min(bytes.len());
-        if self.front.extend_from_slice(&bytes[..count]).is_err() {
+        if self.front.extend_from_slice(bytes).is_err() {
             return None;
         }
-        other_protocol(self.front.as_slice())
+        let end = other_protocol(self.front.as_slice());
+        if end == Some(TurnEnd::SpeaksHttp) {
+            let nothing = Vec::new(*self.front.allocator());
+            self.request = mem::replace(&mut self.front, nothing);
+        }
+        end
     }
 
     /// Ends the turn.

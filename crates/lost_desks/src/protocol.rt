@@ -4,7 +4,7 @@ ghost use Rattle.lost_desks.specs.Protocol.{is_http as is_front_of_http, is_tls 
 
 use crate::turn_end::TurnEnd;
 
-/// The most bytes that are looked at.
+/// After how many bytes no more are looked at.
 pub(crate) const MOST_LOOKED_AT: usize = 8;
 
 /// Why a turn with these first bytes is over, if they are no desk's.

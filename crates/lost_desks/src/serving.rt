@@ -8,6 +8,9 @@ use crate::desk_input::DeskInput;
 use crate::desk_output::DeskOutput;
 use crate::desk_queue::DeskQueue;
 use crate::desk_turn::DeskTurn;
+use crate::map_reply::answer;
+use crate::map_request::{MapAsked, read_request};
+use crate::turn_end::TurnEnd;
 use lost_desk::Desk;
 use lost_lines::{Counts, ServeError, Turns, Watched};
 use lost_log::ConnectionLog;
@@ -130,10 +133,37 @@ impl<R: Wait + Clock + Eprint> DeskService<'_, R> {
         let Err(fault) = self.answer_lines(&mut input, &mut output, desk, counter) else {
             return None;
         };
-        let end = input.inner().end().or(output.inner().end());
-        match end {
+        if input.inner().end() == Some(TurnEnd::SpeaksHttp) {
+            return self.answer_request(input.into_inner(), output.into_inner(), desk);
+        }
+        match input.inner().end().or(output.inner().end()) {
             Some(end) => Some(end.text()),
             None => Some(fault_text(fault)),
+        }
+    }
+
+    /// Answers a request of HTTP in place of a desk's lines. Gives the cause if it got nothing or not all.
+    fn answer_request(
+        &self,
+        mut input: DeskInput<'_, '_, R>,
+        mut output: DeskOutput<'_, '_, R>,
+        desk: &Desk,
+    ) -> Option<&'static str> {
+        let begun = input.take_request();
+        let answered = match read_request(&mut input, begun) {
+            Ok(Some(request)) => answer(self.alloc, &mut output, request, desk).map(
+                |()| request.asked,
+            ),
+            Ok(None) => return Some(TurnEnd::SpeaksHttp.text()),
+            Err(error) => Err(error),
+        };
+        match answered {
+            Ok(MapAsked::Map) => None,
+            Ok(_) => Some("it asked over HTTP for something else than GET /map"),
+            Err(_) => match input.end().or(output.end()) {
+                Some(end) => Some(end.text()),
+                None => Some("it took no whole answer over HTTP"),
+            },
         }
     }
 
