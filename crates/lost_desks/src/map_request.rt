@@ -50,10 +50,10 @@ pub fn asked_by(method: &[u8], target: &[u8], has_origin: bool) -> MapAsked
     if has_origin {
         return MapAsked::FromBrowser;
     }
-    if target != b"/map" {
+    if target != b"/map".as_slice() {
         return MapAsked::OtherPath;
     }
-    if method == b"GET" {
+    if method == b"GET".as_slice() {
         MapAsked::Map
     } else {
         MapAsked::OtherMethod
@@ -80,7 +80,11 @@ pub(crate) fn read_request<I: Read>(
 ) -> io::Result<Option<MapRequest>> {
     let mut head = begun;
     let mut chunk = [0; CHUNK];
-    while head.len() < MAX_HEAD {
+    // Each read gives a byte at least.
+    for _ in 0..MAX_HEAD {
+        if head.len() >= MAX_HEAD {
+            break;
+        }
         if let Some(found) = request_in(head.as_slice()) {
             return Ok(found);
         }
