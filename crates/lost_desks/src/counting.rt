@@ -51,7 +51,8 @@ fn count_reply(counter: &mut DeskCounter<'_>, reply: DeskReply, second: Option<u
     }
 }
 
-/// Tells what a desk holds: how many edits are published, how many mappings those leave, and how many edits are pending.
+/// Tells what a desk holds: how many edits are published, how many mappings those leave and their digest, and how many
+/// edits are pending.
 pub fn tell_book(counter: &mut DeskCounter<'_>, desk: &Desk)
     ensures { counter.new ≡ desk_counted counter.old (held_by desk.now) }
 {
@@ -60,5 +61,6 @@ pub fn tell_book(counter: &mut DeskCounter<'_>, desk: &Desk)
         edition,
         mappings: desk.published().len() as u64,
         pending: desk.staged().edition().saturating_sub(edition),
+        digest: desk.digest(),
     });
 }

@@ -1,6 +1,7 @@
 -- What the pages show of a server's numbers. (Own.)
 use Rattle.std.specs.Prelude.{◌≡◌, ℕ, [], ◌∷◌, ◌++◌, codes, decimal, if◌then◌else◌}
 use Rattle.lost_spec.specs.Text.{Text}
+use Rattle.lost_digest.specs.Digest.{digest_text}
 use Rattle.lost_status.specs.declared.page.Page.TheVariants.{Health, Metrics, Report}
 use Rattle.lost_status.specs.declared.page.Asked.{Asked}
 use Rattle.lost_status.specs.declared.page.Asked.TheVariants.{Shown, OtherMethod, OtherPath}
@@ -10,10 +11,10 @@ use Rattle.lost_status.specs.declared.snapshot.Snapshot.{Snapshot}
 abbrev pub health_code : Snapshot → ℕ
 health_code now = if now.is_ready then 200 else 503
 
--- the health: whether it is ready, and with which edition
+-- the health: whether it is ready, and with which edition and which map
 abbrev pub health_text : Snapshot → Text
 health_text now =
-    if now.is_ready then codes "ready" ++ (10 ∷ (codes "edition " ++ (decimal now.desk.edition ++ (10 ∷ []))))
+    if now.is_ready then codes "ready" ++ (10 ∷ (codes "edition " ++ (decimal now.desk.edition ++ (10 ∷ (codes "map " ++ (digest_text now.desk.digest ++ (10 ∷ [])))))))
     else codes "not ready" ++ (10 ∷ [])
 
 -- the status code of what is asked for

@@ -3,6 +3,7 @@ ghost use Rattle.std.specs.Prelude.{◌≡◌};
 ghost use Rattle.lost_status.specs.Figures.{desk_counted, no_desk};
 
 use crate::desk_event::{CODES, DeskEvent, DeskFigures};
+use crate::held_block::HeldBlock;
 use std::array;
 use std::marker::Model;
 use std::sync::atomic::{AtomicBool, AtomicU64, Ordering};
@@ -10,9 +11,7 @@ use std::sync::atomic::{AtomicBool, AtomicU64, Ordering};
 /// The desk's numbers where any thread may read them. One thread writes them.
 #[derive(Drop)]
 pub(crate) struct DeskBlock {
-    edition: AtomicU64,
-    mappings: AtomicU64,
-    pending: AtomicU64,
+    held: HeldBlock,
     last_commit: AtomicU64,
     is_open: AtomicBool,
     refusals: [AtomicU64; CODES],
@@ -22,9 +21,7 @@ impl DeskBlock {
     /// Nothing is held or counted, and no desk is connected.
     pub(crate) fn new() -> DeskBlock {
         DeskBlock {
-            edition: AtomicU64::new(0),
-            mappings: AtomicU64::new(0),
-            pending: AtomicU64::new(0),
+            held: HeldBlock::new(),
             last_commit: AtomicU64::new(0),
             is_open: AtomicBool::new(false),
             refusals: array::from_fn(|_| AtomicU64::new(0)),
@@ -39,11 +36,7 @@ impl DeskBlock {
             DeskEvent::Committed(_) => self
                 .last_commit
                 .store(figures.last_commit, Ordering::SeqCst),
-            DeskEvent::Holds { .. } => {
-                self.edition.store(figures.edition, Ordering::SeqCst);
-                self.mappings.store(figures.mappings, Ordering::SeqCst);
-                self.pending.store(figures.pending, Ordering::SeqCst);
-            }
+            DeskEvent::Holds { .. } => self.held.show(figures),
             DeskEvent::Connected | DeskEvent::Left => {
                 self.is_open.store(figures.is_open, Ordering::SeqCst);
             }
@@ -60,13 +53,15 @@ impl DeskBlock {
         }
     }
 
-    /// Loads the numbers, one after another. No contract can say what an atomic holds: the rows of `status.rows`
+    /// Loads the numbers, those of what is held at one moment and the others one after another. No contract can say what an atomic holds: the rows of `status.rows`
     /// compare it.
     pub(crate) fn load(&self) -> DeskFigures {
+        let held = self.held.load();
         DeskFigures {
-            edition: self.edition.load(Ordering::SeqCst),
-            mappings: self.mappings.load(Ordering::SeqCst),
-            pending: self.pending.load(Ordering::SeqCst),
+            edition: held.edition,
+            mappings: held.mappings,
+            pending: held.pending,
+            digest: held.digest,
             last_commit: self.last_commit.load(Ordering::SeqCst),
             is_open: self.is_open.load(Ordering::SeqCst),
             refusals: array::from_fn(|place| match self.refusals.as_slice().get(place) {

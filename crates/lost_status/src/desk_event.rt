@@ -3,6 +3,7 @@ ghost use Rattle.std.specs.Prelude.{◌≡◌};
 ghost use Rattle.lost_status.specs.Figures.{desk_counted, no_desk, refusal_counted};
 
 use crate::numbers::count_at;
+use lost_digest::MapDigest;
 
 /// The greatest refusal code. Codes begin at 1.
 pub(crate) const LAST_CODE: u8 = 22;
@@ -25,6 +26,8 @@ pub enum DeskEvent {
         mappings: u64,
         /// How many edits are staged and not published.
         pending: u64,
+        /// The digest of the mappings.
+        digest: MapDigest,
     },
     /// A desk has connected.
     Connected,
@@ -41,6 +44,8 @@ pub(crate) struct DeskFigures {
     pub(crate) mappings: u64,
     /// How many edits are staged and not published.
     pub(crate) pending: u64,
+    /// The digest of the mappings that are held.
+    pub(crate) digest: MapDigest,
     /// When the desk last committed, in seconds since 1970; 0 if it never did.
     pub(crate) last_commit: u64,
     /// Whether a desk is connected.
@@ -58,6 +63,7 @@ impl DeskFigures {
             edition: 0,
             mappings: 0,
             pending: 0,
+            digest: MapDigest::empty(),
             last_commit: 0,
             is_open: false,
             refusals: [0; CODES],
@@ -75,10 +81,12 @@ impl DeskFigures {
                 edition,
                 mappings,
                 pending,
+                digest,
             } => {
                 self.edition = edition;
                 self.mappings = mappings;
                 self.pending = pending;
+                self.digest = digest;
             }
             DeskEvent::Connected => self.is_open = true,
             DeskEvent::Left => self.is_open = false,

@@ -8,6 +8,7 @@ mod deadline;
 mod desk_counter;
 mod desk_event;
 mod exposition;
+mod held_block;
 mod line_kind;
 mod metrics;
 mod numbers;

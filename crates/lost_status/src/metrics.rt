@@ -21,6 +21,7 @@ const ROOM: usize = 8_192;
 pub(crate) fn metrics_text(alloc: Global, now: &Snapshot) -> Result<String, AllocError> {
     let mut text = String::with_capacity(alloc, ROOM)?;
     write_server(&mut text, now)?;
+    write_map(&mut text, &now.desk.digest.text(alloc)?)?;
     write_desk(&mut text, &now.desk)?;
     write_replies(&mut text, &now.replies.replies)?;
     write_refusals(&mut text, &now.desk.refusals)?;
@@ -52,6 +53,25 @@ fn write_server(text: &mut String, now: &Snapshot) -> Result<(), AllocError> {
         "For how long the server has run, in seconds.",
         now.uptime,
     )
+}
+
+/// Writes the digest of what is held.
+fn write_map(text: &mut String, digest: &str) -> Result<(), AllocError> {
+    describe(
+        text,
+        Gauge,
+        "lostd_map_info",
+        "The digest of the mappings that are held, as a label; the value is 1.",
+    )?;
+    write_digest(text, digest, 1)
+}
+
+/// Writes the digest of what is held, as the label of a value.
+fn write_digest(text: &mut String, digest: &str, value: u64) -> Result<(), AllocError>
+    ensures { OnOk result (string_bytes text.new ≡ string_bytes text.old
+        ++ labelled (codes "lostd_map_info") (label (codes "digest") digest.now (counted value))) }
+{
+    write!(text, "lostd_map_info{{digest=\"{digest}\"}} {value}\n")
 }
 
 /// Writes what the desk holds, and when it last committed.

@@ -66,7 +66,7 @@ fn show(
     }
 }
 
-/// Answers whether the server is ready, and with which edition.
+/// Answers whether the server is ready, and with which edition and which map.
 fn show_health(alloc: Global, now: &Snapshot, response: &mut Response) -> Result<(), AllocError>
     requires status { response.old.status ≡ 200 }
     requires empty { response.old.body.items ≡ [] }
@@ -76,7 +76,8 @@ fn show_health(alloc: Global, now: &Snapshot, response: &mut Response) -> Result
 {
     if now.is_ready {
         let edition = now.desk.edition;
-        let text = format!(in alloc; "ready\nedition {edition}\n")?;
+        let digest = now.desk.digest.text(alloc)?;
+        let text = format!(in alloc; "ready\nedition {edition}\nmap {digest}\n")?;
         return write(response, plain(), text.as_str());
     }
     response.status = StatusCode::SERVICE_UNAVAILABLE;

@@ -50,6 +50,8 @@ fn add_states(
 ) -> Result<(), AllocError> {
     let version = String::from_str(alloc, VERSION)?;
     put(report, alloc, "version", Value::String(version))?;
+    let digest = now.desk.digest.text(alloc)?;
+    put(report, alloc, "map", Value::String(digest))?;
     put(report, alloc, "ready", Value::Bool(now.is_ready))?;
     put(report, alloc, "desk", Value::Bool(now.desk.is_open))?;
     let last_commit = last_commit_of(alloc, now.desk.last_commit)?;

@@ -9,11 +9,13 @@
 //! | `accepted`, `taken`, `ended`, `failed` | a query connection is accepted, is taken by a worker, ends well or in a
 //! fault | | `turned away` | a query connection is refused |
 //! | `refused CODE` | the desk refuses a line |
-//! | `book EDITION MAPPINGS PENDING` | the desk's edition, and how many mappings and pending edits it has |
+//! | `book EDITION MAPPINGS PENDING DIGEST` | the desk's edition, how many mappings and pending edits it has, and the
+//! digest of the mappings, a number |
 //! | `commit SECONDS` | the desk commits so many seconds after 1970 |
 //! | `desk`, `no desk` | a desk connects, and leaves |
 //! | `after SECONDS` | so many seconds pass |
 use super::watch::Watch;
+use lost_digest::MapDigest;
 use lost_status::{
     ConnectionCounter, ConnectionEvent, DeskCounter, DeskEvent, Status, WorkerCounters,
 };
@@ -121,11 +123,13 @@ impl<'s> Threads<'s> {
 /// What a desk holds, by its numbers.
 fn held(numbers: &str) -> DeskEvent {
     let (edition, rest) = numbers.split_once(' ').unwrap_or((numbers, ""));
-    let (mappings, pending) = rest.split_once(' ').unwrap_or((rest, ""));
+    let (mappings, rest) = rest.split_once(' ').unwrap_or((rest, ""));
+    let (pending, digest) = rest.split_once(' ').unwrap_or((rest, ""));
     DeskEvent::Holds {
         edition: number_of(edition),
         mappings: number_of(mappings),
         pending: number_of(pending),
+        digest: MapDigest::of_number(digest.parse::<u128>().unwrap_or(0)),
     }
 }
 
