@@ -2,6 +2,7 @@
 from __future__ import annotations
 
 import http.client
+import json
 import os
 import re
 import socket
@@ -12,6 +13,7 @@ import unittest
 from datetime import datetime, timezone
 from typing import List, Tuple
 
+from maptools.digest import map_digest
 from tests.running import TOP, question
 from tests.server import PATIENCE, READY, Server, ask, ended, has_maps, unix
 
@@ -237,7 +239,7 @@ class Serving(unittest.TestCase):
             with open(path, "w", encoding="utf-8") as lines:
                 lines.write(self.publish + self.commit)
             self.assertEqual(server.first_line(), READY)
-            self.assertEqual(health(port), (200, "ready\nedition 1\n"))
+            self.assertEqual(health(port), (200, f"ready\nedition 1\nmap {map_digest([json.loads(self.publish)['publish']])}\n"))
 
 
 def numbered(verb: str, number: int, day: int) -> str:

@@ -10,6 +10,7 @@ import tempfile
 import unittest
 from typing import Any, Dict, Tuple
 
+from maptools.digest import map_digest
 from tests.gateway_running import wait_until
 from tests.running import TOP, lostd, question
 
@@ -34,6 +35,8 @@ MAP = (
     '{"publish":{"default":true,"expires":"NO-EXPIRATION","lastUpdated":"2025-12-01T00:00:00Z","service":"urn:service:sos.police",'
     '"source":"map.example","sourceId":"A","uri":["sip:A@map.example"]}}\n{"commit":{}}\n'
 )
+
+DIGEST = map_digest([json.loads(MAP.splitlines()[0])["publish"]])
 
 # A family of metrics: its type, its help, and its values by name and labels.
 Family = Tuple[str, str, Dict[Tuple[str, Tuple[Tuple[str, str], ...]], float]]
@@ -152,6 +155,7 @@ class Metrics(unittest.TestCase):
         self.assertEqual(replies["lostd_replies_total", (("kind", "findServiceResponse"),)], 3)
         self.assertEqual(replies["lostd_replies_total", (("kind", "badRequest"),)], 1)
         self.assertEqual(families["lostd_edition"][2]["lostd_edition", ()], 1)
+        self.assertEqual(families["lostd_map_info"][2]["lostd_map_info", (("digest", DIGEST),)], 1)
         self.assertEqual(families["lostd_connections"][2]["lostd_connections_total", ()], 4)
 
 
@@ -163,9 +167,9 @@ class Pages(unittest.TestCase):
         with Server() as server:
             status, fields, text = server.get("/health")
             head = server.get("/health", "HEAD")
-        self.assertEqual((status, text), (200, "ready\nedition 1\n"))
+        self.assertEqual((status, text), (200, f"ready\nedition 1\nmap {DIGEST}\n"))
         self.assertEqual((fields["content-type"], fields["connection"]), ("text/plain; charset=utf-8", "close"))
-        self.assertEqual((head[0], head[1]["content-length"], head[2]), (200, "16", ""))
+        self.assertEqual((head[0], head[1]["content-length"], head[2]), (200, "53", ""))
 
     def test_status(self) -> None:
         with Server() as server:
@@ -174,7 +178,7 @@ class Pages(unittest.TestCase):
             status, fields, text = server.get("/status")
         told = json.loads(text)
         self.assertEqual((status, fields["content-type"]), (200, "application/json"))
-        self.assertEqual((told["ready"], told["edition"], told["mappings"], told["pending"]), (True, 1, 1, 0))
+        self.assertEqual((told["ready"], told["edition"], told["mappings"], told["pending"], told["map"]), (True, 1, 1, 0, DIGEST))
         self.assertEqual((told["replies"]["findServiceResponse"], told["connections"]["accepted"]), (1, 1))
         self.assertEqual(told["workers"]["count"], 2)
         version = subprocess.run([str(lostd()), "--version"], capture_output=True, timeout=10, check=True).stdout.decode()
