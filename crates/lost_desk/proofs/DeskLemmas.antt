@@ -63,8 +63,15 @@ taken_book v [] = refl
 taken_book v (Change e ∷ w) = taken_book (taken v (Change e)) w
 taken_book v (Mark f ∷ w) = taken_book (taken v (Mark f)) w
 
-taken_mark : (v : Version) (w : List Operation) (f : Beginning) → taken_all v (w ++ Mark f ∷ []) ≡ record { book = after_all v.book (edits_in w); front = f }
-taken_mark v w f = fold-append taken v w (Mark f ∷ []) ∙ ap (λ (b : Book). taken (record { book = b; front = f }) (Mark f)) (taken_book v w)
+taken_seal : (v : Version) (w : List Operation) → (taken_all v w).seal ≡ v.seal
+taken_seal v [] = refl
+taken_seal v (Change e ∷ w) = taken_seal (taken v (Change e)) w
+taken_seal v (Mark f ∷ w) = taken_seal (taken v (Mark f)) w
+
+taken_mark : (v : Version) (w : List Operation) (f : Beginning) → taken_all v (w ++ Mark f ∷ []) ≡ record { book = after_all v.book (edits_in w); front = f; seal = v.seal }
+taken_mark v w f =
+    fold-append taken v w (Mark f ∷ []) ∙ ap (λ (b : Book). taken (record { book = b; front = f; seal = (taken_all v w).seal }) (Mark f)) (taken_book v w)
+    ∙ ap (λ (o : Opening). taken (record { book = after_all v.book (edits_in w); front = f; seal = o }) (Mark f)) (taken_seal v w)
 
 module _ (c : CopiesSeen) (f : Beginning) (r : IsReady c [] f) where
   same_list : f.list ≡ c.shown.front.list ++ edits_in c.waiting
@@ -76,7 +83,7 @@ module _ (c : CopiesSeen) (f : Beginning) (r : IsReady c [] f) where
       let all : after_all c.shown.book (edits_in c.waiting) ≡ book_of c.shown.book.limits f.list =
       ap (λ (b : Book). after_all b (edits_in c.waiting)) r.copy.book
       ∙ sym (fold-append after (empty_book c.shown.book.limits) c.shown.front.list (edits_in c.waiting)) ∙ ap (book_of c.shown.book.limits) (sym same_list) in
-      taken_mark c.shown c.waiting f ∙ ap (λ (b : Book). record { book = b; front = f }) all
+      taken_mark c.shown c.waiting f ∙ ap (λ (b : Book). record { book = b; front = f; seal = c.shown.seal }) all
 
   pub may_follow : MayFollow c.shown (next_of (with_waiting c (Mark f)))
   may_follow =
@@ -86,6 +93,7 @@ module _ (c : CopiesSeen) (f : Beginning) (r : IsReady c [] f) where
         copy = record {
           book = ap (λ (l : Limits). book_of l f.list) (sym limits);
           accepted = subst (λ (l : Limits). IsTrue (is_accepted l f.list)) (sym limits) r.accepted;
+          sealed = r.copy.sealed ∙ sym r.opening;
         };
         begins = (edits_in c.waiting, same_list);
         limits = limits;
@@ -173,7 +181,11 @@ module _ (c : CopiesSeen) (queue : List CodeEdit) (book : Book) (history : Begin
       let nil : all ++ [] ≡ all = append-nil all in
       let P : Version → List Edit → Type 0 = λ v es. IsBookOfItsList v × (book ≡ book_of v.book.limits (v.front.list ++ es)) × IsTrue (is_accepted v.book.limits (v.front.list ++ es)) × BeginsWith (v.front.list ++ es) all × (history.opening ≡ v.front.opening) in
       let t : P c'.shown (pending_of c' queue') = rw (shown, pending) (
-        record { book = ap (λ (l : Limits). book_of l all) (sym limits); accepted = subst (λ (l : Limits). IsTrue (is_accepted l all)) (sym limits) d.accepted },
+        record {
+          book = ap (λ (l : Limits). book_of l all) (sym limits);
+          accepted = subst (λ (l : Limits). IsTrue (is_accepted l all)) (sym limits) d.accepted;
+          sealed = d.copy.sealed ∙ sym d.opening;
+        },
         d.ahead ∙ ap (λ (l : Limits). book_of l all) (sym limits) ∙ ap (book_of (book_of c.shown.book.limits all).limits) (sym nil),
         subst (λ es. IsTrue (is_accepted (book_of c.shown.book.limits all).limits es)) (sym nil) (subst (λ (l : Limits). IsTrue (is_accepted l all)) (sym limits) d.accepted),
         subst (λ es. BeginsWith es all) (sym nil) (begins_itself all),

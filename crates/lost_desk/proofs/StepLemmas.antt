@@ -86,4 +86,4 @@ merges seat w other told v views h at apart there =
 
 -- the first copies and their writer's seat
 pub opens_first : (opening : Opening) (limits : Limits) → IsOneList (first_version opening limits) (newcomer ∷ [])
-opens_first opening limits = opens (first_version opening limits) (record { book = refl; accepted = refl })
+opens_first opening limits = opens (first_version opening limits) (record { book = refl; accepted = refl; sealed = refl })

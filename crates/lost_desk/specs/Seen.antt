@@ -4,14 +4,14 @@ use Rattle.lost_spec.specs.Book.{Limits, Book, Edit, book_of}
 use Rattle.lost_spec.specs.Laws.{BeginsWith}
 use Rattle.lost_history.specs.History.{Opening}
 
--- a desk: which opening it is of, its limits, the edits that are published, and those that are pending
+-- a desk: which opening it is of, and so which copies are its own (`Copies.antt`); its limits, the edits that are published, and those that are pending
 pub record DeskSeen : Type 0 where
   pub opening : Opening
   pub limits : Limits
   pub published : List Edit
   pub pending : List Edit
 
--- a reader: which opening it is of, its limits, the edits that it has seen or was told of, the list of the copy that it entered last, and how often it
+-- a reader: which opening it is of, and so which copies it reads; its limits, the edits that it has seen or was told of, the list of the copy that it entered last, and how often it
 -- entered the copies
 pub record ReaderSeen : Type 0 where
   pub opening : Opening

@@ -75,7 +75,7 @@ pub record IsReady (c : CopiesSeen) (queue : List CodeEdit) (f : Beginning) : Ty
 
 -- the copy once all edits are published
 abbrev pub published_version : CopiesSeen → Beginning → Version
-published_version c f = record { book = book_of c.shown.book.limits f.list; front = f }
+published_version c f = record { book = book_of c.shown.book.limits f.list; front = f; seal = c.shown.seal }
 
 -- ---- a reader
 

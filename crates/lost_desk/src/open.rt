@@ -13,7 +13,7 @@ use crate::readers::Readers;
 use crate::rule::{Meeting, Naming, Telling};
 use crate::version::Version;
 use lost_book::Limits;
-use lost_history::{Front, open_history};
+use lost_history::{Front, Seal, open_history};
 use lost_routing::Routing;
 use lost_tape::Scratch;
 use std::alloc::{AllocError, Global};
@@ -46,11 +46,11 @@ pub fn open_desk<R: Wait>(
     if workers < 1 || workers > MAX_WORKERS {
         return Err(OpenError::Workers);
     }
-    let (head, front) = open_history();
+    let (head, front, seals) = open_history();
     let Ok(ahead) = Routing::new(alloc, limits) else {
         return Err(OpenError::Memory);
     };
-    match open_copies(rt, alloc, limits, &front, workers) {
+    match open_copies(rt, alloc, limits, &front, seals, workers) {
         Ok((copies, readers)) => {
             let desk = Desk::of(copies, VecDeque::new(alloc), ahead, front, head);
             Ok((desk, readers))
@@ -59,19 +59,21 @@ pub fn open_desk<R: Wait>(
     }
 }
 
-/// Two copies of an empty book, and their `workers` readers.
+/// Two copies of an empty book, which take the opening's two seals, and their `workers` readers.
 fn open_copies<R: Wait>(
     rt: &R,
     alloc: Global,
     limits: Limits,
     front: &Front,
+    seals: (Seal, Seal),
     workers: u32,
 ) -> Result<(Copies, Readers), AllocError>
-    requires { (0 < workers) × (workers ≤ 64) × (front.now.list ≡ []) }
+    requires workers { (0 < workers) × (workers ≤ 64) }
+    requires front { (front.now.list ≡ []) × (seals.0 ≡ front.now.opening) × (seals.1 ≡ front.now.opening) }
     ensures copies { IfOk result (λ r. (r.0.shown ≡ first_version front.now.opening limits) × (r.0.waiting ≡ [])) }
     ensures readers { IfOk result (λ r. (r.1.each ≡ new_reader front.now.opening limits) × (r.1.left ≡ workers)) }
 {
-    let mut writer = open_writer(rt, alloc, limits, front, workers)?;
+    let mut writer = open_writer(rt, alloc, limits, front, seals, workers)?;
     match make_readers(alloc, &mut writer, workers) {
         Ok(readers) => Ok((Copies::of(writer), readers)),
         Err(_) => {
@@ -88,14 +90,16 @@ fn open_writer<R: Wait>(
     alloc: Global,
     limits: Limits,
     front: &Front,
+    seals: (Seal, Seal),
     workers: u32,
 ) -> Result<CopyWriter, AllocError>
-    requires { (0 < workers) × (workers ≤ 64) × (front.now.list ≡ []) }
+    requires workers { (0 < workers) × (workers ≤ 64) }
+    requires front { (front.now.list ≡ []) × (seals.0 ≡ front.now.opening) × (seals.1 ≡ front.now.opening) }
     ensures shown { IfOk result (λ w. w.desk.shown.value ≡ first_version front.now.opening limits) }
     ensures waiting { IfOk result (λ w. drop w.behind w.log.items ≡ []) }
     ensures named { IfOk result (λ w. view w.desk.place ≡ named (first_version front.now.opening limits)) }
 {
-    let writer = new_writer(alloc, limits, front, workers)?;
+    let writer = new_writer(alloc, limits, front, seals, workers)?;
     let (writer, result) = writer.publish_as::<Naming, R>(rt);
     if result.is_err() {
         let _shown = writer.take(rt);
@@ -110,25 +114,33 @@ fn new_writer(
     alloc: Global,
     limits: Limits,
     front: &Front,
+    seals: (Seal, Seal),
     workers: u32,
 ) -> Result<CopyWriter, AllocError>
-    requires { (0 < workers) × (workers ≤ 64) × (front.now.list ≡ []) }
+    requires workers { (0 < workers) × (workers ≤ 64) }
+    requires front { (front.now.list ≡ []) × (seals.0 ≡ front.now.opening) × (seals.1 ≡ front.now.opening) }
     ensures shown { IfOk result (λ w. w.desk.shown.value ≡ first_version front.now.opening limits) }
     ensures waiting { IfOk result (λ w. drop w.behind w.log.items ≡ []) }
 {
-    let first = open_version(alloc, limits, front)?;
-    let second = open_version(alloc, limits, front)?;
+    let first = open_version(alloc, limits, front, seals.0)?;
+    let second = open_version(alloc, limits, front, seals.1)?;
     CopyWriter::new(alloc, first, second, workers as usize)
 }
 
-/// A copy of an empty book.
-fn open_version(alloc: Global, limits: Limits, front: &Front) -> Result<Version, AllocError>
-    requires { front.now.list ≡ [] }
+/// A copy of an empty book, which takes a seal.
+fn open_version(
+    alloc: Global,
+    limits: Limits,
+    front: &Front,
+    seal: Seal,
+) -> Result<Version, AllocError>
+    requires { (front.now.list ≡ []) × (seal ≡ front.now.opening) }
     ensures { IfOk result (λ v. v ≡ first_version front.now.opening limits) }
 {
     Ok(Version {
         book: Routing::new(alloc, limits)?,
         front: front.again(),
+        seal,
     })
 }
 

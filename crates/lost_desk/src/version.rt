@@ -2,19 +2,25 @@
 
 use left_right::Absorb;
 use lost_book::Edit;
-use lost_history::Front;
+use lost_history::{Front, Seal};
 use lost_routing::Routing;
 use std::alloc::AllocError;
 
-/// One of the two copies: the book that readers ask, and the list of edits whose book it is.
+/// One of the two copies: the book that readers ask, and the list of edits whose book it is. It holds one of the two
+/// seals of the list's opening, so there are no copies of this opening but the two.
 pub struct Version {
     pub(crate) book: Routing,
     pub(crate) front: Front,
+    pub(crate) seal: Seal,
 }
 
 impl Drop for Version {
     fn drop(self) {
-        let Version { book: _, front: _ } = self;
+        let Version {
+            book: _,
+            front: _,
+            seal: _,
+        } = self;
     }
 }
 

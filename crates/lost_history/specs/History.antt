@@ -3,7 +3,7 @@ use Rattle.std.specs.Prelude.{if◌then◌else◌, List, length, nat_le}
 use Rattle.logbook.specs.Pages.{Book as TokenBook}
 use Rattle.lost_spec.specs.Book.{Edit}
 
--- which history it is: each that is opened is another (own)
+-- which history it is: each that is opened is another, with two seals of its own (own)
 abbrev pub Opening : Type 0
 Opening = TokenBook
 

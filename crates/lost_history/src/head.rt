@@ -3,7 +3,8 @@ ghost use Rattle.std.specs.Prelude.{◌≡◌, []};
 
 use crate::change::Change;
 use crate::front::Front;
-use crate::rule::Rises;
+use crate::rule::{Empty, Rises};
+use crate::seal::Seal;
 use logbook::{Seen, Start, Word};
 use std::marker::Model;
 
@@ -25,14 +26,24 @@ impl Model for Head {
     ghost invariant = { λ h. h.word ≡ word_of h.word.book };
 }
 
-/// A new history, which is empty, and its front.
-pub fn open_history() -> (Head, Front)
+/// A new history, which is empty, with its front and its two seals.
+pub fn open_history() -> (Head, Front, (Seal, Seal))
     ensures opening { result.1.opening ≡ result.0 }
     ensures empty { result.1.list ≡ [] }
+    ensures seals { (result.2.0 ≡ result.0) × (result.2.1 ≡ result.0) }
 {
-    let (seen, mut first, _second) = Seen::open(Start::alone(), 0, 0);
+    let (seen, mut words) = Seen::open_row::<(), Empty>(&(), Start::alone(), 3);
+    let (mut first, mut second, mut third) = (words.take(), words.take(), words.take());
     let head = Head {
         word: Word::tracked(0, &mut first),
     };
-    (head, Front::first(seen))
+    let seals = (
+        Seal {
+            word: Word::tracked(0, &mut second),
+        },
+        Seal {
+            word: Word::tracked(0, &mut third),
+        },
+    );
+    (head, Front::first(seen), seals)
 }

@@ -7,8 +7,10 @@ mod change;
 mod front;
 mod head;
 mod rule;
+mod seal;
 
 pub use change::Change;
 pub use front::Front;
 pub use head::{Head, open_history};
 pub use rule::{Aim, Rises};
+pub use seal::Seal;

@@ -1,6 +1,6 @@
 //! The rule of the history, and its one kind of step.
 use crate::change::Change;
-use logbook::{Gain, Plain, Play, Rule};
+use logbook::{Gain, Opening, Plain, Play, Rule};
 use std::marker::{Brand, PhantomData};
 
 /// The rule: the word of the history is its length.
@@ -22,6 +22,15 @@ impl Rule<Change, u64> for Rises {
     ghost keeps = { λ names log. ftrue };
 
     ghost moves = { λ ask before after answer. Unit {0} };
+}
+
+/// A history opens empty.
+pub(crate) struct Empty;
+
+impl Opening<(), Change> for Empty {
+    ghost use Rattle.std.specs.Prelude.{[]};
+
+    ghost log = { λ words about. [] };
 }
 
 /// Callers trade nothing.
