@@ -5,18 +5,28 @@ ghost use Rattle.lost_desks.specs.Counting.{CountsReply, CountsWith, held_by, re
 
 use lost_desk::Desk;
 use lost_json::DeskReply;
+use lost_log::{CommitReport, ConnectionLog};
+use lost_sockets::Peer;
 use lost_status::{DeskCounter, DeskEvent};
 use lost_worker::DeskWitness;
+use std::alloc::Global;
+use std::io::Eprint;
+use std::sync::Wait;
 use std::time::Clock;
 
-/// Counts the outcomes of a desk's lines.
+/// Counts the outcomes of a desk's lines, and reports each commit that publishes edits.
 #[derive(Drop)]
-pub(crate) struct DeskCounting<'r, 'c, 's, R: Clock> {
+pub(crate) struct DeskCounting<'r, 'c, 's, R> {
     pub(crate) rt: &'r R,
+    pub(crate) alloc: Global,
+    pub(crate) log: &'r ConnectionLog<'r, R>,
+    pub(crate) peer: &'r Peer,
+    /// The edition that was reported last.
+    pub(crate) edition: u64,
     pub(crate) counter: &'c mut DeskCounter<'s>,
 }
 
-impl<R: Clock> DeskWitness for DeskCounting<'_, '_, '_, R> {
+impl<R: Wait + Clock + Eprint> DeskWitness for DeskCounting<'_, '_, '_, R> {
     ghost step = { λ old reply new. CountsReply old.counter.now reply new.counter.now };
 
     fn saw(&mut self, _line: Option<&[u8]>, reply: DeskReply, desk: &Desk)
@@ -29,6 +39,31 @@ impl<R: Clock> DeskWitness for DeskCounting<'_, '_, '_, R> {
         };
         count_reply(self.counter, reply, second);
         tell_book(self.counter, desk);
+        if let DeskReply::Committed(edition) = reply {
+            self.report(edition, desk);
+        }
+    }
+}
+
+impl<R: Wait + Clock + Eprint> DeskCounting<'_, '_, '_, R> {
+    /// Reports what a commit has made of a desk, if it published edits. If memory is refused, nothing is said.
+    fn report(&mut self, edition: u64, desk: &Desk)
+        ensures { self.new.counter ≡ self.old.counter }
+    {
+        let edits = edition.saturating_sub(self.edition);
+        self.edition = edition;
+        if edits == 0 {
+            return;
+        }
+        if let Ok(digest) = desk.digest().text(self.alloc) {
+            let commit = CommitReport {
+                edits,
+                edition,
+                mappings: desk.published().len() as u64,
+                digest: digest.as_str(),
+            };
+            self.log.report_commit(self.peer, &commit);
+        }
     }
 }
 

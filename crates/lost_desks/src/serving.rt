@@ -97,7 +97,7 @@ impl<R: Wait + Clock + Eprint> DeskService<'_, R> {
         ensures left { IsFalse counter.new.is_open }
     {
         counter.count(DeskEvent::Connected);
-        if let Some(cause) = self.serve_turn(queue, stream, desk, counter) {
+        if let Some(cause) = self.serve_turn(queue, stream, peer, desk, counter) {
             self.log.report_desk(peer, cause);
         }
         counter.count(DeskEvent::Left);
@@ -114,6 +114,7 @@ impl<R: Wait + Clock + Eprint> DeskService<'_, R> {
         &self,
         queue: Option<&DeskQueue<'_>>,
         stream: &Stream,
+        peer: &Peer,
         desk: &mut Desk,
         counter: &mut DeskCounter<'_>,
     ) -> Option<&'static str>
@@ -130,7 +131,7 @@ impl<R: Wait + Clock + Eprint> DeskService<'_, R> {
         }
         let mut input = Watched::new(DeskInput::new(self.alloc, &turn));
         let mut output = Watched::new(DeskOutput::new(&turn));
-        let Err(fault) = self.answer_lines(&mut input, &mut output, desk, counter) else {
+        let Err(fault) = self.answer_lines(&mut input, &mut output, peer, desk, counter) else {
             return None;
         };
         if input.inner().end() == Some(TurnEnd::SpeaksHttp) {
@@ -172,6 +173,7 @@ impl<R: Wait + Clock + Eprint> DeskService<'_, R> {
         &self,
         input: &mut Watched<I>,
         output: &mut Watched<O>,
+        peer: &Peer,
         desk: &mut Desk,
         counter: &mut DeskCounter<'_>,
     ) -> Result<Counts, ServeError>
@@ -180,6 +182,10 @@ impl<R: Wait + Clock + Eprint> DeskService<'_, R> {
     {
         let mut counting = DeskCounting {
             rt: self.rt,
+            alloc: self.alloc,
+            log: self.log,
+            peer,
+            edition: desk.edition(),
             counter,
         };
         serve_desk_with(

@@ -10,8 +10,21 @@ use std::time::Clock;
 /// The most lines about query connections in a second.
 const MAX_A_SECOND: u64 = 10;
 
-/// Reports on standard error, in one line each, how connections end in a fault: of query connections at most ten lines
-/// a second. The next line says how many were left out.
+/// What a desk's commit has made.
+#[derive(Clone, Copy, PartialEq, Eq, Debug)]
+pub struct CommitReport<'d> {
+    /// How many edits it published.
+    pub edits: u64,
+    /// How many edits are published now.
+    pub edition: u64,
+    /// How many mappings those leave.
+    pub mappings: u64,
+    /// Their digest, as it is shown.
+    pub digest: &'d str,
+}
+
+/// Reports on standard error, in one line each, what desks commit, and how connections end in a fault: of query
+/// connections at most ten lines a second. The next line says how many were left out.
 #[derive(Drop)]
 pub struct ConnectionLog<'r, R> {
     rt: &'r R,
@@ -56,6 +69,13 @@ impl<'r, R: Wait + Clock + Eprint> ConnectionLog<'r, R> {
     pub fn report_desk(&self, peer: &Peer, cause: &str) {
         if !self.is_quiet {
             self.write(desk_line(self.alloc, peer, cause));
+        }
+    }
+
+    /// Reports a desk's commit.
+    pub fn report_commit(&self, peer: &Peer, commit: &CommitReport<'_>) {
+        if !self.is_quiet {
+            self.write(commit_line(self.alloc, peer, commit));
         }
     }
 
@@ -128,5 +148,20 @@ fn query_line(
 /// The line about a desk's connection.
 fn desk_line(alloc: Global, peer: &Peer, cause: &str) -> Result<String, AllocError> {
     let line = format!(in alloc; "lostd: desk connection from {peer}: {cause}\n")?;
+    Ok(line)
+}
+
+/// The line about a desk's commit.
+fn commit_line(
+    alloc: Global,
+    peer: &Peer,
+    commit: &CommitReport<'_>,
+) -> Result<String, AllocError> {
+    let (edits, edition, mappings) = (commit.edits, commit.edition, commit.mappings);
+    let noun = if edits == 1 { "edit" } else { "edits" };
+    let digest = commit.digest;
+    let line = format!(in alloc;
+        "lostd: desk connection from {peer}: committed {edits} {noun}: edition {edition}, {mappings} mappings, map {digest}\n"
+    )?;
     Ok(line)
 }

@@ -5,5 +5,5 @@
 mod connection_log;
 mod log_writer;
 
-pub use connection_log::ConnectionLog;
+pub use connection_log::{CommitReport, ConnectionLog};
 pub use log_writer::{LogSender, LogWriter, start_log};
