@@ -1,6 +1,7 @@
 """Starts lostd serve, and speaks with it over TCP."""
 import json
 import os
+import re
 import resource
 import select
 import signal
@@ -17,6 +18,10 @@ PIECE = 1 << 18
 COMMIT = b'{"commit":{}}'
 BAD_REQUEST = b'{"errors":{"error":"badRequest"}}'
 BAD_LINE = b'{"refused":{"code":1,"name":"BadLine"}}'
+
+
+# What is said of a desk's commit.
+COMMITTED = re.compile(r"lostd: desk connection from .*: committed [0-9]+ edits?: edition [0-9]+, [0-9]+ mappings, map [0-9a-f]{32}$")
 
 
 class Ended(Exception):
@@ -158,9 +163,9 @@ class Running:
         return Peer(self.desk_port)
 
     def said(self):
-        """The lines on standard error so far."""
+        """The lines on standard error so far, but for what desks have committed."""
         self.errors.seek(0)
-        return self.errors.read().decode().splitlines()
+        return [line for line in self.errors.read().decode().splitlines() if not COMMITTED.match(line)]
 
     def signal(self, number):
         """Sends the server a signal; the status with which it ends."""

@@ -185,13 +185,6 @@ class LimitTests(unittest.TestCase):
         self.assertEqual(server.first_line(), READY)
         return server
 
-    def said(self, server: Server) -> str:
-        """The next line on standard error."""
-        errors = server.process.stderr
-        assert errors is not None
-        self.assertTrue(select.select([errors], [], [], PATIENCE)[0], "nothing is said")
-        return errors.readline().decode()
-
     def test_line_time(self) -> None:
         """A line that is not whole in time ends its connection, and others are served."""
         with self.server("--line-time", "1") as server, unix(self.queries) as half, unix(self.queries) as whole:
@@ -200,7 +193,7 @@ class LimitTests(unittest.TestCase):
             begun = time.monotonic()
             self.assertTrue(ended(half))
             self.assertLess(time.monotonic() - begun, 10)
-            self.assertRegex(self.said(server), r"^lostd: query connection 1 from a unix socket: it did not finish a line in time$")
+            self.assertRegex(server.said(), r"^lostd: query connection 1 from a unix socket: it did not finish a line in time$")
             self.assertEqual(ask(whole, LIST), NOTHING)
 
     def test_no_line_time(self) -> None:
@@ -218,13 +211,13 @@ class LimitTests(unittest.TestCase):
                 for _ in range(100_000):
                     greedy.sendall(LIST.encode() * 100)
             self.assertNotIsInstance(caught.exception, socket.timeout)
-            self.assertRegex(self.said(server), r": it took no reply for too long$")
+            self.assertRegex(server.said(), r": it took no reply for too long$")
 
     def test_idle(self) -> None:
         """A client that sends nothing is ended."""
         with self.server("--idle", "1") as server, unix(self.queries) as silent:
             self.assertTrue(ended(silent))
-            self.assertRegex(self.said(server), r": it sent nothing for too long$")
+            self.assertRegex(server.said(), r": it sent nothing for too long$")
 
     def test_most_connections(self) -> None:
         """One too many is closed at once, and once another has ended there is room again."""
@@ -232,7 +225,7 @@ class LimitTests(unittest.TestCase):
             self.assertEqual([ask(first, LIST), ask(second, LIST)], [NOTHING] * 2)
             with unix(self.queries) as third:
                 self.assertTrue(ended(third))
-            self.assertRegex(self.said(server), r"^lostd: query connection 3 from .*: refused: too many connections are open$")
+            self.assertRegex(server.said(), r"^lostd: query connection 3 from .*: refused: too many connections are open$")
             first.shutdown(socket.SHUT_WR)
             self.assertTrue(ended(first))
             with unix(self.queries) as fourth:
@@ -248,7 +241,7 @@ class LimitTests(unittest.TestCase):
                 self.assertEqual(ask(first, LIST), NOTHING)
                 with socket.create_connection(("127.0.0.1", port)) as second:
                     self.assertTrue(ended(second))
-                self.assertRegex(self.said(server), r": refused: too many connections from its address are open$")
+                self.assertRegex(server.said(), r": refused: too many connections from its address are open$")
                 with socket.create_connection(("127.0.0.1", port), PATIENCE, ("127.0.0.2", 0)) as other:
                     self.assertEqual(ask(other, LIST), NOTHING)
         with self.server("--per-address", "1"), unix(self.queries) as first, unix(self.queries) as second:
@@ -270,7 +263,7 @@ class LimitTests(unittest.TestCase):
                 with unix(self.desk) as stranger:
                     stranger.sendall(text)
                     self.assertTrue(ended(stranger))
-                self.assertEqual(self.said(server), f"lostd: desk connection from a unix socket: it speaks {name}, not desk lines\n")
+                self.assertEqual(server.said(), f"lostd: desk connection from a unix socket: it speaks {name}, not desk lines\n")
             with unix(self.desk) as desk:
                 self.assertEqual(ask(desk, '{"commit":{}}\n'), '{"committed":{"edition":0}}\n')
 
@@ -281,7 +274,7 @@ class LimitTests(unittest.TestCase):
             self.assertEqual(ask(next_one, '{"commit":{}}\n'), '{"committed":{"edition":0}}\n')
             self.assertTrue(9 < time.monotonic() - begun < 20)
             self.assertTrue(ended(silent))
-            self.assertRegex(self.said(server), r": it sent no whole line within 10 seconds$")
+            self.assertRegex(server.said(), r": it sent no whole line within 10 seconds$")
 
     def test_mistakes(self) -> None:
         """The limits are no words of a server with --connections, and have ends."""

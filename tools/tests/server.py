@@ -1,6 +1,7 @@
 """A server that tests start as an operator does, and connections to it."""
 from __future__ import annotations
 
+import re
 import select
 import signal
 import socket
@@ -12,6 +13,7 @@ from tests.running import lostd
 PATIENCE = 60
 FREE = "127.0.0.1:0"
 READY = b"ready\n"
+COMMITTED = re.compile(r"lostd: desk connection from .*: committed [0-9]+ edits?: edition [0-9]+, [0-9]+ mappings, map [0-9a-f]{32}$")
 
 
 def has_maps() -> bool:
@@ -56,10 +58,22 @@ class Server:
         return output.readline()
 
     def end(self) -> Tuple[int, List[str]]:
-        """The status, once it has ended by itself, and the lines on standard error; keeps what else it put out."""
+        """The status, once it has ended by itself, and the lines on standard error that say something else than commits; keeps what
+        else it put out."""
         output, said = self.process.communicate(timeout=PATIENCE)
         self.output = output.decode()
-        return self.process.returncode, said.decode().splitlines()
+        return self.process.returncode, [line for line in said.decode().splitlines() if not COMMITTED.match(line)]
+
+    def said(self) -> str:
+        """The next line on standard error that says something else than that a desk has committed."""
+        errors = self.process.stderr
+        assert errors is not None
+        while True:
+            if not select.select([errors], [], [], PATIENCE)[0]:
+                raise AssertionError("nothing is said")
+            line = errors.readline().decode()
+            if not COMMITTED.match(line):
+                return line
 
 
 def ask(connection: socket.socket, line: str) -> str:

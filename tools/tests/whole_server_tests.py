@@ -63,13 +63,6 @@ class WholeServer(unittest.TestCase):
         self.assertEqual(server.first_line(), READY)
         return server
 
-    def said(self, server: Server) -> str:
-        """The next line on standard error."""
-        errors = server.process.stderr
-        assert errors is not None
-        self.assertTrue(select.select([errors], [], [], PATIENCE)[0], "nothing is said")
-        return errors.readline().decode()
-
 
 @unittest.skipUnless(serve_has("--line-time"), "no program with --line-time is built")
 class Clients(WholeServer):
@@ -147,7 +140,7 @@ class Clients(WholeServer):
                 except OSError:
                     break
             self.assertLess(time.monotonic() - begun, 8)
-            self.assertRegex(self.said(server), r": it did not finish a line in time$")
+            self.assertRegex(server.said(), r": it did not finish a line in time$")
 
     def test_more_lines_than_one_connection_may_have(self) -> None:
         """With --connections a connection is ended after a million lines; each of them has its reply."""
@@ -194,7 +187,7 @@ class DesksAndMaps(WholeServer):
             with tcp(self.port) as desk, unix(self.queries) as client:
                 self.assertEqual(ask(desk, COMMIT), committed(0))
                 self.assertEqual(ask(client, LIST), NOTHING % 0)
-            self.assertRegex(self.said(server), r"^lostd: desk connection from 127\.0\.0\.1:[0-9]+: it could not be read$")
+            self.assertRegex(server.said(), r"^lostd: desk connection from 127\.0\.0\.1:[0-9]+: it could not be read$")
 
     def test_a_third_desk_behind_a_silent_one(self) -> None:
         """A desk waits for the first desk and then for a silent second one, which gives way after ten seconds."""
