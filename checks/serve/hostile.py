@@ -241,10 +241,10 @@ def per_address(program, is_long):
 
 
 def strangers_at_the_desk(program, is_long):
-    """HTTP and TLS at the desk's port are ended at once and said, and then a desk is served"""
+    """Other requests of HTTP than for the map, and TLS, at the desk's port are ended at once and said, and then a desk is served"""
     with crowded(program) as (server, wrong):
         fronts = [b"GET / HTTP/1.1\r\n\r\n", b"POST /x HTTP/1.1\r\n", b"OPTIONS *", b"\x16\x03\x01\x02\x00\x01\x00", b"CONN", b"\x16"]
-        rests = [b"", b"", b"", b"", b"ECT lost.example:443 HTTP/1.1\r\n", b"\x03\x01"]
+        rests = [b"", b"\r\n", b" HTTP/1.1\r\n\r\n", b"", b"ECT lost.example:443 HTTP/1.1\r\n\r\n", b"\x03\x01"]
         for front, rest in zip(fronts, rests):
             stranger = connected(server.desk_port)
             stranger.sendall(front)
@@ -257,7 +257,7 @@ def strangers_at_the_desk(program, is_long):
         wrong += differs("a desk", desk.ask_all([publish(1), COMMIT])[1][:12], b'{"committed"')
         desk.end()
         said = server.said()
-        wrong += differs("lines of HTTP", sum(line.endswith("it speaks HTTP, not desk lines") for line in said), 4)
+        wrong += differs("lines of HTTP", sum(line.endswith("it asked over HTTP for something else than GET /map") for line in said), 4)
         wrong += differs("lines of TLS", sum(line.endswith("it speaks TLS, not desk lines") for line in said), 2)
         # The normal client was answered from a list that is not empty once the desk had committed.
     return [text for text in wrong if "a normal client was told" not in text]

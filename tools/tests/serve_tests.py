@@ -257,13 +257,17 @@ class LimitTests(unittest.TestCase):
                 client.close()
 
     def test_no_desk(self) -> None:
-        """What speaks HTTP or TLS at the desk's address is ended at once, and a desk is served after it."""
+        """What asks over HTTP for something else than the map, or speaks TLS, is ended at once, and a desk is served after it."""
+        other = "it asked over HTTP for something else than GET /map"
         with self.server() as server:
-            for text, name in ((b"GET / HTTP/1.1\r\n", "HTTP"), (b"\x16\x03\x01", "TLS")):
+            for text, cause in (
+                (b"GET / HTTP/1.1\r\n\r\n", other), (b"GET /map HTTP/9\r\n\r\n", "it speaks HTTP, not desk lines"),
+                (b"\x16\x03\x01", "it speaks TLS, not desk lines"),
+            ):  # fmt: skip
                 with unix(self.desk) as stranger:
                     stranger.sendall(text)
                     self.assertTrue(ended(stranger))
-                self.assertEqual(server.said(), f"lostd: desk connection from a unix socket: it speaks {name}, not desk lines\n")
+                self.assertEqual(server.said(), f"lostd: desk connection from a unix socket: {cause}\n")
             with unix(self.desk) as desk:
                 self.assertEqual(ask(desk, '{"commit":{}}\n'), '{"committed":{"edition":0}}\n')
 

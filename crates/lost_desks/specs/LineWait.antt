@@ -15,3 +15,7 @@ wait_before_read w now = if w.is_at_line then record { since = now; has_line = w
 -- after a read: a byte 10 ends a line
 abbrev pub wait_after_read : LineWait → List ℕ → LineWait
 wait_after_read w bytes = if list_any (λ b. b == 10) bytes then record { since = w.since; has_line = true; is_at_line = true } else w
+
+-- the bytes of a request of HTTP are no lines
+abbrev pub wait_after_bytes : (is_http : Bool) → LineWait → List ℕ → LineWait
+wait_after_bytes is_http w bytes = if is_http then w else wait_after_read w bytes

@@ -1,6 +1,6 @@
 //! The lines of a desk during its turn.
 ghost use Rattle.std.specs.Prelude.{◌≡◌};
-ghost use Rattle.lost_desks.specs.LineWait.{wait_after_read, wait_before_read};
+ghost use Rattle.lost_desks.specs.LineWait.{wait_after_bytes, wait_before_read};
 
 use crate::desk_turn::{DeskTurn, is_of_waiting};
 use crate::line_wait::LineWait;
@@ -18,9 +18,7 @@ pub(crate) struct DeskInput<'t, 'l, R> {
     turn: &'t DeskTurn<'t, 'l, R>,
     /// The first bytes that came, until they are enough to look at.
     front: Vec<u8>,
-    /// All bytes that came, if they are the front of a request of HTTP.
-    request: Vec<u8>,
-    /// Whether a request of HTTP is being read, so that bytes are not looked at any more.
+    /// Whether they are those of a request of HTTP, so that bytes are not looked at any more.
     is_http: bool,
     /// Since when it has sent no whole line.
     wait: LineWait,
@@ -34,7 +32,6 @@ impl<'t, 'l, R: Wait + Clock> DeskInput<'t, 'l, R> {
         DeskInput {
             turn,
             front: Vec::new(alloc),
-            request: Vec::new(alloc),
             is_http: false,
             wait: LineWait::new(turn.now(Duration::ZERO)),
             end: None,
@@ -43,10 +40,9 @@ impl<'t, 'l, R: Wait + Clock> DeskInput<'t, 'l, R> {
 
     /// Goes on with the same turn for a request of HTTP. Gives what has come of that.
     pub(crate) fn take_request(&mut self) -> Vec<u8> {
-        let nothing = Vec::new(*self.request.allocator());
+        let nothing = Vec::new(*self.front.allocator());
         self.end = None;
-        self.is_http = true;
-        mem::replace(&mut self.request, nothing)
+        mem::replace(&mut self.front, nothing)
     }
 
     /// Why the turn is over, if this half found it.
@@ -75,23 +71,30 @@ impl<'t, 'l, R: Wait + Clock> DeskInput<'t, 'l, R> {
         now
     }
 
-    /// Looks at bytes that came. Gives why the turn is over if they are not a desk's.
+    /// Looks at bytes that came. Gives why the turn is over if they are not a desk's. Those of a request of HTTP are no lines.
     fn look_at(&mut self, bytes: &[u8]) -> Option<TurnEnd>
-        ensures { self.new.wait ≡ wait_after_read self.old.wait bytes.now }
+        ensures { self.new.wait ≡ wait_after_bytes self.new.is_http self.old.wait bytes.now }
     {
-        self.wait = self.wait.after_read(bytes);
-        if self.is_http || self.front.len() >= MOST_LOOKED_AT {
+        if self.is_http {
             return None;
         }
-        if self.front.extend_from_slice(bytes).is_err() {
-            return None;
-        }
-        let end = other_protocol(self.front.as_slice());
+        let end = self.other_protocol_in(bytes);
         if end == Some(TurnEnd::SpeaksHttp) {
-            let nothing = Vec::new(*self.front.allocator());
-            self.request = mem::replace(&mut self.front, nothing);
+            self.is_http = true;
+        } else {
+            self.wait = self.wait.after_read(bytes);
         }
         end
+    }
+
+    /// Which other protocol than that of desks the first bytes are of, once these have come.
+    fn other_protocol_in(&mut self, bytes: &[u8]) -> Option<TurnEnd>
+        ensures { (self.new.wait ≡ self.old.wait) × (self.new.is_http ≡ self.old.is_http) }
+    {
+        if self.front.len() >= MOST_LOOKED_AT || self.front.extend_from_slice(bytes).is_err() {
+            return None;
+        }
+        other_protocol(self.front.as_slice())
     }
 
     /// Ends the turn.
