@@ -1,7 +1,8 @@
 """Where a server listens: at a port of a host, or at a socket in the file system."""
 from __future__ import annotations
 
-from typing import NamedTuple, Union
+import argparse
+from typing import Any, Callable, NamedTuple, Union
 
 UNIX = "unix:"
 
@@ -45,3 +46,15 @@ def server_of(text: str) -> Server:
     if text == UNIX:
         raise ValueError(f"{text!r} names no socket: write {UNIX}PATH")
     return Unix(text[len(UNIX) :])
+
+
+def address(read_address: Callable[[str], Any]) -> Callable[[str], Any]:
+    """What argparse reads an address with."""
+
+    def argument(text: str) -> Any:
+        try:
+            return read_address(text)
+        except ValueError as error:
+            raise argparse.ArgumentTypeError(str(error)) from None
+
+    return argument

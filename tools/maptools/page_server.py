@@ -14,6 +14,7 @@ from maptools.connection import Broken, ask
 from maptools.desk_rules import is_pair
 from maptools.lines import line_of
 from maptools.replies import reply_of
+from maptools.server_map import file_of
 
 SECONDS = 10
 HTML, JSON, BYTES, TEXT = "text/html", "application/json", "application/octet-stream", "text/plain"
@@ -22,28 +23,61 @@ HTML, JSON, BYTES, TEXT = "text/html", "application/json", "application/octet-st
 Made = Tuple[bytes, bytes]
 
 
-class MapFile:
-    """The file of a map: the page and the data that are made of it, anew after each change."""
+class MapSource:
+    """Where a map comes from: the page and the data that are made of it, anew after each change."""
 
-    def __init__(self, path: str, make: Callable[[str], Made]) -> None:
-        self.path, self.make = path, make
+    def __init__(self, make: Callable[[str, str], Made]) -> None:
+        self.make = make
         self.lock = threading.Lock()
         self.version, self.made = "", (b"", b"")
         self.look()
 
     def stamp(self) -> str:
-        """What changes with the file."""
-        about = os.stat(self.path)
-        return f"{about.st_ino}-{about.st_mtime_ns}-{about.st_size}"
+        """What changes with the map."""
+        raise NotImplementedError
+
+    def made_now(self, stamp: str) -> Made:
+        """What is made of the map as it is now."""
+        raise NotImplementedError
 
     def look(self) -> str:
-        """Reads the file if it has changed; its version. What cannot be read leaves the version before."""
+        """Reads the map if it has changed; its version. What cannot be read leaves the version before."""
         with self.lock:
             stamp = self.stamp()
             if stamp != self.version:
-                self.made = self.make(stamp)
+                self.made = self.made_now(stamp)
                 self.version = stamp
             return self.version
+
+
+class MapFile(MapSource):
+    """The file of a map."""
+
+    def __init__(self, path: str, make: Callable[[str, str], Made]) -> None:
+        self.path = path
+        super().__init__(make)
+
+    def stamp(self) -> str:
+        about = os.stat(self.path)
+        return f"{about.st_ino}-{about.st_mtime_ns}-{about.st_size}"
+
+    def made_now(self, stamp: str) -> Made:
+        return self.make(self.path, stamp)
+
+
+class MapOfServer(MapSource):
+    """The map that a server holds: read at its desk's address when the edition that it answers from has changed."""
+
+    def __init__(self, desk: Server, queries: Server, make: Callable[[str, str], Made]) -> None:
+        self.desk, self.queries = desk, queries
+        super().__init__(make)
+
+    def stamp(self) -> str:
+        return f"edition-{edition_of(self.queries)}"
+
+    def made_now(self, stamp: str) -> Made:
+        with file_of(self.desk, SECONDS) as path:
+            return self.make(path, stamp)
 
 
 def question_of(words: Dict[str, Any]) -> bytes:
@@ -61,20 +95,20 @@ def edition_of(server: Server) -> Optional[int]:
     return reply.get("edition")
 
 
-def state_of(file: MapFile, server: Server) -> Dict[str, Any]:
-    """The version of the file, and the edition of the server or why there is none."""
+def state_of(source: MapSource, server: Server) -> Dict[str, Any]:
+    """The version of the map, and the edition of the server or why there is none."""
     try:
-        return {"version": file.look(), "edition": edition_of(server), "fault": None}
+        return {"version": source.look(), "edition": edition_of(server), "fault": None}
     except Broken as error:
-        return {"version": file.version, "edition": None, "fault": str(error)}
+        return {"version": source.version, "edition": None, "fault": str(error)}
     except OSError as error:
-        return {"version": file.version, "edition": None, "fault": f"{file.path}: {error.strerror}"}
+        return {"version": source.version, "edition": None, "fault": f"{error.filename}: {error.strerror}"}
 
 
 class Pages(BaseHTTPRequestHandler):
     """What a browser asks for."""
 
-    file: MapFile
+    source: MapSource
     lostd: Server
     hosts: Tuple[str, ...]
 
@@ -85,11 +119,11 @@ class Pages(BaseHTTPRequestHandler):
         parts = urlsplit(self.path)
         try:
             if parts.path == "/":
-                return self.reply(200, HTML, self.file.made[0])
+                return self.reply(200, HTML, self.source.made[0])
             if parts.path == "/map":
-                return self.reply(200, BYTES, self.file.made[1])
+                return self.reply(200, BYTES, self.source.made[1])
             if parts.path == "/state":
-                return self.reply(200, JSON, line_of(state_of(self.file, self.lostd)).encode())
+                return self.reply(200, JSON, line_of(state_of(self.source, self.lostd)).encode())
             if parts.path == "/answer":
                 return self.reply(200, JSON, ask(self.lostd, question_of(parse_qs(parts.query)), SECONDS))
         except (ValueError, KeyError):
@@ -118,8 +152,8 @@ def names_of(address: Tcp, port: int) -> Tuple[str, ...]:
     return (*hosts, *(host.rpartition(":")[0] for host in hosts)) if port == 80 else hosts
 
 
-def server_at(address: Tcp, file: MapFile, lostd: Server) -> ThreadingHTTPServer:
+def server_at(address: Tcp, source: MapSource, lostd: Server) -> ThreadingHTTPServer:
     """A server of the page that listens at an address; OSError where it cannot."""
-    handler = type("PagesOfMap", (Pages,), {"file": file, "lostd": lostd, "hosts": names_of(address, address.port)})
+    handler = type("PagesOfMap", (Pages,), {"source": source, "lostd": lostd, "hosts": names_of(address, address.port)})
     family = socket.AF_INET6 if ":" in address.host else socket.AF_INET
     return type("ServerOfMap", (ThreadingHTTPServer,), {"address_family": family})((address.host, address.port), handler)
