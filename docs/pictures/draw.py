@@ -57,7 +57,7 @@ class Picture:
 
 # The steps of the two walks of ARCHITECTURE.md: at which step a line, and an edit, comes into a room.
 STEPS_OF_A_LINE = {
-    "lost_server": "1", "lost_connections": "1, 2, 7", "lost_worker": "2, 5", "lost_lines": "2", "lost_desk": "2", "lost_tape": "3",
+    "lost_loop": "1, 7", "lost_connections": "1, 2, 7", "lost_worker": "2, 5", "lost_lines": "2", "lost_desk": "2", "lost_tape": "3",
     "lost_reading": "3", "lost_query": "4", "lost_routing": "5", "lost_tables": "5", "lost_regions": "5", "lost_index": "5",
     "lost_grid": "5", "lost_civicdex": "5", "lost_geo": "5", "lost_civic": "5", "lost_book": "5", "lost_writing": "6",
 }

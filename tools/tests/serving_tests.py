@@ -104,7 +104,7 @@ class Serving(unittest.TestCase):
             self.beside_commits(200)
 
     def test_clients_of_workers_beside_commits(self) -> None:
-        """With --connections each of four workers answers a client until it leaves; at the end each has the last list."""
+        """With --connections four workers answer the clients as their lines come; at the end each has the last list."""
         with self.server("--connections", "12", workers=4) as server:
             self.beside_commits(200)
             self.assertEqual(server.end(), (0, []))
@@ -187,7 +187,7 @@ class Serving(unittest.TestCase):
             self.assertIsNone(server.process.poll())
 
     def test_two_workers_at_once(self) -> None:
-        """With --connections a worker answers one connection until it ends, and another worker answers the next one beside it."""
+        """With --connections two clients are answered beside each other, by a worker each."""
         with self.server("--connections", "2") as server:
             unix(self.desk).close()
             with unix(self.queries) as first, unix(self.queries) as second:

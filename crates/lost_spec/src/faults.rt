@@ -209,11 +209,11 @@ pub enum MappingError {
     BadUri,
     #[error("the service number is not a text of 1 to 64 digits, stars and hashes")]
     BadNumber,
-    #[error("a region is neither a polygon nor a civic pattern")]
+    #[error("a region is no polygon, no civic pattern and no token set")]
     BadRegion,
     #[error("a default has a region, or a mapping that is not a default has none")]
     RegionMissing,
-    #[error("there are too many polygons, patterns or display names, or a display name is too long")]
+    #[error("there are too many polygons, patterns, token sets or display names, or a display name is too long")]
     TooLarge,
     #[error("the key is bad, a default has one, or a mapping that is not a default has none")]
     BadKey,
