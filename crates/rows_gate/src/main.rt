@@ -21,9 +21,10 @@ use std::sync::Wait;
 use test_parts::given;
 
 /// The commands.
-const WORDS: [&str; 30] = [
+const WORDS: [&str; 31] = [
     "book.cases",
     "civic.cases",
+    "digest.cases",
     "geo.cases",
     "line.cases",
     "mapping.cases",

@@ -3,8 +3,8 @@ use crate::book_cases::Shelf;
 use crate::case_error::CaseError;
 use crate::fields::Fields;
 use crate::{
-    civic_cases, geo_cases, line_cases, mapping_cases, numbered_cases, place_cases, stamp_cases,
-    token_cases, tokens_cases, urn_cases,
+    civic_cases, digest_cases, geo_cases, line_cases, mapping_cases, numbered_cases, place_cases,
+    stamp_cases, token_cases, tokens_cases, urn_cases,
 };
 use std::alloc::Global;
 
@@ -28,6 +28,7 @@ fn said(alloc: Global, shelf: &mut Shelf, fields: &Fields) -> Result<String, Cas
         "geo" => geo_cases::said(alloc, call, fields),
         "civic" => civic_cases::said(alloc, call, fields),
         "place" => place_cases::said(alloc, call, fields),
+        "digest" => digest_cases::said(alloc, call, fields, shelf),
         "mapping" => mapping_cases::said(alloc, call, fields),
         "numbered" => numbered_cases::said(alloc, call, fields),
         "book" => shelf.said(alloc, call, fields),

@@ -19,6 +19,11 @@ impl Fields {
         Ok(Fields { fields })
     }
 
+    /// The number of fields.
+    pub(crate) fn len(&self) -> usize {
+        self.fields.len()
+    }
+
     /// The wanted result: the last field.
     pub(crate) fn wanted(&self) -> Result<&[u8], CaseError> {
         match self.fields.last() {

@@ -7,6 +7,7 @@ mod case;
 mod case_error;
 mod civic_cases;
 mod descriptions;
+mod digest_cases;
 mod fields;
 mod gathered;
 mod geo_cases;
