@@ -71,6 +71,13 @@ impl MapDigest {
         }
     }
 
+    /// The digest that this number is.
+    pub fn of_number(number: u128) -> MapDigest
+        ensures { result ≡ number }
+    {
+        MapDigest { number }
+    }
+
     /// The number.
     pub fn number(self) -> u128
         ensures { result ≡ self }
