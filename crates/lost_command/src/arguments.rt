@@ -43,8 +43,9 @@ with status 3 before it listens. With --keep-going it starts with the edits that
 server saves nothing: give it its map at each start.\n\n\
 Without --connections the server runs until a signal ends it. Desks are served one after another: a second desk waits \
 until the first has ended. A desk is disconnected if it sends no whole line in the first 10 seconds of its turn; if, \
-while another waits, it sends no whole line or takes no reply for 10 seconds; or if it speaks HTTP or TLS. Edits \
-without a commit are dropped when the desk's connection ends. With --connections N the server serves one desk \
+while another waits, it sends no whole line or takes no reply for 10 seconds; or if it speaks TLS. Edits \
+without a commit are dropped when the desk's connection ends. The desk's address also answers HTTP: GET /map gives \
+the published map as desk lines. With --connections N the server serves one desk \
 connection and N query connections. When all have ended, it prints `done lines=L faults=F`: how many lines it answered, and how many query connections ended in a \
 fault.\n\n\
 Each worker watches many connections and answers lines as they come; a slow client keeps nobody waiting. A client \
