@@ -96,6 +96,6 @@ pub fn tell_book(counter: &mut DeskCounter<'_>, desk: &Desk)
         edition,
         mappings: desk.published().len() as u64,
         pending: desk.staged().edition().saturating_sub(edition),
-        digest: desk.digest(),
+        digest: desk.digest().number(),
     });
 }

@@ -1,5 +1,5 @@
 -- What a server's threads count, and what the counts are after an event. (Own.)
-use Rattle.std.specs.Prelude.{◌≡◌, ℕ, ◌+◌, ◌-◌, ◌%◌, ◌^◌, ◌<◌, ◌≤◌, nat_le, ◌&&◌, true, false, List, [], replicate, slice_index, slice_set, if◌then◌else◌}
+use Rattle.std.specs.Prelude.{◌≡◌, ℕ, ◌+◌, ◌-◌, ◌%◌, ◌^◌, ◌<◌, ◌≤◌, nat_le, ◌&&◌, true, false, List, replicate, slice_index, slice_set, if◌then◌else◌}
 use Rattle.lost_status.specs.declared.connection_event.ConnectionEvent.{ConnectionEvent}
 use Rattle.lost_status.specs.declared.connection_event.ConnectionEvent.TheVariants.{Accepted, TurnedAway, Taken, Ended, Failed, Busy, Idle}
 use Rattle.lost_status.specs.declared.connection_event.ConnectionFigures.{ConnectionFigures}
@@ -9,7 +9,6 @@ use Rattle.lost_status.specs.declared.reply_counter.ReplyFigures.{ReplyFigures}
 use Rattle.lost_status.specs.declared.desk_event.DeskEvent.{DeskEvent}
 use Rattle.lost_status.specs.declared.desk_event.DeskEvent.TheVariants.{Refused, Committed, Holds, Connected, Left}
 use Rattle.lost_status.specs.declared.desk_event.DeskFigures.{DeskFigures}
-use Rattle.lost_digest.specs.Digest.{map_digest}
 use Rattle.lost_status.specs.ReplyKind.{kind_place}
 
 -- both counts together: one that reaches 2^64 begins at 0 again
@@ -63,7 +62,7 @@ pub record IsRepliesPlus (f more sum : ReplyFigures) : Type 0 where
   pub cache_hits : sum.cache_hits ≡ plus f.cache_hits more.cache_hits
 
 abbrev pub no_desk : DeskFigures
-no_desk = record { edition = 0; mappings = 0; pending = 0; digest = map_digest []; last_commit = 0; is_open = false; refusals = replicate 22 0 }
+no_desk = record { edition = 0; mappings = 0; pending = 0; digest = 0; last_commit = 0; is_open = false; refusals = replicate 22 0 }
 
 -- A refused line adds one to the count of its code alone, which is one from 1 to 22.
 abbrev pub refusal_counted : (counts : List ℕ) (code : ℕ) → List ℕ

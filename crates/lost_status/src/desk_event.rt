@@ -3,7 +3,6 @@ ghost use Rattle.std.specs.Prelude.{◌≡◌};
 ghost use Rattle.lost_status.specs.Figures.{desk_counted, no_desk, refusal_counted};
 
 use crate::numbers::count_at;
-use lost_digest::MapDigest;
 
 /// The greatest refusal code. Codes begin at 1.
 pub(crate) const LAST_CODE: u8 = 22;
@@ -26,8 +25,8 @@ pub enum DeskEvent {
         mappings: u64,
         /// How many edits are staged and not published.
         pending: u64,
-        /// The digest of the mappings.
-        digest: MapDigest,
+        /// The digest of the mappings, as a number.
+        digest: u128,
     },
     /// A desk has connected.
     Connected,
@@ -44,8 +43,8 @@ pub(crate) struct DeskFigures {
     pub(crate) mappings: u64,
     /// How many edits are staged and not published.
     pub(crate) pending: u64,
-    /// The digest of the mappings that are held.
-    pub(crate) digest: MapDigest,
+    /// The digest of the mappings that are held, as a number.
+    pub(crate) digest: u128,
     /// When the desk last committed, in seconds since 1970; 0 if it never did.
     pub(crate) last_commit: u64,
     /// Whether a desk is connected.
@@ -63,7 +62,7 @@ impl DeskFigures {
             edition: 0,
             mappings: 0,
             pending: 0,
-            digest: MapDigest::empty(),
+            digest: 0,
             last_commit: 0,
             is_open: false,
             refusals: [0; CODES],

@@ -1,6 +1,5 @@
 //! What the desk holds, where any thread may read it whole.
 use crate::desk_event::DeskFigures;
-use lost_digest::MapDigest;
 use std::sync::atomic::{AtomicU64, Ordering};
 
 /// What the desk holds. One thread writes it, any may read it, and nobody waits for a lock: a reader that comes while it is
@@ -22,7 +21,7 @@ pub(crate) struct Held {
     pub(crate) edition: u64,
     pub(crate) mappings: u64,
     pub(crate) pending: u64,
-    pub(crate) digest: MapDigest,
+    pub(crate) digest: u128,
 }
 
 impl HeldBlock {
@@ -39,7 +38,7 @@ impl HeldBlock {
 
     /// Stores what is held. No contract can say what an atomic holds: the rows of `status.rows` compare what is shown.
     pub(crate) fn show(&self, figures: &DeskFigures) {
-        let digest = figures.digest.number();
+        let digest = figures.digest;
         self.version.fetch_add(1, Ordering::SeqCst);
         self.edition.store(figures.edition, Ordering::SeqCst);
         self.mappings.store(figures.mappings, Ordering::SeqCst);
@@ -70,7 +69,7 @@ impl HeldBlock {
             edition: self.edition.load(Ordering::SeqCst),
             mappings: self.mappings.load(Ordering::SeqCst),
             pending: self.pending.load(Ordering::SeqCst),
-            digest: MapDigest::of_number(first << 64 | second),
+            digest: first << 64 | second,
         }
     }
 }

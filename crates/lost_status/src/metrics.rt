@@ -10,6 +10,7 @@ use crate::exposition::{describe, write_metric};
 use crate::reply_kind::{KINDS, ReplyKind};
 use crate::snapshot::Snapshot;
 use crate::status::VERSION;
+use lost_digest::MapDigest;
 use lost_writing::refusal_name;
 use std::alloc::{AllocError, Global};
 use std::fmt::Write;
@@ -21,7 +22,8 @@ const ROOM: usize = 8_192;
 pub(crate) fn metrics_text(alloc: Global, now: &Snapshot) -> Result<String, AllocError> {
     let mut text = String::with_capacity(alloc, ROOM)?;
     write_server(&mut text, now)?;
-    write_map(&mut text, &now.desk.digest.text(alloc)?)?;
+    let digest = MapDigest::of_number(now.desk.digest).text(alloc)?;
+    write_map(&mut text, digest.as_str())?;
     write_desk(&mut text, &now.desk)?;
     write_replies(&mut text, &now.replies.replies)?;
     write_refusals(&mut text, &now.desk.refusals)?;

@@ -9,6 +9,7 @@ use crate::snapshot::Snapshot;
 use bytes::{BufMut, Bytes};
 use http::{HeaderValue, Request, StatusCode, header};
 use http_server::{Response, Service};
+use lost_digest::MapDigest;
 use std::alloc::{AllocError, Global};
 
 /// The pages of a server with these numbers, as an HTTP service. Each answer ends its connection.
@@ -76,7 +77,7 @@ fn show_health(alloc: Global, now: &Snapshot, response: &mut Response) -> Result
 {
     if now.is_ready {
         let edition = now.desk.edition;
-        let digest = now.desk.digest.text(alloc)?;
+        let digest = MapDigest::of_number(now.desk.digest).text(alloc)?;
         let text = format!(in alloc; "ready\nedition {edition}\nmap {digest}\n")?;
         return write(response, plain(), text.as_str());
     }

@@ -5,6 +5,7 @@ use crate::reply_kind::{KINDS, ReplyKind};
 use crate::snapshot::Snapshot;
 use crate::status::VERSION;
 use crate::utc_text::utc_text;
+use lost_digest::MapDigest;
 use lost_writing::refusal_name;
 use serde_json::{Map, Value, put};
 use std::alloc::{AllocError, Global};
@@ -50,7 +51,7 @@ fn add_states(
 ) -> Result<(), AllocError> {
     let version = String::from_str(alloc, VERSION)?;
     put(report, alloc, "version", Value::String(version))?;
-    let digest = now.desk.digest.text(alloc)?;
+    let digest = MapDigest::of_number(now.desk.digest).text(alloc)?;
     put(report, alloc, "map", Value::String(digest))?;
     put(report, alloc, "ready", Value::Bool(now.is_ready))?;
     put(report, alloc, "desk", Value::Bool(now.desk.is_open))?;

@@ -15,7 +15,6 @@
 //! | `desk`, `no desk` | a desk connects, and leaves |
 //! | `after SECONDS` | so many seconds pass |
 use super::watch::Watch;
-use lost_digest::MapDigest;
 use lost_status::{
     ConnectionCounter, ConnectionEvent, DeskCounter, DeskEvent, Status, WorkerCounters,
 };
@@ -129,7 +128,7 @@ fn held(numbers: &str) -> DeskEvent {
         edition: number_of(edition),
         mappings: number_of(mappings),
         pending: number_of(pending),
-        digest: MapDigest::of_number(digest.parse::<u128>().unwrap_or(0)),
+        digest: digest.parse::<u128>().unwrap_or(0),
     }
 }
 
