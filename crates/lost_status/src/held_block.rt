@@ -2,6 +2,9 @@
 use crate::desk_event::DeskFigures;
 use std::sync::atomic::{AtomicU64, Ordering};
 
+/// How many values half of a digest has: 2^64.
+const HALF: u128 = 18_446_744_073_709_551_616;
+
 /// What the desk holds. One thread writes it, any may read it, and nobody waits for a lock: a reader that comes while it is
 /// written looks again, so that edition, numbers and digest are of one moment.
 #[derive(Drop)]
@@ -43,8 +46,8 @@ impl HeldBlock {
         self.edition.store(figures.edition, Ordering::SeqCst);
         self.mappings.store(figures.mappings, Ordering::SeqCst);
         self.pending.store(figures.pending, Ordering::SeqCst);
-        self.digest[0].store((digest >> 64) as u64, Ordering::SeqCst);
-        self.digest[1].store(digest as u64, Ordering::SeqCst);
+        self.digest[0].store((digest / HALF) as u64, Ordering::SeqCst);
+        self.digest[1].store((digest % HALF) as u64, Ordering::SeqCst);
         self.version.fetch_add(1, Ordering::SeqCst);
     }
 
@@ -69,7 +72,7 @@ impl HeldBlock {
             edition: self.edition.load(Ordering::SeqCst),
             mappings: self.mappings.load(Ordering::SeqCst),
             pending: self.pending.load(Ordering::SeqCst),
-            digest: first << 64 | second,
+            digest: first.wrapping_mul(HALF).wrapping_add(second),
         }
     }
 }
