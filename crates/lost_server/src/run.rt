@@ -157,13 +157,19 @@ impl<R: Wait + Clock + Eprint> Task for DeskTask<'_, R> {
     type Output = bool;
 
     fn run(self) -> bool {
-        let Some(listener) = self.listener else {
+        let DeskTask {
+            service,
+            listener,
+            is_only_one,
+            desk,
+        } = self;
+        let Some(listener) = listener else {
             return true;
         };
-        if self.is_only_one {
-            return serve_one_desk(&self.service, listener, self.desk);
+        if is_only_one {
+            return serve_one_desk(&service, listener, desk);
         }
-        serve_desks(&self.service, listener, self.desk);
+        serve_desks(&service, listener, desk);
         true
     }
 }
