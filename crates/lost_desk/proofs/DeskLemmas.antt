@@ -8,6 +8,7 @@ use Rattle.lost_spec.specs.Book.{Book, Edit, Limits, refusal, after, after_all, 
 use Rattle.lost_spec.proofs.BookLemmas.{accepted_book}
 use Rattle.lost_mapping.specs.declared.edit.Edit.{Edit as CodeEdit}
 use Rattle.lost_mapping.specs.Edit.{edit_of}
+use Rattle.lost_digest.specs.Digest.{map_digest}
 use Rattle.lost_history.specs.History.{Opening, Beginning, beginning}
 use Rattle.lost_history.proofs.Beginnings.{begins_itself, begins_trans, shorter_begins}
 use Rattle.lost_desk.specs.declared.version.Version.{Version}
@@ -110,7 +111,7 @@ published_by (Err _) c marked after f r m e =
 
 -- ---- a desk
 
-module _ (c : CopiesSeen) (queue : List CodeEdit) (book : Book) (history : Beginning) (right : Opening) (d : IsDesk c queue book history right) where
+module _ (c : CopiesSeen) (queue : List CodeEdit) (book : Book) (history : Beginning) (right : Opening) (digest : ℕ) (d : IsDesk c queue book history right digest) where
   pub counted : book.edits ≡ length c.shown.front.list + length (pending_of c queue)
   counted =
       ap (λ (b : Book). b.edits) d.ahead ∙ ((accepted_book c.shown.book.limits (c.shown.front.list ++ pending_of c queue) d.accepted).counted
@@ -135,7 +136,7 @@ module _ (c : CopiesSeen) (queue : List CodeEdit) (book : Book) (history : Begin
   all_staged : (e : CodeEdit) → c.shown.front.list ++ pending_of c (queue ++ e ∷ []) ≡ (c.shown.front.list ++ pending_of c queue) ++ edit_of e ∷ []
   all_staged e = ap (λ es. c.shown.front.list ++ es) (pending-queued c queue e) ∙ sym (append_assoc c.shown.front.list (pending_of c queue) (edit_of e ∷ []))
 
-  pub stage_keeps : (e : CodeEdit) → refusal book (edit_of e) ≡ None → IsDesk c (queue ++ e ∷ []) (after book (edit_of e)) history right
+  pub stage_keeps : (e : CodeEdit) → refusal book (edit_of e) ≡ None → IsDesk c (queue ++ e ∷ []) (after book (edit_of e)) history right digest
   stage_keeps e free =
       let all = c.shown.front.list ++ pending_of c queue in
       let here : is_none (refusal (book_of c.shown.book.limits all) (edit_of e)) ≡ true = ap (λ (b : Book). is_none (refusal b (edit_of e))) (sym d.ahead) ∙ ap is_none free in
@@ -146,10 +147,11 @@ module _ (c : CopiesSeen) (queue : List CodeEdit) (book : Book) (history : Begin
         reached = begins_trans history.list all (c.shown.front.list ++ pending_of c (queue ++ e ∷ [])) (edit_of e ∷ [], all_staged e) d.reached;
         opening = d.opening;
         head = d.head;
+        digest_is = d.digest_is;
       }
 
   -- the same, by the parts that a stage leaves
-  pub stage_gives : (e copy : CodeEdit) (queue' : List CodeEdit) (book' : Book) → queue' ≡ queue ++ e ∷ [] → book' ≡ after book (edit_of copy) → edit_of copy ≡ edit_of e → refusal book (edit_of e) ≡ None → IsDesk c queue' book' history right
+  pub stage_gives : (e copy : CodeEdit) (queue' : List CodeEdit) (book' : Book) → queue' ≡ queue ++ e ∷ [] → book' ≡ after book (edit_of copy) → edit_of copy ≡ edit_of e → refusal book (edit_of e) ≡ None → IsDesk c queue' book' history right digest
   stage_gives e copy queue' book' q b same free = rw (q, b, same) (stage_keeps e free)
 
   -- how many edits are pending
@@ -159,23 +161,23 @@ module _ (c : CopiesSeen) (queue : List CodeEdit) (book : Book) (history : Begin
       (omega (arith, counted, e, p, long), omega (arith, counted, e, p, long))
 
   -- the history may go as far as all edits
-  pub reach_keeps : IsDesk c queue book (beginning history.opening (c.shown.front.list ++ pending_of c queue)) right
-  reach_keeps = record { copy = d.copy; ahead = d.ahead; accepted = d.accepted; reached = begins_itself (c.shown.front.list ++ pending_of c queue); opening = d.opening; head = d.head }
+  pub reach_keeps : IsDesk c queue book (beginning history.opening (c.shown.front.list ++ pending_of c queue)) right digest
+  reach_keeps = record { copy = d.copy; ahead = d.ahead; accepted = d.accepted; reached = begins_itself (c.shown.front.list ++ pending_of c queue); opening = d.opening; head = d.head; digest_is = d.digest_is }
 
   pub ready : IsReady c queue (beginning history.opening (c.shown.front.list ++ pending_of c queue))
   ready = record { copy = d.copy; list = refl; accepted = d.accepted; opening = d.opening }
 
   -- the same edits pending in another way
-  pub keeps_by : (c' : CopiesSeen) (queue' : List CodeEdit) → c'.shown ≡ c.shown → pending_of c' queue' ≡ pending_of c queue → IsDesk c' queue' book history right
+  pub keeps_by : (c' : CopiesSeen) (queue' : List CodeEdit) → c'.shown ≡ c.shown → pending_of c' queue' ≡ pending_of c queue → IsDesk c' queue' book history right digest
   keeps_by c' queue' shown pending =
       let P : Version → List Edit → Type 0 = λ v es. IsBookOfItsList v × (book ≡ book_of v.book.limits (v.front.list ++ es)) × IsTrue (is_accepted v.book.limits (v.front.list ++ es)) × BeginsWith (v.front.list ++ es) history.list × (history.opening ≡ v.front.opening) in
       let t : P c'.shown (pending_of c' queue') = rw (shown, pending) (d.copy, d.ahead, d.accepted, d.reached, d.opening) in
-      record { copy = t.0; ahead = t.1; accepted = t.2; reached = t.3; opening = t.4; head = d.head }
+      record { copy = t.0; ahead = t.1; accepted = t.2; reached = t.3; opening = t.4; head = d.head; digest_is = d.digest_is ∙ ap (λ (v : Version). map_digest v.book.mappings) (sym shown) }
 
-  -- all edits published
+  -- all edits published, where the digest is that of the book of all
   pub publish_keeps : (c' : CopiesSeen) (queue' : List CodeEdit) → c'.shown ≡ published_version c (beginning history.opening (c.shown.front.list ++ pending_of c queue)) → pending_of c' queue' ≡ []
-      → IsDesk c' queue' book (beginning history.opening (c.shown.front.list ++ pending_of c queue)) right
-  publish_keeps c' queue' shown pending =
+      → (digest' : ℕ) → digest' ≡ map_digest book.mappings → IsDesk c' queue' book (beginning history.opening (c.shown.front.list ++ pending_of c queue)) right digest'
+  publish_keeps c' queue' shown pending digest' is =
       let all = c.shown.front.list ++ pending_of c queue in
       let limits : (book_of c.shown.book.limits all).limits ≡ c.shown.book.limits = (accepted_book c.shown.book.limits all d.accepted).same_limits in
       let nil : all ++ [] ≡ all = append-nil all in
@@ -191,7 +193,15 @@ module _ (c : CopiesSeen) (queue : List CodeEdit) (book : Book) (history : Begin
         subst (λ es. BeginsWith es all) (sym nil) (begins_itself all),
         refl,
       ) in
-      record { copy = t.0; ahead = t.1; accepted = t.2; reached = t.3; opening = t.4; head = d.head }
+      record {
+        copy = t.0;
+        ahead = t.1;
+        accepted = t.2;
+        reached = t.3;
+        opening = t.4;
+        head = d.head;
+        digest_is = is ∙ ap (λ (b : Book). map_digest b.mappings) d.ahead ∙ ap (λ (v : Version). map_digest v.book.mappings) (sym shown);
+      }
 
   pub committed_is : (c' : CopiesSeen) (queue' : List CodeEdit) → c'.shown ≡ published_version c (beginning history.opening (c.shown.front.list ++ pending_of c queue)) → pending_of c' queue' ≡ []
       → desk_seen c' queue' ≡ with_committed (desk_seen c queue)
@@ -217,7 +227,7 @@ module _ (c : CopiesSeen) (queue : List CodeEdit) (book : Book) (history : Begin
 
   -- the queue may be dropped, where the history goes no further than what is published
   pub drop_keeps : book.edits ≡ length c.shown.front.list + length queue → length history.list ≡ length c.shown.front.list → (queue' : List CodeEdit) → queue' ≡ [] → (book' : Book) → book' ≡ c.shown.book
-      → IsDesk c queue' book' history right
+      → IsDesk c queue' book' history right digest
   drop_keeps e long queue' empty book' same =
       let nil = all_published (none_waits e) in
       let all = c.shown.front.list ++ pending_of c queue in
@@ -230,6 +240,7 @@ module _ (c : CopiesSeen) (queue : List CodeEdit) (book : Book) (history : Begin
         reached = subst (λ es. BeginsWith es history.list) (sym nil) begins;
         opening = d.opening;
         head = d.head;
+        digest_is = d.digest_is;
       })
 
   pub dropped_is : book.edits ≡ length c.shown.front.list + length queue → (queue' : List CodeEdit) → queue' ≡ [] → desk_seen c queue' ≡ with_none_pending (desk_seen c queue)

@@ -1,10 +1,11 @@
 -- How what a desk and a reader hold is seen.
-use Rattle.std.specs.Prelude.{◌≡◌, true, IsTrue, List, [], ◌∷◌, ◌++◌, map, Option, Some, None}
+use Rattle.std.specs.Prelude.{◌≡◌, ℕ, true, IsTrue, List, [], ◌∷◌, ◌++◌, map, Option, Some, None}
 use Rattle.lost_spec.specs.Laws.{BeginsWith}
 use Rattle.lost_spec.specs.Book.{Book, Edit, book_of, is_accepted}
 use Rattle.lost_mapping.specs.declared.edit.Edit.{Edit as CodeEdit}
 use Rattle.lost_mapping.specs.Edit.{edit_of}
 use Rattle.lost_history.specs.History.{Opening, Beginning}
+use Rattle.lost_digest.specs.Digest.{map_digest}
 use Rattle.lost_desk.specs.declared.version.Version.{Version}
 use Rattle.lost_desk.specs.declared.version.Operation.{Operation}
 use Rattle.lost_desk.specs.declared.view.View.{View}
@@ -57,14 +58,16 @@ all_edits c queue = c.shown.front.list ++ pending_of c queue
 abbrev pub desk_seen : CopiesSeen → List CodeEdit → DeskSeen
 desk_seen c queue = record { opening = c.shown.front.opening; limits = c.shown.book.limits; published = c.shown.front.list; pending = pending_of c queue }
 
--- the published copy is the book of its list, and the book ahead that of all edits, which are accepted; the history begins them
-pub record IsDesk (c : CopiesSeen) (queue : List CodeEdit) (book : Book) (history : Beginning) (right : Opening) : Type 0 where
+-- the published copy is the book of its list, and the book ahead that of all edits, which are accepted; the history begins them; the digest is that of what is
+-- published
+pub record IsDesk (c : CopiesSeen) (queue : List CodeEdit) (book : Book) (history : Beginning) (right : Opening) (digest : ℕ) : Type 0 where
   pub copy : IsBookOfItsList c.shown
   pub ahead : book ≡ book_of c.shown.book.limits (c.shown.front.list ++ pending_of c queue)
   pub accepted : IsTrue (is_accepted c.shown.book.limits (c.shown.front.list ++ pending_of c queue))
   pub reached : BeginsWith (c.shown.front.list ++ pending_of c queue) history.list
   pub opening : history.opening ≡ c.shown.front.opening
   pub head : right ≡ history.opening
+  pub digest_is : digest ≡ map_digest c.shown.book.mappings
 
 -- a front has all edits of a desk, published and pending
 pub record IsReady (c : CopiesSeen) (queue : List CodeEdit) (f : Beginning) : Type 0 where

@@ -5,14 +5,17 @@ ghost use Rattle.lost_mapping.specs.Edit.{edit_of};
 ghost use Rattle.lost_history.specs.History.{beginning};
 ghost use Rattle.lost_desk.specs.Seen.{TellsBeginning, new_desk, published_book, staged_book, with_staged, with_committed, with_none_pending};
 ghost use Rattle.lost_desk.specs.Copies.{first_version};
+ghost use Rattle.lost_digest.specs.Digest.{map_digest};
 
 use crate::announce::announce;
 use crate::copies::Copies;
+use crate::digested::Digested;
 use crate::faults::CommitError;
 use crate::queue::publish_all;
 use crate::reader::Reader;
 use crate::told::Told;
 use lost_book::{Edit, EditError};
+use lost_digest::MapDigest;
 use lost_history::{Front, Head};
 use lost_routing::Routing;
 use std::alloc::AllocError;
@@ -27,7 +30,9 @@ pub struct Desk {
     /// Edits that the copies do not have yet, in order.
     queue: VecDeque<Edit>,
     /// The book of all edits, published and pending.
-    ahead: Routing,
+    ahead: Digested,
+    /// The digest of what is published.
+    digest: MapDigest,
     /// How far the history goes.
     front: Front,
     head: Head,
@@ -41,7 +46,7 @@ impl Model for Desk {
 
     ghost view = { λ d. desk_seen d.copies d.queue.items };
 
-    ghost invariant = { λ d. IsDesk d.copies d.queue.items d.ahead d.front d.head };
+    ghost invariant = { λ d. IsDesk d.copies d.queue.items d.ahead d.front d.head d.digest };
 }
 
 impl Desk {
@@ -101,6 +106,7 @@ impl Desk {
         let Ok(()) = publish_all(rt, &mut self.copies, &mut self.queue, &self.front) else {
             return Err(CommitError::Memory);
         };
+        self.digest = self.ahead.digest();
         Ok(edition)
     }
 
@@ -125,7 +131,7 @@ impl Desk {
             return Err(AllocError);
         }
         let copy = self.copies.shown().book.clone()?;
-        put(&mut self.ahead, copy);
+        put(&mut self.ahead, Digested::of(copy, self.digest));
         let alloc = *self.queue.allocator();
         put(&mut self.queue, VecDeque::new(alloc));
         Ok(())
@@ -149,7 +155,14 @@ impl Desk {
     pub fn staged(&self) -> &Routing
         ensures { result.now ≡ staged_book self.now }
     {
-        &self.ahead
+        self.ahead.book()
+    }
+
+    /// The digest of the mappings that are published.
+    pub fn digest(&self) -> MapDigest
+        ensures { result ≡ map_digest (published_book self.now).mappings }
+    {
+        self.digest
     }
 
     /// Tells the published list, for one reader to learn.
@@ -187,6 +200,7 @@ impl Desk {
             copies,
             queue: _queue,
             ahead: _ahead,
+            digest: _,
             front: _front,
             head: _head,
         } = self;
@@ -211,7 +225,8 @@ impl Desk {
         Desk {
             copies,
             queue,
-            ahead,
+            ahead: Digested::of(ahead, MapDigest::empty()),
+            digest: MapDigest::empty(),
             front,
             head,
         }

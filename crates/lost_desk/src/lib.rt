@@ -6,6 +6,7 @@ mod announce;
 mod answering;
 mod copies;
 mod desk;
+mod digested;
 mod faults;
 mod living;
 mod open;

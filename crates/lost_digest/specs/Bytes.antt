@@ -1,4 +1,4 @@
--- The bytes that stand for a mapping, and for no other one. (Own.)
+-- The bytes that stand for a mapping: all of it, each text and each list behind its length. (Own.)
 use Rattle.std.specs.Prelude.{ℕ, Bool, true, false, List, [], ◌∷◌, ◌++◌, length, Option, Some, None, ℤ}
 use Rattle.std.specs.Int.{w32, w64, to_be_bytes, cast_unsigned}
 use Rattle.std.specs.List.{flat_map}

@@ -97,6 +97,7 @@ fn call<R: Wait + Print>(
 {
     tell_and_learn(rt, desk, readers)?;
     println!(rt; "hits {}", cached.hits())?;
+    println!(rt; "digest {}", desk.digest().number())?;
     refuse(rt, desk, refused)
 }
 

@@ -10,20 +10,20 @@ use Rattle.lost_desk.proofs.desk.Desk.stage.Goals as goal
 
 pub invariant_of-self-2 : goal.invariant_of-self-2
 invariant_of-self-2 c =
-    stage_gives c.self.inside.copies c.self.inside.queue.items c.self.inside.ahead c.self.inside.front c.self.inside.head c.self.invariant c.args.edit c.in-Ok.copy c.push_back_reserved.new.self.items c.apply.new.self
+    stage_gives c.self.inside.copies c.self.inside.queue.items c.self.inside.ahead c.self.inside.front c.self.inside.head c.self.inside.digest c.self.invariant c.args.edit c.in-Ok.copy c.push_back_reserved.new.self.items c.apply.new.self
     (c.push_back_reserved.ensures.items ∙ ap (λ es. es ++ c.args.edit ∷ []) c.reserve.ensures.items) c.in_ok-apply.ensures.changed c.in-Ok.ensures (sym c.in_ok-check.ensures)
 
 pub overflow_sub-result : goal.overflow_sub-result
 overflow_sub-result c =
-    let d = stage_gives c.self.inside.copies c.self.inside.queue.items c.self.inside.ahead c.self.inside.front c.self.inside.head c.self.invariant c.args.edit c.in-Ok.copy c.push_back_reserved.new.self.items c.apply.new.self
+    let d = stage_gives c.self.inside.copies c.self.inside.queue.items c.self.inside.ahead c.self.inside.front c.self.inside.head c.self.inside.digest c.self.invariant c.args.edit c.in-Ok.copy c.push_back_reserved.new.self.items c.apply.new.self
     (c.push_back_reserved.ensures.items ∙ ap (λ es. es ++ c.args.edit ∷ []) c.reserve.ensures.items) c.in_ok-apply.ensures.changed c.in-Ok.ensures (sym c.in_ok-check.ensures) in
-    (counts c.self.inside.copies c.push_back_reserved.new.self.items c.apply.new.self c.self.inside.front c.self.inside.head d c.edition.result c.len.result c.shown.result.now c.edition.ensures c.len.ensures c.shown.ensures).0
+    (counts c.self.inside.copies c.push_back_reserved.new.self.items c.apply.new.self c.self.inside.front c.self.inside.head c.self.inside.digest d c.edition.result c.len.result c.shown.result.now c.edition.ensures c.len.ensures c.shown.ensures).0
 
 pub returns-clause-pending : goal.returns-clause-pending
 returns-clause-pending c =
-    let d = stage_gives c.self.inside.copies c.self.inside.queue.items c.self.inside.ahead c.self.inside.front c.self.inside.head c.self.invariant c.args.edit c.in-Ok.copy c.push_back_reserved.new.self.items c.apply.new.self
+    let d = stage_gives c.self.inside.copies c.self.inside.queue.items c.self.inside.ahead c.self.inside.front c.self.inside.head c.self.inside.digest c.self.invariant c.args.edit c.in-Ok.copy c.push_back_reserved.new.self.items c.apply.new.self
     (c.push_back_reserved.ensures.items ∙ ap (λ es. es ++ c.args.edit ∷ []) c.reserve.ensures.items) c.in_ok-apply.ensures.changed c.in-Ok.ensures (sym c.in_ok-check.ensures) in
-    (counts c.self.inside.copies c.push_back_reserved.new.self.items c.apply.new.self c.self.inside.front c.self.inside.head d c.edition.result c.len.result c.shown.result.now c.edition.ensures c.len.ensures c.shown.ensures).1
+    (counts c.self.inside.copies c.push_back_reserved.new.self.items c.apply.new.self c.self.inside.front c.self.inside.head c.self.inside.digest d c.edition.result c.len.result c.shown.result.now c.edition.ensures c.len.ensures c.shown.ensures).1
 
 pub returns-in_err-check-clause-memory_last : goal.returns-in_err-check-clause-memory_last
 returns-in_err-check-clause-memory_last c = λ memory.
