@@ -359,7 +359,7 @@ impl<'s> EventLoop<'s> {
     )
         ensures others { KeepsOthers self.old.clients self.new.clients key }
         ensures counted { self.new.counter
-            ≡ end_counted self.old.counter (connected_at self.old.clients key) cause }
+            ≡ end_counted self.old.counter (connected_at self.old.clients key) cause.entry }
     {
         let Some(connected) = self.clients.remove(key) else {
             return;
