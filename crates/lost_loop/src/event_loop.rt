@@ -396,7 +396,7 @@ impl<'s> EventLoop<'s> {
         ensures forgotten { flag_at self.new.spent.flags.items key ≡ false }
         ensures now { self.new.now ≡ self.old.now }
         ensures counted { self.new.counter
-            ≡ end_counted self.old.counter (connected_at self.old.clients key) cause }
+            ≡ end_counted self.old.counter (connected_at self.old.clients key) cause.entry }
     {
         self.spent.forget(key);
         let Some(connected) = self.clients.remove(key) else {

@@ -1,1 +1,2 @@
 pub mod LineKindLemmas
+pub mod TextLemmas

@@ -18,6 +18,10 @@ description name kind help =
 abbrev pub sample : (name : Text) (value : ℕ) → Text
 sample name value = name ++ 32 ∷ (decimal value ++ 10 ∷ [])
 
+-- a metric without labels: what it is for, of which type it is, and its value
+unfoldable pub metric : (kind : MetricType) (name help : Text) (value : ℕ) → Text
+metric kind name help value = description name (type_name kind) help ++ sample name value
+
 -- a label, and what stands behind it; its value has no quote, no backslash and no end of a line
 abbrev pub label : (name value rest : Text) → Text
 label name value rest = name ++ 61 ∷ 34 ∷ (value ++ 34 ∷ rest)

@@ -1,5 +1,5 @@
 -- What a server's threads count, and what the counts are after an event. (Own.)
-use Rattle.std.specs.Prelude.{◌≡◌, ℕ, ◌+◌, ◌-◌, ◌%◌, ◌^◌, ◌<◌, ◌≤◌, nat_le, ◌&&◌, true, false, List, replicate, slice_index, slice_set, if◌then◌else◌}
+use Rattle.std.specs.Prelude.{◌≡◌, ℕ, ◌+◌, ◌-◌, ◌%◌, ◌^◌, ◌<◌, nat_le, ◌&&◌, true, false, List, replicate, slice_index, slice_set, if◌then◌else◌}
 use Rattle.lost_status.specs.declared.connection_event.ConnectionEvent.{ConnectionEvent}
 use Rattle.lost_status.specs.declared.connection_event.ConnectionEvent.TheVariants.{Accepted, TurnedAway, Taken, Ended, Failed, Busy, Idle}
 use Rattle.lost_status.specs.declared.connection_event.ConnectionFigures.{ConnectionFigures}

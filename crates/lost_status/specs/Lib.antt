@@ -2,6 +2,7 @@ pub mod ReplyKind
 pub mod LineKind
 pub mod Figures
 pub mod Exposition
+pub mod Metrics
 pub mod Page
 pub mod Shown
 pub mod Status

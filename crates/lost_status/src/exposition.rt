@@ -1,6 +1,6 @@
 //! The lines of Prometheus' text format, version 0.0.4.
 ghost use Rattle.std.specs.Prelude.{◌≡◌, ◌++◌, OnOk, string_bytes};
-ghost use Rattle.lost_status.specs.Exposition.{description, sample, type_name};
+ghost use Rattle.lost_status.specs.Exposition.{description, metric, sample, type_name};
 
 use std::alloc::AllocError;
 use std::fmt::Write;
@@ -41,6 +41,7 @@ pub(crate) fn describe(
 }
 
 /// Writes a metric without labels: its help text, its type and its value.
+#[tactic(auto, unfolding(crate::specs::Exposition::metric))]
 pub(crate) fn write_metric(
     text: &mut String,
     kind: MetricType,
@@ -48,8 +49,7 @@ pub(crate) fn write_metric(
     help: &str,
     value: u64,
 ) -> Result<(), AllocError>
-    ensures { OnOk result (string_bytes text.new
-        ≡ string_bytes text.old ++ description name.now (type_name kind) help.now ++ sample name.now value) }
+    ensures { OnOk result (string_bytes text.new ≡ string_bytes text.old ++ metric kind name.now help.now value) }
 {
     describe(text, kind, name, help)?;
     write_sample(text, name, value)

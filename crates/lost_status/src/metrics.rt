@@ -1,12 +1,13 @@
 //! The numbers of a server in Prometheus' text format, version 0.0.4 (own names).
-ghost use Rattle.std.specs.Prelude.{◌≡◌, ◌∷◌, ◌++◌, OnOk, codes, decimal, string_bytes};
-ghost use Rattle.lost_writing.specs.DeskReplies.{IsCode, refusal_name as refusal_name_of};
-ghost use Rattle.lost_status.specs.Exposition.{counted, label, labelled};
+ghost use Rattle.std.specs.Prelude.{◌≡◌, ◌++◌, OnOk, string_bytes};
+ghost use Rattle.lost_writing.specs.DeskReplies.{IsCode};
+ghost use Rattle.lost_status.specs.Exposition.{metric};
+ghost use Rattle.lost_status.specs.Metrics.{code_metric, connection_counts, connection_metrics, desk_metrics, flag, kind_metric, kind_sample, state_metrics, worker_metrics};
 
 use crate::connection_event::ConnectionFigures;
 use crate::desk_event::{CODES, DeskFigures, LAST_CODE};
 use crate::exposition::MetricType::{Counter, Gauge};
-use crate::exposition::{describe, write_metric};
+use crate::exposition::{MetricType, describe, write_metric};
 use crate::reply_kind::{KINDS, ReplyKind};
 use crate::snapshot::Snapshot;
 use crate::status::VERSION;
@@ -21,7 +22,8 @@ const ROOM: usize = 8_192;
 /// All metrics, each with its help text.
 pub(crate) fn metrics_text(alloc: Global, now: &Snapshot) -> Result<String, AllocError> {
     let mut text = String::with_capacity(alloc, ROOM)?;
-    write_server(&mut text, now)?;
+    write_version(&mut text)?;
+    write_state(&mut text, now)?;
     let digest = MapDigest::of_number(now.desk.digest).text(alloc)?;
     write_map(&mut text, digest.as_str())?;
     write_desk(&mut text, &now.desk)?;
@@ -32,21 +34,26 @@ pub(crate) fn metrics_text(alloc: Global, now: &Snapshot) -> Result<String, Allo
     Ok(text)
 }
 
-/// Writes the version and the uptime.
-fn write_server(text: &mut String, now: &Snapshot) -> Result<(), AllocError> {
+/// Writes the version.
+fn write_version(text: &mut String) -> Result<(), AllocError> {
     describe(
         text,
         Gauge,
         "lostd_build_info",
         "The version of the program, as a label; the value is 1.",
     )?;
-    write!(text, "lostd_build_info{{version=\"{VERSION}\"}} 1\n")?;
-    write_metric(
+    write!(text, "lostd_build_info{{version=\"{VERSION}\"}} 1\n")
+}
+
+/// Writes whether the server is ready, and the uptime.
+fn write_state(text: &mut String, now: &Snapshot) -> Result<(), AllocError>
+    ensures { OnOk result (string_bytes text.new ≡ string_bytes text.old ++ state_metrics now.now) }
+{
+    write_flag(
         text,
-        Gauge,
         "lostd_ready",
         "Whether the server answers from its map: 1 once it does, 0 before.",
-        u64::from(now.is_ready),
+        now.is_ready,
     )?;
     write_metric(
         text,
@@ -54,7 +61,16 @@ fn write_server(text: &mut String, now: &Snapshot) -> Result<(), AllocError> {
         "lostd_uptime_seconds",
         "For how long the server has run, in seconds.",
         now.uptime,
-    )
+    )?;
+    Ok(())
+}
+
+/// Writes a gauge that is 1 for yes and 0 for no.
+fn write_flag(text: &mut String, name: &str, help: &str, is_so: bool) -> Result<(), AllocError>
+    ensures { OnOk result (string_bytes text.new
+        ≡ string_bytes text.old ++ metric MetricType.Gauge name.now help.now (flag is_so)) }
+{
+    write_metric(text, Gauge, name, help, u64::from(is_so))
 }
 
 /// Writes the digest of what is held.
@@ -77,7 +93,9 @@ fn write_digest(text: &mut String, digest: &str, value: u64) -> Result<(), Alloc
 }
 
 /// Writes what the desk holds, and when it last committed.
-fn write_desk(text: &mut String, desk: &DeskFigures) -> Result<(), AllocError> {
+fn write_desk(text: &mut String, desk: &DeskFigures) -> Result<(), AllocError>
+    ensures { OnOk result (string_bytes text.new ≡ string_bytes text.old ++ desk_metrics desk.now) }
+{
     write_metric(
         text,
         Gauge,
@@ -106,13 +124,13 @@ fn write_desk(text: &mut String, desk: &DeskFigures) -> Result<(), AllocError> {
         "When the desk last committed, in seconds since 1970; 0 before its first commit.",
         desk.last_commit,
     )?;
-    write_metric(
+    write_flag(
         text,
-        Gauge,
         "lostd_desk_connected",
         "Whether a desk is connected: 1 or 0.",
-        u64::from(desk.is_open),
-    )
+        desk.is_open,
+    )?;
+    Ok(())
 }
 
 /// Writes the number of replies by kind.
@@ -124,15 +142,22 @@ fn write_replies(text: &mut String, replies: &[u64; KINDS]) -> Result<(), AllocE
         "Replies to request lines, by kind; each error is a kind of its own.",
     )?;
     for kind in ReplyKind::ALL {
-        write_kind(text, kind.name(), replies[kind.index()])?;
+        write_kind(text, kind, replies)?;
     }
     Ok(())
 }
 
+/// Writes the number of replies of a kind.
+fn write_kind(text: &mut String, kind: ReplyKind, replies: &[u64; KINDS]) -> Result<(), AllocError>
+    ensures { OnOk result (string_bytes text.new ≡ string_bytes text.old ++ kind_metric replies.now kind) }
+{
+    write_sample_of(text, kind.name(), replies[kind.index()])
+}
+
 /// Writes the number of replies of the kind with this name.
-fn write_kind(text: &mut String, name: &str, count: u64) -> Result<(), AllocError>
-    ensures { OnOk result (string_bytes text.new ≡ string_bytes text.old
-        ++ labelled (codes "lostd_replies_total") (label (codes "kind") name.now (counted count))) }
+#[tactic(auto, unfolding(crate::specs::Metrics::kind_sample))]
+fn write_sample_of(text: &mut String, name: &str, count: u64) -> Result<(), AllocError>
+    ensures { OnOk result (string_bytes text.new ≡ string_bytes text.old ++ kind_sample name.now count) }
 {
     write!(text, "lostd_replies_total{{kind=\"{name}\"}} {count}\n")
 }
@@ -146,19 +171,18 @@ fn write_refusals(text: &mut String, refusals: &[u64; CODES]) -> Result<(), Allo
         "Lines of the desk that were refused, by code.",
     )?;
     for code in 1..=LAST_CODE {
-        write_code(text, code, refusals[usize::from(code) - 1])?;
+        write_code(text, code, refusals)?;
     }
     Ok(())
 }
 
 /// Writes the number of lines refused with a code. The caller has checked that the code is in the table.
-fn write_code(text: &mut String, code: u8, count: u64) -> Result<(), AllocError>
+fn write_code(text: &mut String, code: u8, refusals: &[u64; CODES]) -> Result<(), AllocError>
     requires { IsCode code }
-    ensures { OnOk result (string_bytes text.new ≡ string_bytes text.old
-        ++ labelled (codes "lostd_refusals_total") (label (codes "code") (decimal code)
-        (44 ∷ label (codes "name") (refusal_name_of code) (counted count)))) }
+    ensures { OnOk result (string_bytes text.new ≡ string_bytes text.old ++ code_metric refusals.now code) }
 {
     let name = refusal_name(code);
+    let count = refusals[usize::from(code) - 1];
     write!(
         text,
         "lostd_refusals_total{{code=\"{code}\",name=\"{name}\"}} {count}\n"
@@ -166,7 +190,22 @@ fn write_code(text: &mut String, code: u8, count: u64) -> Result<(), AllocError>
 }
 
 /// Writes the counts of query connections.
-fn write_connections(text: &mut String, connections: &ConnectionFigures) -> Result<(), AllocError> {
+fn write_connections(text: &mut String, connections: &ConnectionFigures) -> Result<(), AllocError>
+    ensures { OnOk result (string_bytes text.new ≡ string_bytes text.old ++ connection_metrics connections.now) }
+{
+    write_connection_counts(text, connections, connections.open(), connections.waiting())
+}
+
+/// Writes the counts of query connections, of which so many are open, and so many wait.
+fn write_connection_counts(
+    text: &mut String,
+    connections: &ConnectionFigures,
+    opened: u64,
+    waiting: u64,
+) -> Result<(), AllocError>
+    ensures { OnOk result (string_bytes text.new
+        ≡ string_bytes text.old ++ connection_counts connections.now opened waiting) }
+{
     write_metric(
         text,
         Counter,
@@ -179,14 +218,14 @@ fn write_connections(text: &mut String, connections: &ConnectionFigures) -> Resu
         Gauge,
         "lostd_connections_open",
         "Query connections that have not ended, those that wait included.",
-        connections.open(),
+        opened,
     )?;
     write_metric(
         text,
         Gauge,
         "lostd_connections_waiting",
         "Query connections that wait for a worker.",
-        connections.waiting(),
+        waiting,
     )?;
     write_metric(
         text,
@@ -201,11 +240,14 @@ fn write_connections(text: &mut String, connections: &ConnectionFigures) -> Resu
         "lostd_connections_refused_total",
         "Query connections that were closed at once, past a limit.",
         connections.turned_away,
-    )
+    )?;
+    Ok(())
 }
 
 /// Writes the counts of workers, and what they are doing.
-fn write_workers(text: &mut String, now: &Snapshot) -> Result<(), AllocError> {
+fn write_workers(text: &mut String, now: &Snapshot) -> Result<(), AllocError>
+    ensures { OnOk result (string_bytes text.new ≡ string_bytes text.old ++ worker_metrics now.now) }
+{
     write_metric(
         text,
         Gauge,
@@ -226,5 +268,6 @@ fn write_workers(text: &mut String, now: &Snapshot) -> Result<(), AllocError> {
         "lostd_cache_hits_total",
         "How often a worker found the place of a request in its cache.",
         now.replies.cache_hits,
-    )
+    )?;
+    Ok(())
 }

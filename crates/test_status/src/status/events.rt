@@ -4,10 +4,11 @@
 //! |---|---|
 //! | `ready` | the server answers from its map |
 //! | `reply WORKER LINE` | a worker gives a reply |
-//! | `busy WORKER`, `idle WORKER` | a worker takes a connection, and is done with it |
+//! | `busy WORKER`, `idle WORKER` | a worker serves a connection, and serves none any more |
 //! | `hits WORKER COUNT` | a worker's cache counts so many hits |
-//! | `accepted`, `taken`, `ended`, `failed` | a query connection is accepted, is taken by a worker, ends well or in a
-//! fault | | `turned away` | a query connection is refused |
+//! | `accepted`, `turned away` | a query connection is accepted, and is closed at once |
+//! | `taken WORKER`, `ended WORKER`, `failed WORKER` | a worker takes a query connection, which ends well, or in a fault |
+//! | `lost` | a query connection is accepted, and no worker takes it |
 //! | `refused CODE` | the desk refuses a line |
 //! | `book EDITION MAPPINGS PENDING DIGEST` | the desk's edition, how many mappings and pending edits it has, and the
 //! digest of the mappings, a number |
@@ -59,7 +60,8 @@ impl<'s> Threads<'s> {
     ) -> Result<(), AllocError> {
         let (word, rest) = event.split_once(' ').unwrap_or((event, ""));
         match word {
-            "reply" | "busy" | "idle" | "hits" => return self.at_worker(alloc, word, rest),
+            "reply" | "hits" => return self.reply(alloc, word, rest),
+            "taken" | "ended" | "failed" | "busy" | "idle" => self.at_worker(word, rest),
             "after" => watch.pass(number_of(rest)),
             "ready" => self.status.set_ready(),
             _ => self.at_connection(event),
@@ -67,42 +69,49 @@ impl<'s> Threads<'s> {
         Ok(())
     }
 
-    /// Lets an event of a query connection happen, or one of the desk. Connections are those of the first worker.
+    /// Lets an event of a query connection happen where they are accepted, or one of the desk.
     fn at_connection(&mut self, event: &str) {
         match event {
             "accepted" => self.acceptor.count(ConnectionEvent::Accepted),
             "turned away" => self.acceptor.count(ConnectionEvent::TurnedAway),
-            "taken" => self.at_first(ConnectionEvent::Taken),
-            "ended" => self.at_first(ConnectionEvent::Ended),
-            "failed" => self.at_first(ConnectionEvent::Failed),
+            "lost" => {
+                self.acceptor.count(ConnectionEvent::Accepted);
+                self.acceptor.count(ConnectionEvent::Taken);
+                self.acceptor.count(ConnectionEvent::Failed);
+            }
             _ => self.at_desk(event),
         }
     }
 
-    /// Lets an event of a query connection happen at the first worker.
-    fn at_first(&mut self, event: ConnectionEvent) {
-        if let Some(worker) = self.workers.get_mut(0) {
-            worker.connections.count(event);
-        }
+    /// Lets an event of a query connection happen at a worker.
+    fn at_worker(&mut self, word: &str, number: &str) {
+        let number = number.parse::<usize>().unwrap_or(usize::MAX);
+        let Some(worker) = self.workers.get_mut(number) else {
+            return;
+        };
+        worker.connections.count(match word {
+            "taken" => ConnectionEvent::Taken,
+            "ended" => ConnectionEvent::Ended,
+            "failed" => ConnectionEvent::Failed,
+            "busy" => ConnectionEvent::Busy,
+            _ => ConnectionEvent::Idle,
+        });
     }
 
-    /// Lets an event of a worker happen.
-    fn at_worker(&mut self, alloc: Global, word: &str, rest: &str) -> Result<(), AllocError> {
+    /// Lets a worker give a reply, or its cache count its hits.
+    fn reply(&mut self, alloc: Global, word: &str, rest: &str) -> Result<(), AllocError> {
         let (number, rest) = rest.split_once(' ').unwrap_or((rest, ""));
         let number = number.parse::<usize>().unwrap_or(usize::MAX);
         let Some(worker) = self.workers.get_mut(number) else {
             return Ok(());
         };
-        match word {
-            "reply" => {
-                // Its line ends in byte 10.
-                let line = format!(in alloc; "{rest}\n")?;
-                worker.replies.count_reply(line.as_bytes());
-            }
-            "hits" => worker.replies.set_cache_hits(number_of(rest)),
-            "busy" => worker.connections.count(ConnectionEvent::Busy),
-            _ => worker.connections.count(ConnectionEvent::Idle),
+        if word == "hits" {
+            worker.replies.set_cache_hits(number_of(rest));
+            return Ok(());
         }
+        // Its line ends in byte 10.
+        let line = format!(in alloc; "{rest}\n")?;
+        worker.replies.count_reply(line.as_bytes());
         Ok(())
     }
 
