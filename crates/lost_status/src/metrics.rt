@@ -1,7 +1,7 @@
 //! The numbers of a server in Prometheus' text format, version 0.0.4 (own names).
-ghost use Rattle.std.specs.Prelude.{◌≡◌, ◌++◌, OnOk, string_bytes};
+ghost use Rattle.std.specs.Prelude.{◌≡◌, ◌++◌, OnOk, codes, string_bytes};
 ghost use Rattle.lost_writing.specs.DeskReplies.{IsCode};
-ghost use Rattle.lost_status.specs.Exposition.{metric};
+ghost use Rattle.lost_status.specs.Exposition.{counted, label, labelled, metric};
 ghost use Rattle.lost_status.specs.Metrics.{code_metric, connection_counts, connection_metrics, desk_metrics, flag, kind_metric, kind_sample, state_metrics, worker_metrics};
 
 use crate::connection_event::ConnectionFigures;
