@@ -13,6 +13,8 @@ pub(crate) struct DeskCounting<'r, 's, R: Clock> {
 }
 
 impl<R: Clock> DeskWitness for DeskCounting<'_, '_, R> {
+    ghost step = { λ old reply new. Unit {0} };
+
     fn saw(&mut self, _line: Option<&[u8]>, reply: DeskReply, desk: &Desk) {
         match reply {
             DeskReply::Staged(_) => {}
@@ -30,7 +32,9 @@ impl<R: Clock> DeskWitness for DeskCounting<'_, '_, R> {
 /// Tells the status what a desk holds: how many edits are published, how many mappings those leave, and how many edits
 /// are pending.
 pub fn tell_book(status: &Status, desk: &Desk) {
-    let edition = desk.edition();
-    let pending = desk.staged().edition().saturating_sub(edition);
-    status.set_book(edition, desk.published().len() as u64, pending);
+    status.set_book(
+        desk.edition(),
+        desk.published().len() as u64,
+        desk.pending(),
+    );
 }
