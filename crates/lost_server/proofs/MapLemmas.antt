@@ -1,11 +1,11 @@
 -- What a run over the lines of a map comes to: its counts, and the lists if no line is refused.
-use Rattle.std.proofs.Common.{◌≡◌, ◌≢◌, ℕ, ◌+◌, Bool, true, false, if◌then◌else◌, cond, List, [], ◌∷◌, ◌++◌, map, length, Option, None, Some, IfSome, ◌==◌, get_or, refl, ap, sym, subst, ◌∙◌, append_assoc, append-nil, add_assoc, arith}
+use Rattle.std.proofs.Common.{◌≡◌, ◌≢◌, ℕ, ◌+◌, Bool, true, false, if◌then◌else◌, cond, List, [], ◌∷◌, ◌++◌, map, length, Option, None, Some, IfSome, ◌==◌, get_or, refl, ap, sym, ◌∙◌, append_assoc, append-nil, add_assoc, arith}
 use Rattle.std.specs.List.{count_by}
 use Rattle.std.proofs.lemmas.Bool.{eqb-false}
 use Rattle.std.proofs.lemmas.List.Sums.{sum_by-cons}
 use Rattle.serde_json.proofs.OnLiterals.{serde_json_on_literals}
 use Rattle.lost_spec.specs.Text.{Text}
-use Rattle.lost_spec.specs.Book.{Limits}
+use Rattle.lost_spec.specs.Book.{Limits, Edit}
 use Rattle.lost_writing.specs.declared.desk_reply.DeskReply.{DeskReply}
 use Rattle.lost_writing.specs.declared.desk_reply.DeskReply.TheVariants.{Staged, Committed, Refused}
 use Rattle.lost_writing.specs.DeskReplies.{desk_text}
@@ -88,7 +88,7 @@ module _ (limits : Limits) (start : Lists) where
   unrefused_run before (text ∷ lines) [] old new none from run = absurd run
   unrefused_run before (text ∷ lines) (first ∷ given) old new none from (cut, next, is_cut, step, rest) =
       unrefused_run (before ++ unmarked text ∷ []) lines given next new (none_later first given none)
-          (unrefused_line before text first (none_first first given none) next old cut from is_cut step) rest
+      (unrefused_line before text first (none_first first given none) next old cut from is_cut step) rest
       ∙ ap lists_behind (append_assoc before (unmarked text ∷ []) (map unmarked lines))
 
 -- ---- the counts
@@ -128,9 +128,9 @@ module _ {V : Type 0} (found_of : V → MapFound) where
     counted_run old new (line ∷ lines) [] line_count refused_count lines_are refused_are run = absurd run
     counted_run old new (line ∷ lines) (reply ∷ replies) line_count refused_count lines_are refused_are (cut, next, is_cut, one, rest) =
         let more = counted_run next new lines replies (line_count + 1) (refused_count + count_by is_refusal (one.given ∷ []))
-            (ap (λ (f : MapFound). f.lines) one.saw ∙ counts_on _ _ lines_are)
-            (ap (λ (f : MapFound). f.refused) one.saw ∙ refused_on one.given _ _ refused_are)
-            rest in
+        (ap (λ (f : MapFound). f.lines) one.saw ∙ counts_on _ _ lines_are)
+        (ap (λ (f : MapFound). f.refused) one.saw ∙ refused_on one.given _ _ refused_are)
+        rest in
         record {
           given = one.given ∷ more.given;
           are_said = ap (λ r. r ∷ replies) one.is_said ∙ ap (λ rs. said one.given ∷ rs) more.are_said;
@@ -162,9 +162,14 @@ all_read : (unread : Option Text) (lines : List Text) (limits : Limits) (start l
 all_read None lines limits start lists read are = tt
 all_read (Some bytes) lines limits start lists read are = ap (λ ls. lists_at (desk_terms limits) start (map unmarked ls)) (sym read) ∙ sym are
 
+none_left : (es : List Edit) → length es ≡ 0 → es ≡ []
+none_left [] none = refl
+none_left (e ∷ es) none = absurd (omega arith)
+
 -- what is published by all lines, where none is refused and nothing is pending behind them
-pub whole_map : (unread : Option Text) (old mid new : DeskSeen) (found : MapFound) → IsMapRead unread old (lists_of mid) found → found.refused ≡ 0 → mid.pending ≡ [] → new ≡ with_none_pending mid → IsWhole unread old new
-whole_map unread old mid new found m none nothing dropped =
+pub whole_map : (unread : Option Text) (old mid new : DeskSeen) (found : MapFound) → IsMapRead unread old (lists_of mid) found → found.refused ≡ 0 → (pending : ℕ) → pending ≡ length mid.pending → pending ≡ 0 → new ≡ with_none_pending mid → IsWhole unread old new
+whole_map unread old mid new found m none pending pending_are zero dropped =
+    let nothing : mid.pending ≡ [] = none_left mid.pending (sym pending_are ∙ zero) in
     let unrefused : count_by is_refusal m.given ≡ 0 = omega (arith, m.refused_are, none) in
     let are : lists_of mid ≡ lists_at (desk_terms old.limits) (lists_of old) (map unmarked m.lines) = unrefused_run old.limits (lists_of old) [] m.lines m.given (lists_of old) (lists_of mid) unrefused refl m.run in
     let ends : lists_of mid ≡ record { accepted = new.published; published = new.published } =
