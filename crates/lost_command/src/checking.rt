@@ -7,10 +7,9 @@ use crate::replaying::{begun, turns_of};
 use clap::ArgMatches;
 use lost_mapping::{Moment, Source};
 use lost_replay::{Counts, Findings, ServeError, Turns, Watched, check_lines};
-use std::fs;
 use std::fs::Files;
-use std::io;
 use std::io::{ErrorKind, Read, Write};
+use std::{fs, io};
 
 /// Checks the files that the arguments name, each by itself, or else standard input. What is found goes to standard
 /// output line by line, and then one line of counts. If standard error is a terminal, as `is_terminal` says, the
@@ -150,4 +149,3 @@ impl<R: Print + Eprint + Files + AllocGlobal> Checking<'_, R> {
 fn unwritten(_error: io::Error) -> ExitReason {
     ExitReason::Run(ServeError::Write)
 }
-

@@ -144,6 +144,13 @@ impl Desk {
         self.copies.shown().front.len()
     }
 
+    /// The number of pending edits.
+    pub fn pending(&self) -> u64
+        ensures { result ≡ length self.now.pending }
+    {
+        self.ahead.edition() - self.copies.shown().front.len()
+    }
+
     /// The book of the published edits.
     pub fn published(&self) -> &Routing
         ensures { result.now ≡ published_book self.now }

@@ -24,7 +24,7 @@ pub use lost_lines::{Counts, Gate, NoGate, ServeError, Turns, Watched};
 pub use lost_replay::{Replayer, replay};
 pub use lost_status::VERSION;
 pub use map::{MapFound, load_map};
-pub use order::{ConnectionSettings, ServerOrder};
+pub use order::{ConnectionSettings, OnRefusal, Progress, ServerOrder};
 pub use run_fault::RunFault;
 pub use running::serve;
 pub use server_fault::{MapFault, ServerFault};

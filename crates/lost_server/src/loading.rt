@@ -28,8 +28,8 @@ pub(crate) fn load_from<R: Wait + Eprint + Input + Files + AllocGlobal>(
             rt.alloc(),
             rt.reader(),
             desk,
-            order.keeps_going,
-            order.shows_progress,
+            order.on_refusal,
+            order.progress,
         )
     } else {
         load_file(rt, path, order, desk)
@@ -53,14 +53,7 @@ fn load_file<R: Wait + Eprint + Files + AllocGlobal>(
         return Err(MapFault::Unopened(ErrorKind::IsADirectory));
     }
     match fs::open(rt, path) {
-        Ok(file) => load_map(
-            rt,
-            rt.alloc(),
-            file,
-            desk,
-            order.keeps_going,
-            order.shows_progress,
-        ),
+        Ok(file) => load_map(rt, rt.alloc(), file, desk, order.on_refusal, order.progress),
         Err(error) => Err(MapFault::Unopened(error.kind())),
     }
 }

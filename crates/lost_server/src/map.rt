@@ -1,8 +1,9 @@
 //! The map that a server reads before it listens.
-ghost use Rattle.std.specs.Prelude.{◌≡◌, [], Option, OnOk};
-ghost use Rattle.lost_server.specs.Map.{IsLoaded};
-ghost use Rattle.lost_worker.specs.Desking.{IsSameDesk};
+ghost use Rattle.std.specs.Prelude.{◌≡◌, [], IfOk, IfErr, OnOk};
+ghost use Rattle.lost_server.specs.Map.{IsFault, IsLoaded, IsMapRead, IsWhole};
+ghost use Rattle.lost_worker.specs.Desking.{IsSameDesk, lists_of};
 
+use crate::order::{OnRefusal, Progress};
 use crate::server_fault::MapFault;
 use lost_causes::refusal_cause;
 use lost_desk::Desk;
@@ -35,30 +36,35 @@ pub struct MapFound {
 }
 
 /// Answers the desk lines of a map as those of a desk's connection, without a limit on their number. For each refused
-/// line it writes the number, from 1, the code and its name, and the cause to standard error. With `shows_progress` it
-/// writes there after each 100,000 lines how many were read. Afterwards nothing is pending.
+/// line it writes the number, from 1, the code and its name, and the cause to standard error. If the progress is shown,
+/// it writes there after each 100,000 lines how many were read. Afterwards nothing is pending.
 ///
 /// # Errors
 ///
-/// [`MapFault::Unread`] if the map could not be read. Unless it `keeps_going`, [`MapFault::Refused`] if a line was
-/// refused, or if no commit follows the last edit. If it does, such edits are dropped and reported, and
-/// [`MapFault::Memory`] says that they could not be. After an error the edits of the accepted lines stand.
+/// [`MapFault::Unread`] if the map could not be read. If it is to stop, [`MapFault::Refused`] if a line was refused, or
+/// if no commit follows the last edit. If it is to go on, such edits are dropped and reported, and [`MapFault::Memory`]
+/// says that they could not be. After an error the edits of the accepted lines stand.
 pub fn load_map<T: Wait + Eprint, I: Read + Drop>(
     rt: &T,
     alloc: Global,
     input: I,
     desk: &mut Desk,
-    keeps_going: bool,
-    shows_progress: bool,
+    on_refusal: OnRefusal,
+    progress: Progress,
 ) -> Result<MapFound, MapFault>
     // Each line of the map is answered by the lists of the desk, which change as the lines say.
-    ensures loaded { OnOk result (IsLoaded (I.remaining input) desk.old desk.new) }
+    ensures loaded { IfOk result (λ found. IsLoaded (I.remaining input) desk.old desk.new found) }
+
+    // If it is to stop, the published edits are exactly those that the map's lines make.
+    ensures whole { on_refusal ≡ OnRefusal.Stop → OnOk result (IsWhole (I.remaining input) desk.old desk.new) }
+    ensures none_refused { on_refusal ≡ OnRefusal.Stop → IfOk result (λ found. found.refused ≡ 0) }
+    ensures faults { IfErr result (λ fault. IsFault (I.remaining input) desk.old desk.new on_refusal fault) }
     ensures nothing_pending { OnOk result (desk.new.pending ≡ []) }
     ensures same { IsSameDesk desk.old desk.new }
 {
-    let found = read_map(rt, alloc, input, desk, shows_progress)?;
-    let pending = desk.staged().edition().saturating_sub(desk.edition());
-    if !keeps_going && (found.refused > 0 || pending > 0) {
+    let found = read_map(rt, alloc, input, desk, progress)?;
+    let pending = desk.pending();
+    if on_refusal == OnRefusal::Stop && (found.refused > 0 || pending > 0) {
         return Err(MapFault::Refused {
             refused: found.refused,
             pending,
@@ -84,9 +90,10 @@ fn read_map<T: Wait + Eprint, I: Read + Drop>(
     alloc: Global,
     input: I,
     desk: &mut Desk,
-    shows_progress: bool,
+    progress: Progress,
 ) -> Result<MapFound, MapFault>
-    ensures loaded { OnOk result (IsLoaded (I.remaining input) desk.old desk.new) }
+    ensures answered { IfOk result (λ found. IsMapRead (I.remaining input) desk.old (lists_of desk.new) found) }
+    ensures faults { IfErr result (λ fault. fault ≡ MapFault.Unread) }
     ensures same { IsSameDesk desk.old desk.new }
 {
     let mut input = Watched::new(input);
@@ -98,7 +105,7 @@ fn read_map<T: Wait + Eprint, I: Read + Drop>(
             lines: 0,
             refused: 0,
         },
-        shows_progress,
+        progress,
     };
     match serve_desk_with(
         rt,
@@ -120,11 +127,14 @@ struct MapReading<'r, R: Eprint> {
     rt: &'r R,
     alloc: Global,
     found: MapFound,
-    shows_progress: bool,
+    progress: Progress,
 }
 
 impl<R: Eprint> DeskWitness for MapReading<'_, R> {
-    ghost step = { λ _ _ _. Unit {0} };
+    ghost use Rattle.std.specs.Prelude.{◌≡◌};
+    ghost use Rattle.lost_server.specs.Map.{counted};
+
+    ghost step = { λ old reply new. new.found ≡ counted old.found reply };
 
     fn saw(&mut self, line: Option<&[u8]>, reply: DeskReply, desk: &Desk) {
         self.found.lines = self.found.lines.saturating_add(1);
@@ -134,7 +144,7 @@ impl<R: Eprint> DeskWitness for MapReading<'_, R> {
             let line = refusal_line(self.alloc, lines, code, line, desk.staged());
             say(self.rt, line);
         }
-        if self.shows_progress && lines % STEP == 0 {
+        if self.progress == Progress::Shown && lines % STEP == 0 {
             say(
                 self.rt,
                 format!(in self.alloc; "lostd: --map: {lines} lines\n"),

@@ -4,6 +4,24 @@ use lost_mapping::Source;
 use lost_sockets::Addresses;
 use std::time::Duration;
 
+/// What happens to a map with a refused line, or with edits behind its last commit.
+#[derive(Clone, Copy, PartialEq, Eq, Debug)]
+pub enum OnRefusal {
+    /// It is not loaded.
+    Stop,
+    /// It is loaded without them.
+    GoOn,
+}
+
+/// Whether the progress through a long map is reported.
+#[derive(Clone, Copy, PartialEq, Eq, Debug)]
+pub enum Progress {
+    /// It is not.
+    Hidden,
+    /// It is, on standard error.
+    Shown,
+}
+
 /// How a server treats its connections.
 #[derive(Clone, Copy, PartialEq, Eq, Debug)]
 pub struct ConnectionSettings {
@@ -25,10 +43,10 @@ pub struct ServerOrder<'a> {
     pub addresses: Addresses<'a>,
     /// The file of desk lines that is read before the server listens; `-` for standard input.
     pub map: Option<&'a str>,
-    /// Whether the server starts even if lines of its map were refused or are not committed.
-    pub keeps_going: bool,
+    /// What happens if lines of its map are refused or not committed.
+    pub on_refusal: OnRefusal,
     /// Whether the progress through a long map is reported.
-    pub shows_progress: bool,
+    pub progress: Progress,
     /// How many threads answer requests: 1 to 64.
     pub workers: u32,
     /// How many query connections are served, beside one of a desk. Without it there is no end, and desks are served

@@ -1,3 +1,4 @@
+pub mod CarryLemmas
 pub mod ServingLemmas
 pub mod SumLemmas
 pub mod StageLemmas

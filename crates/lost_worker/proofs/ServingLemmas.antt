@@ -1,18 +1,17 @@
 -- A stream that is served by what refers to a replier and to moments is one that a worker answers.
-use Rattle.std.proofs.Common.{◌≡◌, ◌⊎◌, inl, inr, ℕ, Bool, List, [], ◌∷◌, ◌++◌, Option, Result, Ok, Err, sym, ap, ◌∙◌, append_assoc, append-nil}
-use Rattle.std.proofs.lemmas.Result.{IfOk-weaker, on_err_weaker}
+use Rattle.std.proofs.Common.{◌≡◌, ℕ, Bool, List, [], ◌++◌, Result, refl, sym, ap, ◌∙◌, append_assoc, append-nil}
 use Rattle.lost_spec.specs.Text.{Text}
 use Rattle.lost_spec.specs.Moment.{Instant}
 use Rattle.lost_desk.specs.Seen.{ReaderSeen}
 use Rattle.lost_lines.specs.declared.counts.Counts.{Counts}
 use Rattle.lost_lines.specs.declared.fault.ServeError.{ServeError}
 use Rattle.lost_lines.specs.declared.turns.Turns.{Turns}
-use Rattle.lost_lines.specs.Run.{Cut, Whole, TooLong, Unread, Reply, Run}
-use Rattle.lost_lines.specs.Stream.{IsServed, IsCutOff, IsWholeSoFar, IsSpent, IsHeldBack}
+use Rattle.lost_lines.specs.Run.{Cut, Whole, TooLong, Unread, Reply}
 use Rattle.lost_lines.specs.Outcome.{Passage, IsOutcome}
 use Rattle.lost_worker.specs.declared.serving.Serving.{Serving}
 use Rattle.lost_worker.specs.Lines.{Worker, Answers, HasSeenMore}
 use Rattle.lost_worker.specs.Serving.{worker_of, Serves}
+use Rattle.lost_worker.proofs.CarryLemmas.{kept_at, carried}
 
 pub HasSeenMore-none : (a b : ReaderSeen) → b ≡ a → HasSeenMore a b
 HasSeenMore-none a b same = record { begins = ([], ap (λ (r : ReaderSeen). r.seen) same ∙ sym (append-nil a.seen)); opening = ap (λ (r : ReaderSeen). r.opening) same; limits = ap (λ (r : ReaderSeen). r.limits) same }
@@ -30,115 +29,32 @@ seen_by name old new (Whole line) reply answers = record { begins = answers.begi
 seen_by name old new TooLong reply answers = HasSeenMore-none old.reader new.reader (ap (λ (w : Worker). w.reader) answers.1)
 seen_by name old new Unread reply answers = HasSeenMore-none old.reader new.reader (ap (λ (w : Worker). w.reader) answers.1)
 
-pub HasSeenMore-from_run : (name : Text) (old new : Worker) (lines : List Text) (replies : List Reply) → Run (Answers name) old lines replies new → HasSeenMore old.reader new.reader
-HasSeenMore-from_run name old new [] [] run = HasSeenMore-none old.reader new.reader (ap (λ (w : Worker). w.reader) run)
-HasSeenMore-from_run name old new [] (reply ∷ replies) run = absurd run
-HasSeenMore-from_run name old new (line ∷ lines) [] run = absurd run
-HasSeenMore-from_run name old new (line ∷ lines) (reply ∷ replies) (cut, next, is_cut, answers, rest) =
-    HasSeenMore-trans old.reader next.reader new.reader (seen_by name old next cut reply answers) (HasSeenMore-from_run name next new lines replies rest)
-
--- what is referred to stays
-pub record Stays {P M : Type 0} (old new : Serving P M) : Type 0 where
+-- what is referred to stays, and the reader sees more
+pub record Stays {P M : Type 0} (reader : P → ReaderSeen) (old new : Serving P M) : Type 0 where
+  pub name : new.name.now ≡ old.name.now
   pub replier : new.replier.ghost_name ≡ old.replier.ghost_name
   pub moments : new.moments.ghost_name ≡ old.moments.ghost_name
+  pub seen : HasSeenMore (reader old.replier.now) (reader new.replier.now)
 
-module _ {P M : Type 0} (reader : P → ReaderSeen) (coming : M → List Instant) (name : Text) where
-  pub worker_run : (old new : Serving P M) (lines : List Text) (replies : List Reply) → old.name.now ≡ name → Run (Serves reader coming) old lines replies new
-      → Run (Answers name) (worker_of reader coming old) lines replies (worker_of reader coming new)
-  worker_run old new [] [] named run = ap (worker_of reader coming) run
-  worker_run old new [] (reply ∷ replies) named run = absurd run
-  worker_run old new (line ∷ lines) [] named run = absurd run
-  worker_run old new (line ∷ lines) (reply ∷ replies) named (cut, next, is_cut, serves, rest) = (
-    cut,
-    worker_of reader coming next,
-    is_cut,
-    rw named at serves.step,
-    worker_run next new lines replies (serves.name_stays ∙ named) rest,
-  )
+module _ {P M : Type 0} (reader : P → ReaderSeen) (coming : M → List Instant) where
+  stays_none : (old : Serving P M) → Stays reader old old
+  stays_none old = record { name = refl; replier = refl; moments = refl; seen = HasSeenMore-none _ _ refl }
 
-  pub stays : (old new : Serving P M) (lines : List Text) (replies : List Reply) → Run (Serves reader coming) old lines replies new → Stays old new
-  stays old new [] [] run = record { replier = ap (λ (s : Serving P M). s.replier.ghost_name) run; moments = ap (λ (s : Serving P M). s.moments.ghost_name) run }
-  stays old new [] (reply ∷ replies) run = absurd run
-  stays old new (line ∷ lines) [] run = absurd run
-  stays old new (line ∷ lines) (reply ∷ replies) (cut, next, is_cut, serves, rest) =
-      let more = stays next new lines replies rest in
-      record { replier = more.replier ∙ serves.replier_stays; moments = more.moments ∙ serves.moments_stay }
-
-  module _ (says : ℕ → Bool → Type 0) (old new : Serving P M) (named : old.name.now ≡ name) where
-    served : (unread before after : Option Text) (counts : Counts) → IsServed says (Serves reader coming) old new unread before after counts
-        → IsServed says (Answers name) (worker_of reader coming old) (worker_of reader coming new) unread before after counts
-    served unread before after counts s = record {
-      lines = s.lines;
-      replies = s.replies;
-      run = worker_run old new s.lines s.replies named s.run;
-      let_through = s.let_through;
-      read = s.read;
-      written = s.written;
-      counted = s.counted;
-    }
-
-    cut_off : (unread before after : Option Text) → IsCutOff says (Serves reader coming) old new unread before after
-        → IsCutOff says (Answers name) (worker_of reader coming old) (worker_of reader coming new) unread before after
-    cut_off unread before after s = record {
-      lines = s.lines;
-      replies = s.replies;
-      run = worker_run old new s.lines s.replies named s.run;
-      let_through = s.let_through;
-      read = s.read;
-      written = s.written;
-    }
-
-    whole_so_far : (most : ℕ) (unread left before after : Option Text) → IsWholeSoFar says (Serves reader coming) old new most unread left before after
-        → IsWholeSoFar says (Answers name) (worker_of reader coming old) (worker_of reader coming new) most unread left before after
-    whole_so_far most unread left before after s = record {
-      lines = s.lines;
-      replies = s.replies;
-      consumed = s.consumed;
-      run = worker_run old new s.lines s.replies named s.run;
-      let_through = s.let_through;
-      read = s.read;
-      ended = s.ended;
-      written = s.written;
-    }
-
-    spent : (turns : Turns) (unread left before after : Option Text) (reads : ℕ) (has_ended : Bool)
-        → IsSpent says (Serves reader coming) old new turns unread left before after reads has_ended ⊎ IsHeldBack says (Serves reader coming) old new turns.lines unread left before after has_ended
-        → IsSpent says (Answers name) (worker_of reader coming old) (worker_of reader coming new) turns unread left before after reads has_ended
-        ⊎ IsHeldBack says (Answers name) (worker_of reader coming old) (worker_of reader coming new) turns.lines unread left before after has_ended
-    unfolding whole_so_far
-    spent turns unread left before after reads has_ended (inl s) = inl (record { whole = whole_so_far turns.lines unread left before after s.whole; spent = s.spent })
-    spent turns unread left before after reads has_ended (inr s) = inr (record {
-      lines = s.lines;
-      line = s.line;
-      replies = s.replies;
-      consumed = s.consumed;
-      run = worker_run old new s.lines s.replies named s.run;
-      let_through = s.let_through;
-      refused = s.refused;
-      within = s.within;
-      read = s.read;
-      next = s.next;
-      written = s.written;
-    })
-
-  pub outcome : (says : ℕ → Bool → Type 0) (old new : Serving P M) → old.name.now ≡ name → (turns : Turns) (p : Passage) (result : Result Counts ServeError)
-      → IsOutcome says (Serves reader coming) old new turns p result → IsOutcome says (Answers name) (worker_of reader coming old) (worker_of reader coming new) turns p result
-  outcome says old new named turns p result o = record {
-    served = IfOk-weaker result _ _ (λ counts s. served says old new named p.unread p.before p.after counts s) o.served;
-    within = o.within;
-    cut_off = on_err_weaker result (λ s. cut_off says old new named p.unread p.before p.after s) o.cut_off;
-    whole = λ is. whole_so_far says old new named turns.lines p.unread p.left p.before p.after (o.whole is);
-    spent = λ is. spent says old new named turns p.unread p.left p.before p.after p.reads p.ended (o.spent is);
+  stays_step : (first old new : Serving P M) (cut : Cut) (reply : Reply) → Stays reader first old → Serves reader coming old cut reply new → Stays reader first new
+  stays_step first old new cut reply kept one = record {
+    name = one.name_stays ∙ kept.name;
+    replier = one.replier_stays ∙ kept.replier;
+    moments = one.moments_stay ∙ kept.moments;
+    seen = HasSeenMore-trans _ _ _ kept.seen (seen_by old.name.now (worker_of reader coming old) (worker_of reader coming new) cut reply one.step);
   }
 
-  -- whatever the result is, a run was made
-  pub stays_at : (says : ℕ → Bool → Type 0) (old new : Serving P M) (turns : Turns) (p : Passage) (result : Result Counts ServeError) → IsOutcome says (Serves reader coming) old new turns p result → Stays old new
-  stays_at says old new turns p (Ok counts) o = stays old new o.served.lines o.served.replies o.served.run
-  stays_at says old new turns p (Err e) o = stays old new o.cut_off.lines o.cut_off.replies o.cut_off.run
+  answers_step : (first old new : Serving P M) (cut : Cut) (reply : Reply) → Stays reader first old → Serves reader coming old cut reply new → Answers first.name.now (worker_of reader coming old) cut reply (worker_of reader coming new)
+  answers_step first old new cut reply kept one = rw kept.name at one.step
 
-  pub seen_at : (says : ℕ → Bool → Type 0) (old new : Serving P M) → old.name.now ≡ name → (turns : Turns) (p : Passage) (result : Result Counts ServeError)
-      → IsOutcome says (Serves reader coming) old new turns p result → HasSeenMore (reader old.replier.now) (reader new.replier.now)
-  seen_at says old new named turns p (Ok counts) o =
-      HasSeenMore-from_run name _ _ o.served.lines o.served.replies (worker_run old new o.served.lines o.served.replies named o.served.run)
-  seen_at says old new named turns p (Err e) o =
-      HasSeenMore-from_run name _ _ o.cut_off.lines o.cut_off.replies (worker_run old new o.cut_off.lines o.cut_off.replies named o.cut_off.run)
+  module _ (says : ℕ → Bool → Type 0) (old new : Serving P M) (turns : Turns) (p : Passage) (result : Result Counts ServeError) (o : IsOutcome says (Serves reader coming) old new turns p result) where
+    -- whatever the result is, a run was made
+    pub stays_at : Stays reader old new
+    stays_at = kept_at (Serves reader coming) (Stays reader old) (stays_step old) says old new (stays_none old) turns p result o
+
+    pub outcome : IsOutcome says (Answers old.name.now) (worker_of reader coming old) (worker_of reader coming new) turns p result
+    outcome = carried (Serves reader coming) (Stays reader old) (stays_step old) (Answers old.name.now) (worker_of reader coming) (answers_step old) says old new (stays_none old) turns p result o

@@ -1,5 +1,5 @@
 -- What answers the lines of a desk's connection. (Own.)
-use Rattle.std.specs.Prelude.{◌≡◌, ◌≢◌, false, ◌++◌, Option, Some, None, Result, Ok, Err}
+use Rattle.std.specs.Prelude.{◌≡◌, ◌≢◌, ℕ, Bool, true, false, ◌++◌, Option, Some, None, Result, Ok, Err}
 use Rattle.lost_spec.specs.Text.{Text}
 use Rattle.lost_spec.specs.Book.{Limits}
 use Rattle.lost_desk.specs.Seen.{DeskSeen}
@@ -8,7 +8,7 @@ use Rattle.lost_reading.specs.declared.desk.DeskLine.{DeskLine}
 use Rattle.lost_reading.specs.Desk.{Order, desk_fault_code}
 use Rattle.lost_reading.specs.DeskLines.{order_of}
 use Rattle.lost_writing.specs.declared.desk_reply.DeskReply.{DeskReply}
-use Rattle.lost_writing.specs.DeskReplies.{desk_text}
+use Rattle.lost_writing.specs.DeskReplies.{IsInTable, desk_text}
 use Rattle.lost_lines.specs.Run.{Cut, Reply}
 use Rattle.lost_json.specs.Stream.{Terms, Lists, ShortOfMemory, refused_text}
 use Rattle.lost_json.specs.Step.{Step, IsAnswered}
@@ -42,8 +42,30 @@ AnswersRead (Ok None) terms old text reply new = IsJudged terms old text None re
 AnswersRead (Ok (Some line)) terms old text reply new = IsJudged terms old text (Some (Ok (order_of line))) reply new
 AnswersRead (Err fault) terms old text reply new = (reply ≡ record { text = refused_text (desk_fault_code fault); is_internal_error = false }) × (new ≡ old)
 
--- the step of what answers lines: the desk stays, and its lists go by their step
-pub record Desks {T V : Type 0} (old : Desking T V) (cut : Cut) (reply : Reply) (new : Desking T V) : Type 0 where
+-- the gate that lets each line through
+abbrev pub always_lets : ℕ → Bool → Type 0
+always_lets line answer = answer ≡ true
+
+-- what a desk's connection has come to: the lists of the desk, and what watches them
+pub record Observed (V : Type 0) : Type 0 where
+  pub lists : Lists
+  pub witness : V
+
+-- the step of a line: the lists go by theirs, and the witness by its own, for the reply that was given
+pub record Watches {V : Type 0} (step : V → DeskReply → V → Type 0) (terms : Terms) (old : Observed V) (cut : Cut) (reply : Reply) (new : Observed V) : Type 0 where
+  pub goes : Step terms old.lists cut reply new.lists
+  pub given : DeskReply
+  pub is_said : reply ≡ said given
+  pub in_table : IsInTable given
+  pub saw : step old.witness given new.witness
+
+-- what the connection of a desk with a witness has come to
+abbrev pub observed : {T V : Type 0} → Desking T V → Observed V
+observed d = record { lists = lists_of d.desk.now; witness = d.witness.now }
+
+-- the step of what answers lines: what it refers to stays, and its lists and its witness go by their step
+pub record Desks {T V : Type 0} (step : V → DeskReply → V → Type 0) (old : Desking T V) (cut : Cut) (reply : Reply) (new : Desking T V) : Type 0 where
   pub desk_stays : new.desk.ghost_name ≡ old.desk.ghost_name
+  pub witness_stays : new.witness.ghost_name ≡ old.witness.ghost_name
   pub same : IsSameDesk old.desk.now new.desk.now
-  pub step : Step (desk_terms old.desk.now.limits) (lists_of old.desk.now) cut reply (lists_of new.desk.now)
+  pub watches : Watches step (desk_terms old.desk.now.limits) (observed old) cut reply (observed new)

@@ -1,5 +1,6 @@
 pub mod Moments
 pub mod Lines
+pub mod Sources
 pub mod Sum
 pub mod Serving
 pub mod Desking

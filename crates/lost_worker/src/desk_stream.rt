@@ -1,9 +1,9 @@
 //! Answers the lines of a desk's connection.
 ghost use Rattle.std.specs.Prelude.{◌≢◌, Err};
 ghost use Rattle.lost_lines.specs.Calls.{AreFresh, StreamFaults};
-ghost use Rattle.lost_lines.specs.Outcome.{passage_of};
+ghost use Rattle.lost_lines.specs.Outcome.{IsOutcome, passage_of};
 ghost use Rattle.lost_json.specs.Outcome.{IsStreamOutcome};
-ghost use Rattle.lost_worker.specs.Desking.{IsSameDesk, desk_terms, lists_of};
+ghost use Rattle.lost_worker.specs.Desking.{IsSameDesk, Watches, always_lets, desk_terms, lists_of};
 
 use crate::desking::Desking;
 use crate::witness::{DeskWitness, NoWitness};
@@ -44,7 +44,7 @@ pub fn serve_desk<T: Wait, R: Read, W: Write>(
     serve_desk_with(rt, alloc, input, output, desk, &mut NoWitness, turns)
 }
 
-/// Answers the desk lines of `input` as [`serve_desk`] does, and tells `witness` of each.
+/// Answers the desk lines of `input` as [`serve_desk`] does, and tells `witness` of each reply, in order, as it is given.
 ///
 /// # Errors
 ///
@@ -61,6 +61,12 @@ pub fn serve_desk_with<T: Wait, R: Read, W: Write, V: DeskWitness>(
     requires fresh { AreFresh input.old output.old }
 
     ensures outcome { IsStreamOutcome (desk_terms desk.old.limits) (lists_of desk.old) (lists_of desk.new) turns
+        (passage_of R.remaining W.contents input.old input.new output.old output.new) result }
+
+    // The witness was told of each line's reply: the lists and the witness go by one run over the lines.
+    ensures watched { IsOutcome always_lets (Watches V.step (desk_terms desk.old.limits))
+        (record { lists = lists_of desk.old; witness = witness.old })
+        (record { lists = lists_of desk.new; witness = witness.new }) turns
         (passage_of R.remaining W.contents input.old input.new output.old output.new) result }
     ensures same { IsSameDesk desk.old desk.new }
     ensures faults { StreamFaults R.remaining turns input.new output.old output.new result }

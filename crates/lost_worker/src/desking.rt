@@ -31,7 +31,7 @@ pub(crate) struct Desking<'r, 'd, 's, 'w, T: Wait, V: DeskWitness> {
 impl<T: Wait, V: DeskWitness> Answerer for Desking<'_, '_, '_, '_, T, V> {
     ghost use Rattle.lost_worker.specs.Desking.{Desks};
 
-    ghost step = { Desks };
+    ghost step = { Desks V.step };
 
     fn answer(&mut self, alloc: Global, line: &[u8]) -> Answer {
         let read = read_desk_by_tape(alloc, line, self.scratch);

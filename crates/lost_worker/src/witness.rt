@@ -4,7 +4,9 @@ use lost_json::DeskReply;
 
 /// Watches how a desk's lines are answered, to count them or to report the refused ones. It changes no reply.
 pub trait DeskWitness {
-    // What it does with a reply, from its first state to its second.
+    ghost use Rattle.lost_writing.specs.declared.desk_reply.DeskReply.{DeskReply};
+
+    /// What it is after a reply, from what it was.
     ghost step: { Self → DeskReply → Self → Type 0 };
 
     /// Called for each line once it is answered and before the reply is written, with the line, if it was kept whole,
@@ -18,7 +20,7 @@ pub trait DeskWitness {
 pub struct NoWitness;
 
 impl DeskWitness for NoWitness {
-    ghost step = { λ _ _ _. Unit {0} };
+    ghost step = { λ old reply new. Unit {0} };
 
     fn saw(&mut self, _line: Option<&[u8]>, _reply: DeskReply, _desk: &Desk) {}
 }

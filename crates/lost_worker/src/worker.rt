@@ -1,11 +1,13 @@
 //! A worker serves connections one after another.
-ghost use Rattle.std.specs.Prelude.{◌≡◌, ◌≤◌, true, false};
+ghost use Rattle.std.specs.Prelude.{map, IfSome};
 ghost use Rattle.lost_worker.specs.Lines.{Answers, CountsConnection, HasSeenMore};
-ghost use Rattle.lost_worker.specs.Sum.{SumsConnections};
+ghost use Rattle.lost_worker.specs.Sources.{ends_of};
+ghost use Rattle.lost_worker.specs.Sum.{SumsConnections, SumsOver};
 
 use crate::connection::Connection;
 use crate::moments::Moments;
 use crate::replier::Replier;
+use crate::source::{ChannelSource, ConnectionSource};
 use crate::streams::serve_lines;
 use crossbeam_channel::Receiver;
 use lost_lines::{Counts, Gate, Turns, Watched};
@@ -32,15 +34,50 @@ pub fn worker_loop<I: Read + Drop, O: Write + Drop, P: Replier, M: Moments, G: G
         (record { reader = P.reader replier.old; moments = M.coming moments.old })
         (record { reader = P.reader replier.new; moments = M.coming moments.new }) result }
 {
+    let mut source = ChannelSource { receiver };
+    serve_connections(rt, alloc, &mut source, replier, name, moments, gate, turns)
+}
+
+/// Serves each connection of `source` by [`serve_lines`], one after another, to the last. Gives the sum of their counts,
+/// as [`worker_loop`] does.
+pub fn serve_connections<
+    I: Read + Drop,
+    O: Write + Drop,
+    S: ConnectionSource<I, O>,
+    P: Replier,
+    M: Moments,
+    G: Gate,
+    R: Wait,
+>(
+    rt: &R,
+    alloc: Global,
+    source: &mut S,
+    replier: &mut P,
+    name: &Source,
+    moments: &mut M,
+    gate: &G,
+    turns: Turns,
+) -> Counts
+    ensures seen { HasSeenMore (P.reader replier.old) (P.reader replier.new) }
+    ensures sum { SumsConnections (G.says gate.now) (Answers name.now)
+        (record { reader = P.reader replier.old; moments = M.coming moments.old })
+        (record { reader = P.reader replier.new; moments = M.coming moments.new }) result }
+
+    // If the source tells its connections, exactly these were served, each once, and counted.
+    ensures told { IfSome (S.coming source.old) (λ connections. SumsOver (G.says gate.now) (Answers name.now)
+        (record { reader = P.reader replier.old; moments = M.coming moments.old })
+        (record { reader = P.reader replier.new; moments = M.coming moments.new })
+        (map (ends_of I.remaining O.contents) connections) result) }
+{
     let mut sum = Counts::default();
     for _round in rt.forever() {
-        let Ok(connection) = receiver.recv(rt) else {
+        let Some(connection) = source.next(rt) else {
             return sum;
         };
         let counts = serve_connection(alloc, connection, replier, name, moments, gate, turns);
         sum = sum.plus(counts);
     }
-    sum
+    unreachable!()
 }
 
 /// Serves a connection, closes it, and gives its counts: those of its lines, or one fault and nothing else.

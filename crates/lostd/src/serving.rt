@@ -4,8 +4,8 @@ ghost use Rattle.lostd.specs.ExitReasons.{serve_reason, map_reason};
 
 use lost_command::{ExitReason, ServeOrder, opening_failed};
 use lost_server::{
-    ConnectionLimits, ConnectionSettings, Listeners, MapFault, Ready, RunFault, ServeError,
-    ServerFault, ServerOrder, System, run_server,
+    ConnectionLimits, ConnectionSettings, Listeners, MapFault, OnRefusal, Progress, Ready,
+    RunFault, ServeError, ServerFault, ServerOrder, System, run_server,
 };
 use lost_sockets::{Addresses, ListenError, Listener};
 use std::io;
@@ -22,13 +22,21 @@ pub(crate) fn serve_as_ordered<
     let ordered = ServerOrder {
         name: &order.name,
         map: order.map,
-        keeps_going: order.keeps_going,
+        on_refusal: if order.keeps_going {
+            OnRefusal::GoOn
+        } else {
+            OnRefusal::Stop
+        },
         addresses: order.addresses,
         workers: order.workers,
         connections: order.connections,
         settings: settings_of(order),
         limits: limits_of(order),
-        shows_progress: is_terminal,
+        progress: if is_terminal {
+            Progress::Shown
+        } else {
+            Progress::Hidden
+        },
     };
     // Signals end the program, so nothing sets this.
     let is_over = AtomicBool::new(false);

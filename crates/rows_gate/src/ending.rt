@@ -1,8 +1,8 @@
 //! A server that is told to end, as the program's never is.
 use lost_mapping::Source;
 use lost_server::{
-    ConnectionLimits, ConnectionSettings, Counts, Listeners, Ready, ServerFault, ServerOrder,
-    System, run_server,
+    ConnectionLimits, ConnectionSettings, Counts, Listeners, OnRefusal, Progress, Ready,
+    ServerFault, ServerOrder, System, run_server,
 };
 use lost_sockets::{Addresses, Listener};
 use std::io;
@@ -46,8 +46,8 @@ pub(crate) fn ended<R: System + Net<Listener = TcpListener, Stream = TcpStream> 
             socket_mode: 0o600,
         },
         map: None,
-        keeps_going: false,
-        shows_progress: false,
+        on_refusal: OnRefusal::Stop,
+        progress: Progress::Hidden,
         workers: 2,
         connections: None,
         settings: ConnectionSettings {

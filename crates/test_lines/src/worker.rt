@@ -1,10 +1,9 @@
 //! A worker with a connection that fails and a good one.
 use crate::always::moments_of;
 use crate::telling::tell_counts;
-use crossbeam_channel::{Receiver, Sender, unbounded};
 use lost_book::Limits;
 use lost_desk::{Reader, open_desk};
-use lost_worker::{Connection, NoGate, Turns, worker_loop};
+use lost_worker::{Connection, ConnectionSource, NoGate, Turns, serve_connections};
 use std::alloc::{AllocError, Global};
 use std::collections::VecDeque;
 use std::io;
@@ -78,8 +77,24 @@ impl Write for Counting {
     }
 }
 
-/// The connections on the channel.
+/// A connection in memory.
 type InMemory = Connection<Given, Counting>;
+
+/// A list of connections, which are handed over in order.
+#[derive(Drop)]
+struct Listed {
+    connections: VecDeque<InMemory>,
+}
+
+impl ConnectionSource<Given, Counting> for Listed {
+    ghost use Rattle.std.specs.Prelude.{Some};
+
+    ghost coming = { λ source. Some source.connections.items };
+
+    fn next<R: Wait>(&mut self, _rt: &R) -> Option<InMemory> {
+        self.connections.pop_front()
+    }
+}
 
 /// Has one worker serve a stream over a connection whose first read fails, and then over a good one. Prints its counts,
 /// and how much was written.
@@ -107,11 +122,11 @@ fn serve_both<R: Wait + Print + AllocGlobal>(
     reader: &mut Reader,
 ) -> io::Result<()> {
     let written = Counting::new(rt.alloc())?;
-    let connections = connections(rt, bytes, &written)?;
-    let counts = worker_loop(
+    let mut source = both(rt.alloc(), bytes, &written)?;
+    let counts = serve_connections(
         rt,
         rt.alloc(),
-        &connections,
+        &mut source,
         reader,
         &setting.name,
         &mut moments_of(setting),
@@ -131,34 +146,14 @@ fn tell_sums<R: Print>(rt: &R, sums: &Sums) -> io::Result<()> {
     )
 }
 
-/// Both connections, the failing one first, over a channel that has ended.
-fn connections<R: Wait + AllocGlobal>(
-    rt: &R,
-    bytes: &[u8],
-    written: &Counting,
-) -> io::Result<Receiver<InMemory>> {
-    let Ok((sender, connections)) = unbounded::<InMemory, Global>(rt.alloc()) else {
-        return Err(AllocError.into());
-    };
+/// Both connections, the failing one first.
+fn both(alloc: Global, bytes: &[u8], written: &Counting) -> io::Result<Listed> {
+    let mut connections = VecDeque::new(alloc);
     for is_failing in [true, false] {
-        send(rt, &sender, bytes, written, is_failing)?;
+        let connection = connection(alloc, bytes, written.shared()?, is_failing)?;
+        connections.push_back(connection)?;
     }
-    Ok(connections)
-}
-
-/// Sends a connection.
-fn send<R: Wait + AllocGlobal>(
-    rt: &R,
-    sender: &Sender<InMemory>,
-    bytes: &[u8],
-    written: &Counting,
-    is_failing: bool,
-) -> io::Result<()> {
-    let connection = connection(rt.alloc(), bytes, written.shared()?, is_failing)?;
-    match sender.send(rt, connection) {
-        Ok(()) => Ok(()),
-        Err(_) => Err(AllocError.into()),
-    }
+    Ok(Listed { connections })
 }
 
 /// A connection that gives bytes, or fails at once.

@@ -14,7 +14,14 @@ returns g c =
     subst (λ (r : Reply). AnswersRead c.read_desk_by_tape-read.result (desk_terms old.limits) (lists_of old) c.args.line.now r (lists_of c.judge-reply.new.desk)) (sym c.desk_answer.ensures) (c.judge-reply.ensures.answered c.args.line.now) in
     record {
       desk_stays = refl;
+      witness_stays = refl;
       same = c.judge-reply.ensures.same;
-      step = read_step old.limits c.args.line.now (reply_of c.desk_answer.result) (lists_of old) (lists_of c.judge-reply.new.desk) (desk_line c.args.line.now)
-          c.read_desk_by_tape-read.result c.read_desk_by_tape-read.ensures answered;
+      watches = record {
+        goes = read_step old.limits c.args.line.now (reply_of c.desk_answer.result) (lists_of old) (lists_of c.judge-reply.new.desk) (desk_line c.args.line.now)
+            c.read_desk_by_tape-read.result c.read_desk_by_tape-read.ensures answered;
+        given = c.judge-reply.result;
+        is_said = c.desk_answer.ensures;
+        in_table = c.judge-reply.ensures.in_table;
+        saw = c.saw.ensures;
+      };
     }
