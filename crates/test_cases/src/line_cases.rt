@@ -1,4 +1,5 @@
-//! Calls of lost_json: what lines are read as, and the lines of replies, without their byte 10.
+//! Calls of lost_json and lost_export: what lines are read as, the lines of replies, and the lines that publish mappings,
+//! without their byte 10.
 use crate::case_error::CaseError;
 use crate::fields::Fields;
 use crate::gathered::Gathered;
@@ -6,11 +7,12 @@ use crate::mapping_cases::add_mapping;
 use crate::stamp_cases::{source, stamp};
 use crate::words::{owned, refused, yes_or_no};
 use lost_book::{Book, Edit};
+use lost_export::publish_line;
 use lost_json::{
     DeskFault, DeskLine, DeskReply, ReadError, is_code, read_desk, read_request, reply_line,
     write_desk, write_reply,
 };
-use lost_mapping::{Identity, MappingError, Stamp};
+use lost_mapping::{Identity, Mapping, MappingError, Stamp};
 use lost_query::{AnswerError, Body, Location, Locations, Reply, Request};
 use lost_spec::Coded;
 use lost_urn::ServiceUrn;
@@ -23,6 +25,7 @@ pub(crate) fn said(alloc: Global, call: &str, fields: &Fields) -> Result<String,
         "line request" => request(alloc, fields),
         "line cut short" => cut_short(alloc, fields),
         "line desk" => order(alloc, fields),
+        "line publish" => publish_again(alloc, fields),
         "line staged" => write_staged(alloc, fields),
         "line committed" => write_committed(alloc, fields),
         "line refused" => write_refusal(alloc, fields),
@@ -225,6 +228,20 @@ fn order(alloc: Global, fields: &Fields) -> Result<String, CaseError> {
         Ok(None) => owned(alloc, "other"),
         Err(fault) => refused_desk_line(alloc, fault),
     }
+}
+
+/// The line of the mapping that a desk line publishes, or the number of the refusal.
+fn publish_again(alloc: Global, fields: &Fields) -> Result<String, CaseError> {
+    match read_desk(alloc, fields.bytes(1)?) {
+        Ok(Some(DeskLine::Edit(Edit::Publish(mapping)))) => publish(alloc, &mapping),
+        Ok(_) => Err(CaseError::NoCase),
+        Err(fault) => refused_desk_line(alloc, fault),
+    }
+}
+
+/// The line of a mapping.
+fn publish(alloc: Global, mapping: &Mapping) -> Result<String, CaseError> {
+    without_its_end(alloc, publish_line(alloc, mapping)?.as_slice())
 }
 
 /// The number of the refusal of a desk line.

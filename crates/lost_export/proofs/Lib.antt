@@ -1,0 +1,12 @@
+pub mod ListLemmas
+pub mod MemberLemmas
+pub mod FloatLemmas
+pub mod DepthLemmas
+pub mod LineLemmas
+pub mod KindLemmas
+pub mod PartsLemmas
+pub mod LookupLemmas
+pub mod PairLemmas
+pub mod RegionLemmas
+pub mod TreeLemmas
+pub mod ReadLemmas

@@ -1,0 +1,26 @@
+-- Which mappings come back from their lines as they are. (Own.)
+use Rattle.std.specs.Prelude.{◌≡◌, Some, None, Ok}
+use Rattle.std.specs.List.{AllByRecursion}
+use Rattle.std.specs.List.Sorted.{IsStrictlySortedBy}
+use Rattle.std.specs.Ordering.{nat_cmp}
+use Rattle.std.specs.Cmp.Lexicographic.{slice_cmp}
+use Rattle.lost_spec.specs.Civic.{Pairs, names_of}
+use Rattle.lost_spec.specs.Mapping.{Parts, Mapping, parts_fault, mapping_of}
+use Rattle.lost_spec.specs.Book.{Publish}
+use Rattle.lost_reading.specs.Desk.{Stage, desk_line}
+use Rattle.lost_export.specs.Export.{publish_json}
+
+-- each name of the pairs comes before the next by its bytes, as in each object that is read
+abbrev pub HasAscendingNames : Pairs → Type 0
+HasAscendingNames pairs = IsStrictlySortedBy (slice_cmp nat_cmp) (names_of pairs)
+
+-- parts that are not refused make the mapping, and the names of its patterns ascend
+pub record IsBuilt (m : Mapping) : Type 0 where
+  pub parts : Parts
+  pub accepted : parts_fault parts ≡ None
+  pub made : m ≡ mapping_of parts
+  pub ascending : AllByRecursion HasAscendingNames m.regions.patterns
+
+-- the line of the mapping says to publish it
+abbrev pub ReadsBack : Mapping → Type 0
+ReadsBack m = desk_line (publish_json m) ≡ Some (Ok (Stage (Publish m)))
