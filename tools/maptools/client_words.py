@@ -6,6 +6,7 @@ from typing import Any, List, Tuple
 
 from maptools.addresses import server_of
 from maptools.feed import USUAL
+from maptools.installed import add_version
 from maptools.units import joined
 
 RAW = argparse.RawDescriptionHelpFormatter
@@ -145,6 +146,7 @@ def parser(description: str) -> argparse.ArgumentParser:
     add_desk(commands)
     about = {"description": STATUS, "epilog": STATUS_EXAMPLES, "formatter_class": RAW}
     add_common(commands.add_parser("status", help="whether a server is ready, and what it counts", **about))
+    add_version(words)
     return words
 
 
