@@ -6,13 +6,16 @@ import shutil
 import subprocess
 import tempfile
 import unittest
+import unittest.mock
 from typing import ClassVar, Dict, List, Tuple
 
-from building.debian import changes_of
+from building.debian import changes_of, debian_packages, version_in, write_debian
 from building.installing import tools_of
+from building.machine import PORTABLE
+from building.package import write_package
 from building.services import SERVICES
-from building.trees import tree_id
-from building.versions import number_of
+from building.trees import tree_id, trees_of
+from building.versions import number_of, version_of
 from tests.running import CASES, TOP
 
 NEEDED = "dpkg-deb"
@@ -172,6 +175,21 @@ class Debian(unittest.TestCase):
             self.assertFalse(os.path.exists(f"{root}/usr/bin/lostd"))
             self.assertTrue(os.path.exists(f"{root}/var/lib/lostd/map.jsonl"))
         self.assertFalse(os.path.exists(f"{root}/etc/lostd/lostd.conf"))
+
+    def test_it_takes_the_place_of_an_older_one(self) -> None:
+        top = f"{self.folder}/top"
+        os.makedirs(f"{top}/release")
+        for name in ("crates", "crates.txt", "tools", "docs", "examples", "CHANGELOG.md", "LICENSE-MIT", "release/debian", "release/service"):
+            os.symlink(f"{TOP}/{name}", f"{top}/{name}")
+        with open(f"{CASES}/install/stand-in", "rb") as program:
+            write_package(top, program.read(), "a kit", PORTABLE)
+        with open(f"{top}/release/lostd_0.0.1_amd64.deb", "w", encoding="utf-8"):
+            pass
+        version = version_of(top, trees_of(top).crates)
+        with unittest.mock.patch.dict(os.environ, {"SOURCE_DATE_EPOCH": "1796096064"}):
+            path = write_debian(top, version)
+        self.assertEqual(debian_packages(top), [path])
+        self.assertEqual(version_in(path), version.text())
 
     def test_mistakes_and_faults(self) -> None:
         self.assertEqual(run(f"{TOP}/release/deb", "--help")[0], 0)
