@@ -7,7 +7,7 @@ import stat
 from typing import List, NamedTuple, Tuple
 
 # What .gitignore names.
-IGNORED = "out"
+IGNORED = ("out", "__pycache__")
 
 
 def object_id(kind: str, body: bytes) -> bytes:
@@ -32,7 +32,7 @@ def folder_of(path: str) -> bytes:
         if not entry.is_dir(follow_symlinks=False):
             mode, id_ = file_of(entry.path)
             entries.append((name, mode, id_))
-        elif entry.name != IGNORED:
+        elif entry.name not in IGNORED:
             body = folder_of(entry.path)
             # (git orders a folder as if its name ended in a slash)
             entries += [(name + b"/", "40000", object_id("tree", body))] if body else []

@@ -7,6 +7,7 @@ from typing import Any, Callable, List
 from gateway import nena
 from gateway.services import Alias, alias_of
 from maptools.addresses import Tcp, tcp_of
+from maptools.installed import add_version
 
 PACKAGES = "apt-get install python3-lxml python3-aiohttp python3-prometheus-client"
 SHAPELY = "apt-get install python3-shapely"
@@ -106,4 +107,5 @@ def parser(description: str) -> argparse.ArgumentParser:
     add("--no-made-up-names", action="store_true", help="leave out displayName if the map has none, instead of giving the sourceId")
     add("--name", metavar="NAME", help="the source of errors and warnings; without it, the server's own name")
     add("--log", metavar="FILE", help="add one JSON line to FILE for each query")
+    add_version(words)
     return words

@@ -6,6 +6,7 @@ from typing import Any, List, Tuple
 
 from maptools.addresses import server_of
 from maptools.feed import USUAL
+from maptools.installed import add_version
 from maptools.units import joined
 
 RAW = argparse.RawDescriptionHelpFormatter
@@ -36,6 +37,9 @@ Before it sends anything, --sync names each edit that would be refused. A change
 a new key if its regions changed. A mapping that comes back needs a later lastUpdated than its withdrawal. A withdrawal
 has the stamp of its withdraw line in FILE, or else the time of this machine (in UTC, to the second), whichever is after
 the lastUpdated of the withdrawn mapping. If neither is, the stamp is a nanosecond after that lastUpdated.
+
+If more than 10 mappings would be withdrawn, and more than 5 % of those that are held, nothing is sent, since FILE may not be
+whole; --most-withdrawn N allows N. --dry-run says for each mapping what would change, and --svg draws it.
 
 If the server still refuses an edit, because it was restarted or another desk changed its map, nothing is committed, and
 FILE.sent stays as it was. Then use --anew: it publishes all of FILE and replaces what the server holds, except what the
@@ -73,6 +77,13 @@ def element_argument(text: str) -> Tuple[str, str]:
     if not equals or not name:
         raise argparse.ArgumentTypeError(f"{text!r} is not ELEMENT=VALUE, such as A1=NJ")
     return name, value
+
+
+def number_argument(text: str) -> int:
+    """A whole number."""
+    if not (text.isascii() and text.isdigit()):
+        raise argparse.ArgumentTypeError(f"{text!r} is not a whole number")
+    return int(text)
 
 
 def seconds_argument(text: str) -> float:
@@ -133,7 +144,10 @@ def add_desk(commands: Any) -> None:
     desk.add_argument("--sent", metavar="PATH", help="where --sync keeps what the server was sent (FILE.sent)")
     desk.add_argument("--anew", action="store_true", help="with --sync, for a server that may hold anything")
     desk.add_argument("--dry-run", action="store_true", help="with --sync, say what would be sent, and send nothing")
-    desk.add_argument("--show", action="store_true", help="with --dry-run, print the lines that would be sent")
+    desk.add_argument("--show", action="store_true", help="with --dry-run, print the lines that would be sent, not what they change")
+    desk.add_argument("--svg", metavar="PATH", help="with --dry-run, draw the outlines that change, as a picture (SVG)")
+    most = {"type": number_argument, "metavar": "N", "help": "with --sync, withdraw up to N mappings"}
+    desk.add_argument("--most-withdrawn", **most)
     add_common(desk, is_desk=True)
 
 
@@ -145,6 +159,7 @@ def parser(description: str) -> argparse.ArgumentParser:
     add_desk(commands)
     about = {"description": STATUS, "epilog": STATUS_EXAMPLES, "formatter_class": RAW}
     add_common(commands.add_parser("status", help="whether a server is ready, and what it counts", **about))
+    add_version(words)
     return words
 
 
@@ -156,9 +171,11 @@ def mistake_in(options: argparse.Namespace) -> str:
         return "the following arguments are required: --server"
     if options.sync and (options.keep_open or options.file == "-"):
         return "--sync needs a FILE, and goes with neither standard input nor --keep-open"
-    if not options.sync and (options.sent or options.anew or options.dry_run):
-        return "--sent, --anew and --dry-run go with --sync"
-    return "--show goes with --dry-run" if options.show and not options.dry_run else ""
+    if not options.sync and (options.sent or options.anew or options.dry_run or options.most_withdrawn is not None):
+        return "--sent, --anew, --dry-run and --most-withdrawn go with --sync"
+    if (options.show or options.svg) and not options.dry_run:
+        return "--show and --svg go with --dry-run"
+    return "--svg does not go with --anew, since what the server holds is not known" if options.svg and options.anew else ""
 
 
 def options_of(description: str, given: List[str]) -> Tuple[argparse.ArgumentParser, argparse.Namespace]:

@@ -13,6 +13,8 @@ from maptools.desk_map import DeskMap, Reader
 from maptools.desk_rules import Book, empty_book, identity_of
 from maptools.difference import Difference, Edit, difference_of, line_of_edit, place_of, withdrawal
 from maptools.feed import USUAL
+from maptools.plan import Change, changes_of, plan_of
+from maptools.plan_picture import draw_plan
 from maptools.refusals import cause_text
 from maptools.replies import refused_text
 from maptools.rounds import KNOWN, UNKNOWN, Outcome, Refused, Reply, Talk, settle
@@ -25,13 +27,23 @@ OF_WHAT_IS_HELD = (13, 14, 15, 16, 17, 21)
 AGAIN = "try again with --anew"
 
 
+# Without being told, so many mappings are withdrawn at once, and this share of those that are held.
+MOST_WITHDRAWN, MOST_SHARE = 10, 0.05
+
+
 class Task(NamedTuple):
-    """What is to be done: the edits, the map that they lead to, and where it is kept that they were sent."""
+    """What is to be done: the edits, the map that they begin with as far as it is known, the one that they lead to, and where it is
+    kept that they were sent."""
 
     options: argparse.Namespace
     difference: Difference
+    sent: DeskMap
     wanted: DeskMap
     sent_path: str
+
+    def changes(self) -> List[Change]:
+        """What the edits change."""
+        return list(changes_of(self.difference.edits, self.sent, self.wanted))
 
 
 def now() -> str:
@@ -56,6 +68,16 @@ def complaints_of(options: argparse.Namespace, sent: DeskMap, wanted: DeskMap) -
     return [f"{sent.path} is for {sent.server}, not for {server}: give each server a file of its own with --sent"]
 
 
+def guard(options: argparse.Namespace, difference: Difference, held: int) -> None:
+    """Adds a fault where so many mappings would be withdrawn that the file may not be whole."""
+    count, most = sum(edit.kind == "withdraw" for edit in difference.edits), options.most_withdrawn
+    is_allowed = count <= MOST_WITHDRAWN or count <= held * MOST_SHARE if most is None else count <= most
+    if not is_allowed:
+        usual = f"more than {MOST_WITHDRAWN}, and more than {MOST_SHARE:.0%}" if most is None else f"more than {most}"
+        text = f"{count:,} of the {held:,} mappings held would be withdrawn, {usual}: is {options.file} whole?"
+        difference.faults.append(f"{text} --most-withdrawn {count} allows it")
+
+
 def task_of(options: argparse.Namespace) -> Task:
     """Reads the files; the task is without edits where something is wrong with them."""
     sent_path, reader = options.sent or f"{options.file}.sent", Reader()
@@ -65,8 +87,10 @@ def task_of(options: argparse.Namespace) -> Task:
         difference = Difference(empty_book(), wanted)
         difference.faults += complaints
     else:
+        held = len(sent.book.held)
         difference = anew_from(sent, wanted) if options.anew else difference_of(sent.book, wanted, now())
-    return Task(options, difference, wanted, sent_path)
+        guard(options, difference, held)
+    return Task(options, difference, sent, wanted, sent_path)
 
 
 def channel(is_for_lines: bool) -> TextIO:
@@ -81,8 +105,14 @@ def counts_text(edits: Iterable[Edit], published: str, replaced: str, withdrawn:
 
 
 def show(task: Task) -> int:
-    """Prints what would be sent; the status."""
+    """Prints what would be sent, or what that changes where it is known; the status."""
     edits, options = task.difference.edits, task.options
+    changes = [] if options.anew or not (options.svg or not options.show) else task.changes()
+    if options.svg:
+        with open(options.svg, "w", encoding="utf-8") as file:
+            file.write(draw_plan(f"{options.file}: what would change", changes))
+    for line in [] if options.show else plan_of(changes):
+        print(line)
     if options.show and edits:
         for edit in edits:
             print(line_of_edit(edit, task.wanted).decode())

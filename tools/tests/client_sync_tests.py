@@ -74,7 +74,8 @@ class Sending(MapFile):
             self.write(*published(of_tokens(*tokens, lastUpdated="2025-12-02T00:00:00Z")))
             self.assertIn("code 17, KeyUnchanged", self.sync("--dry-run")[2])
             self.write(*published(of_tokens(*tokens, lastUpdated="2025-12-02T00:00:00Z", key="A-2")))
-            self.assertEqual(self.sync("--dry-run")[:2], (0, "0 to publish, 1 to replace, 0 to withdraw; nothing was sent\n"))
+            status, output, _ = self.sync("--dry-run")
+            self.assertEqual((status, output.splitlines()[-1]), (0, "0 to publish, 1 to replace, 0 to withdraw; nothing was sent"))
 
     def test_what_makes_a_difference(self) -> None:
         name, uris = [{"lang": "en", "text": "A"}], [*A["uri"], "tel:911"]
@@ -153,7 +154,7 @@ class Sending(MapFile):
         self.assertEqual(self.sync()[1], "3000 published, 0 replaced, 0 withdrawn; edition 3000\n")
         later = [{**one, "lastUpdated": "2025-12-02T00:00:00Z"} for one in many[1_000:2_000]]
         self.write(*published(*later, *many[2_000:]))
-        self.assertEqual(self.sync()[1], "0 published, 1000 replaced, 1000 withdrawn; edition 5000\n")
+        self.assertEqual(self.sync("--most-withdrawn", "1000")[1], "0 published, 1000 replaced, 1000 withdrawn; edition 5000\n")
         self.check_sent()
 
     def test_json_prints_the_replies(self) -> None:
@@ -168,7 +169,9 @@ class Sending(MapFile):
         before = self.sent_text()
         self.write(*published(mapping("A", 2), C))
         words, counts = ["desk", "--sync", self.file, "--dry-run"], "1 to publish, 1 to replace, 1 to withdraw; nothing was sent\n"
-        self.assertEqual(run_tool("lost-client", words), (0, counts, ""))
+        plan = ["B: withdrawn", "A: lastUpdated 2025-12-01T00:00:00Z -> 2025-12-02T00:00:00Z"]
+        plan += ["C: new, urn:service:sos.police, sip:C@map.example, 4 positions", counts]
+        self.assertEqual(run_tool("lost-client", words), (0, "\n".join(plan), ""))
         status, output, said = run_tool("lost-client", [*words, "--show"])
         gone, *rest = (json.loads(line) for line in output.splitlines())
         self.assertEqual((status, said), (0, counts))
@@ -246,7 +249,8 @@ class Refusing(MapFile):
         for words in (
             ["--sync", "-", *server], ["--sync", self.file, "--keep-open", *server], [self.file, "--anew", *server],
             [self.file, "--dry-run", *server], [self.file, "--sent", "x", *server], ["--sync", self.file, "--show", *server],
-            ["--sync", self.file], [self.file],
+            ["--sync", self.file], [self.file], [self.file, "--most-withdrawn", "3", *server], ["--sync", self.file, "--svg", "x", *server],
+            ["--sync", self.file, "--dry-run", "--anew", "--svg", "x"], ["--sync", self.file, "--most-withdrawn", "-1", *server],
         ):  # fmt: skip
             self.assertEqual(run_tool("lost-client", ["desk", *words])[0], 2, words)
 
