@@ -1,88 +1,91 @@
-"""The digest of a map, as a server shows it beside its edition: computed anew from desk lines."""
+"""The digest of a map: equal for equal maps, whatever order and edits they came by, and otherwise different.
+
+It is the sum of the digests of its mappings modulo 2**128; that of a mapping is the MD5 of bytes that stand for its values. Texts
+and lists begin with their length in 8 bytes, and all numbers have the greatest byte first.
+"""
 from __future__ import annotations
 
-from hashlib import md5
-from typing import Any, Callable, Dict, Iterable, List, Optional
+import hashlib
+import sys
+from array import array
+from itertools import chain
+from typing import Any, Callable, Dict, Iterable, Iterator, List, Optional
 
-from maptools.desk_rules import position_of
+from maptools.desk_rules import CIVIC, GEODETIC, TOKEN, contents_of
+from maptools.texts import lowered
+
+Mapping = Dict[str, Any]
 
 DIGESTS = 1 << 128
-# A region's list among the three of a mapping, by its profile.
-PROFILES = ("geodetic-2d", "civic", "x-token")
+WORDS = {"NO-CACHE": b"\0", "NO-EXPIRATION": b"\1"}
 
 
-def list_bytes(item_bytes: Callable[[Any], bytes], items: Iterable[Any]) -> bytes:
-    """How many items there are, in 8 bytes, and the items."""
-    written = [item_bytes(item) for item in items]
-    return len(written).to_bytes(8, "big") + b"".join(written)
+def count_bytes(count: int) -> bytes:
+    """A length."""
+    return count.to_bytes(8, "big")
 
 
 def text_bytes(text: str) -> bytes:
-    """A text behind its length."""
-    given = text.encode()
-    return len(given).to_bytes(8, "big") + given
+    """A text."""
+    body = text.encode()
+    return count_bytes(len(body)) + body
 
 
-def texts_bytes(texts: Iterable[str]) -> bytes:
+def list_bytes(item_bytes: Callable[[Any], bytes], items: List[Any]) -> bytes:
+    """A list."""
+    return count_bytes(len(items)) + b"".join(map(item_bytes, items))
+
+
+def texts_bytes(texts: List[str]) -> bytes:
     """A list of texts."""
     return list_bytes(text_bytes, texts)
 
 
-def optional_bytes(text: Optional[str]) -> bytes:
+def option_bytes(text: Optional[str]) -> bytes:
     """A text that may be absent."""
     return b"\0" if text is None else b"\1" + text_bytes(text)
 
 
-def expires_bytes(text: str) -> bytes:
-    """When a mapping ends: never, or at a stamp."""
-    words = {"NO-CACHE": b"\0", "NO-EXPIRATION": b"\1"}
-    return words.get(text) or b"\2" + text_bytes(text)
+def ring_bytes(ring: Any) -> bytes:
+    """A polygon, of pairs or flat: 4 bytes in two's complement for each coordinate, latitude first."""
+    flat = array("i", ring if isinstance(ring, array) else chain.from_iterable(ring))
+    if sys.byteorder == "little":
+        flat.byteswap()
+    return count_bytes(len(flat) // 2) + flat.tobytes()
 
 
-def position_bytes(position: Any) -> bytes:
-    """A latitude and a longitude."""
-    return b"".join(number.to_bytes(4, "big", signed=True) for number in position_of(position) or ())
+def pattern_bytes(pattern: Dict[str, str]) -> bytes:
+    """A civic pattern, its elements in order of their names."""
+    return list_bytes(lambda name: text_bytes(name) + text_bytes(pattern[name]), sorted(pattern))
 
 
-def ring_bytes(region: Dict[str, Any]) -> bytes:
-    """A polygon."""
-    return list_bytes(position_bytes, region["polygon"])
+def name_bytes(name: Dict[str, str]) -> bytes:
+    """A display name."""
+    return text_bytes(name["lang"]) + text_bytes(name["text"])
 
 
-def pattern_bytes(region: Dict[str, Any]) -> bytes:
-    """A civic pattern, in the order of its names' bytes."""
-    pairs = sorted(region["pattern"].items(), key=lambda pair: pair[0].encode())
-    return list_bytes(lambda pair: text_bytes(pair[0]) + text_bytes(pair[1]), pairs)
+def parts_of(mapping: Mapping) -> Iterator[bytes]:
+    """The bytes of a mapping, in parts: the source and the service in lower case, and all else as given."""
+    yield text_bytes(lowered(mapping["source"]))
+    yield text_bytes(mapping["sourceId"])
+    yield text_bytes(mapping["lastUpdated"])
+    yield WORDS.get(mapping["expires"]) or b"\2" + text_bytes(mapping["expires"])
+    yield text_bytes(lowered(mapping["service"]))
+    yield texts_bytes(mapping["uri"])
+    yield option_bytes(mapping.get("serviceNumber"))
+    yield list_bytes(ring_bytes, contents_of(mapping, GEODETIC))
+    yield list_bytes(pattern_bytes, contents_of(mapping, CIVIC))
+    yield list_bytes(texts_bytes, contents_of(mapping, TOKEN))
+    yield b"\1" if mapping.get("default") is True else b"\0"
+    yield list_bytes(name_bytes, mapping.get("displayName") or [])
+    yield option_bytes(mapping.get("key"))
 
 
-def tokens_bytes(region: Dict[str, Any]) -> bytes:
-    """A token set."""
-    return texts_bytes(region["tokens"])
+def mapping_digest(mapping: Mapping) -> int:
+    """The digest of a mapping that codes 1 to 12 let through."""
+    return int.from_bytes(hashlib.md5(b"".join(parts_of(mapping))).digest(), "big")
 
 
-def regions_bytes(regions: List[Dict[str, Any]]) -> bytes:
-    """The polygons, the patterns and the token sets of a mapping."""
-    ways = zip(PROFILES, (ring_bytes, pattern_bytes, tokens_bytes))
-    return b"".join(list_bytes(way, [region for region in regions if region["profile"] == profile]) for profile, way in ways)
-
-
-def mapping_bytes(mapping: Dict[str, Any]) -> bytes:
-    """The bytes that stand for a mapping, which is the value of a `publish`, and for no other."""
-    names = mapping.get("displayName") or []
-    return b"".join((
-        text_bytes(mapping["source"].lower()), text_bytes(mapping["sourceId"]), text_bytes(mapping["lastUpdated"]),
-        expires_bytes(mapping["expires"]), text_bytes(mapping["service"].lower()), texts_bytes(mapping["uri"]),
-        optional_bytes(mapping.get("serviceNumber")), regions_bytes(mapping.get("serviceBoundary") or []),
-        b"\1" if mapping.get("default") else b"\0",
-        list_bytes(lambda name: text_bytes(name["lang"]) + text_bytes(name["text"]), names), optional_bytes(mapping.get("key")),
-    ))  # fmt: skip
-
-
-def mapping_digest(mapping: Dict[str, Any]) -> int:
-    """The digest of a mapping."""
-    return int.from_bytes(md5(mapping_bytes(mapping), usedforsecurity=False).digest(), "big")
-
-
-def map_digest(mappings: Iterable[Dict[str, Any]]) -> str:
-    """The digest of mappings, in whatever order: 32 hexadecimal digits."""
-    return f"{sum(map(mapping_digest, mappings)) % DIGESTS:032x}"
+def map_digest(digests: Iterable[int]) -> str:
+    """The digest of a map, by those of its mappings, as 32 hexadecimal digits."""
+    return f"{sum(digests) % DIGESTS:032x}"

@@ -10,8 +10,8 @@ from typing import Dict, List, Tuple
 
 from maptools.addresses import Unix
 from maptools.connection import Broken
-from maptools.digest import map_digest
-from maptools.server_map import held_map
+from maptools.digest import map_digest, mapping_digest
+from maptools.server_map import told_by
 from tests.running import TOP, run_tool, serve_has
 from tests.server import PATIENCE, READY, Server, ask, unix
 
@@ -74,7 +74,7 @@ class MapOverHttp(unittest.TestCase):
         status, fields, body = self.get()
         wanted = [json.loads(line)["publish"] for line in self.lines]
         self.assertEqual((status, self.values(body)), (200, wanted))
-        self.assertEqual((fields["edition"], fields["map"]), (str(len(wanted)), map_digest(wanted)))
+        self.assertEqual((fields["edition"], fields["map"]), (str(len(wanted)), map_digest(map(mapping_digest, wanted))))
 
     def test_after_edits(self) -> None:
         """What is withdrawn and replaced is as it is now, whatever order the edits had; the digest is that of these mappings."""
@@ -87,7 +87,7 @@ class MapOverHttp(unittest.TestCase):
             self.assertIn("committed", ask(desk, COMMIT))
         status, fields, body = self.get()
         self.assertEqual((status, self.values(body)), (200, [changed, *others[1:]]))
-        self.assertEqual((fields["edition"], fields["map"]), (str(len(self.lines) + 2), map_digest([changed, *others[1:]])))
+        self.assertEqual((fields["edition"], fields["map"]), (str(len(self.lines) + 2), map_digest(map(mapping_digest, (changed, *others[1:])))))
 
     def test_what_is_staged_is_not_in_it(self) -> None:
         """What a desk left without a commit is in no map."""
@@ -105,8 +105,9 @@ class MapOverHttp(unittest.TestCase):
                 file.write(body)
             with Server(["--map", path, "--desk", f"unix:{desk}", "--queries", f"unix:{folder}/queries.sock"]) as second:
                 self.assertEqual(second.first_line(), READY)
-                held = held_map(Unix(desk), PATIENCE)
-        self.assertEqual((held.lines.decode(), held.digest), (body, self.get()[1]["map"]))
+                with told_by(Unix(desk), PATIENCE) as told:
+                    lines = told.lines.read()
+        self.assertEqual((lines.decode(), told.digest), (body, self.get()[1]["map"]))
 
     def test_a_peer_without_chunks(self) -> None:
         """HTTP/1.0 gets the lines as they are, up to the end of the connection."""

@@ -10,7 +10,7 @@ import tempfile
 import unittest
 from typing import Any, Dict, Tuple
 
-from maptools.digest import map_digest
+from maptools.digest import map_digest, mapping_digest
 from tests.gateway_running import wait_until
 from tests.running import TOP, lostd, question
 
@@ -36,7 +36,7 @@ MAP = (
     '"source":"map.example","sourceId":"A","uri":["sip:A@map.example"]}}\n{"commit":{}}\n'
 )
 
-DIGEST = map_digest([json.loads(MAP.splitlines()[0])["publish"]])
+DIGEST = map_digest([mapping_digest(json.loads(MAP.splitlines()[0])["publish"])])
 
 # A family of metrics: its type, its help, and its values by name and labels.
 Family = Tuple[str, str, Dict[Tuple[str, Tuple[Tuple[str, str], ...]], float]]
