@@ -74,7 +74,8 @@ class MapOverHttp(unittest.TestCase):
         status, fields, body = self.get()
         wanted = [json.loads(line)["publish"] for line in self.lines]
         self.assertEqual((status, self.values(body)), (200, wanted))
-        self.assertEqual((fields["edition"], fields["map"]), (str(len(wanted)), map_digest(map(mapping_digest, wanted))))
+        digest = map_digest(map(mapping_digest, wanted))
+        self.assertEqual((fields["edition"], fields["map"]), (str(len(wanted)), digest))
 
     def test_after_edits(self) -> None:
         """What is withdrawn and replaced is as it is now, whatever order the edits had; the digest is that of these mappings."""
@@ -87,7 +88,8 @@ class MapOverHttp(unittest.TestCase):
             self.assertIn("committed", ask(desk, COMMIT))
         status, fields, body = self.get()
         self.assertEqual((status, self.values(body)), (200, [changed, *others[1:]]))
-        self.assertEqual((fields["edition"], fields["map"]), (str(len(self.lines) + 2), map_digest(map(mapping_digest, (changed, *others[1:])))))
+        digest = map_digest(map(mapping_digest, (changed, *others[1:])))
+        self.assertEqual((fields["edition"], fields["map"]), (str(len(self.lines) + 2), digest))
 
     def test_what_is_staged_is_not_in_it(self) -> None:
         """What a desk left without a commit is in no map."""
@@ -142,8 +144,8 @@ class MapOverHttp(unittest.TestCase):
             self.skipTest(said)
         self.assertEqual((status, said), (0, ""))
         self.assertRegex(output, r"0 errors")
-        with self.assertRaises(Broken):
-            held_map(Unix(f"{self.folder.name}/queries.sock"), 5)
+        with self.assertRaises(Broken), told_by(Unix(f"{self.folder.name}/queries.sock"), 5):
+            pass
 
     def test_the_server_goes_on(self) -> None:
         """A peer that leaves in the middle of an answer, or of a request, keeps nobody out."""
