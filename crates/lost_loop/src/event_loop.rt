@@ -1,12 +1,12 @@
 //! The event loop of a worker.
-ghost use Rattle.std.specs.Prelude.{◌≡◌, ◌⊎◌, ◌<◌, ℕ, false, IsTrue, MatchOption, length, is_some};
+ghost use Rattle.std.specs.Prelude.{◌≡◌, ◌⊎◌, ◌<◌, ℕ, false, IsTrue, MatchOption, length};
 ghost use Rattle.lost_worker.specs.Lines.{HasSeenMore};
 ghost use Rattle.lost_status.specs.Figures.{connections_counted};
 ghost use Rattle.lost_connections.specs.Worker.{worker};
 ghost use Rattle.lost_connections.specs.Clients.{connected_at, KeepsAll, KeepsOthers};
-ghost use Rattle.lost_loop.specs.Counting.{end_counted, lost_counted};
+ghost use Rattle.lost_loop.specs.Counting.{lost_counted};
 ghost use Rattle.lost_loop.specs.Keys.{flag_at};
-ghost use Rattle.lost_loop.specs.Loop.{Bursts, Follows, IsPlus, IsTurn, IsTaken, Leaves, TakesOrCloses, one_fault};
+ghost use Rattle.lost_loop.specs.Loop.{Bursts, Follows, IsTurn, IsTaken, TakesOrCloses};
 
 use crate::connection_state::{ConnectionState, Connections, fault_text};
 use crate::deciding::{Next, Patience, next_after, patience_for};
@@ -52,7 +52,7 @@ pub struct EventLoop<'s> {
     pub(crate) clients: Connections,
     queue: ReadyQueue,
     /// Those that have no line left, which are closed once their replies are taken.
-    spent: SpentKeys,
+    pub(crate) spent: SpentKeys,
     chunk: Vec<u8>,
     /// The time of this round, by the monotonic clock.
     pub(crate) now: Duration,
@@ -62,7 +62,7 @@ pub struct EventLoop<'s> {
     is_closing: bool,
     pub(crate) counts: Counts,
     /// What it counts for the status.
-    counter: ConnectionCounter<'s>,
+    pub(crate) counter: ConnectionCounter<'s>,
     ghost room: { 0 < length chunk.items },
 }
 
@@ -383,50 +383,5 @@ impl<'s> EventLoop<'s> {
         } else {
             self.end(service, key, Some(fault_text(ClientFault::Spent)));
         }
-    }
-
-    /// Closes a connection, and adds its counts, or a fault if there is a cause, which is reported.
-    pub(crate) fn end<R: Wait + Clock + Eprint, G>(
-        &mut self,
-        service: &Service<'_, R, G>,
-        key: usize,
-        cause: Option<&'static str>,
-    )
-        ensures leaves { Leaves ⟦<SharedStream as Read>⟧.remaining ⟦<SharedStream as Write>⟧.contents (is_some cause) self.old.clients self.new.clients self.old.counts self.new.counts key }
-        ensures forgotten { flag_at self.new.spent.flags.items key ≡ false }
-        ensures now { self.new.now ≡ self.old.now }
-        ensures counted { self.new.counter
-            ≡ end_counted self.old.counter (connected_at self.old.clients key) cause.entry }
-    {
-        self.spent.forget(key);
-        let Some(connected) = self.clients.remove(key) else {
-            return;
-        };
-        let peer = connected.state.peer;
-        service.admission.leave(service.rt, peer.address());
-        match cause {
-            Some(cause) => self.count_fault(service, connected.state, cause),
-            None => {
-                self.counts = self.counts.plus(connected.client.counts());
-                self.counter.count(ConnectionEvent::Ended);
-            }
-        }
-    }
-
-    /// Counts a connection that ended in a fault, and reports the cause.
-    fn count_fault<R: Wait + Clock + Eprint, G>(
-        &mut self,
-        service: &Service<'_, R, G>,
-        state: ConnectionState,
-        cause: &'static str,
-    )
-        ensures clients { self.new.clients ≡ self.old.clients }
-        ensures counted { IsPlus self.old.counts one_fault self.new.counts }
-        ensures others { (self.new.now ≡ self.old.now) × (self.new.spent ≡ self.old.spent) }
-        ensures counter { self.new.counter ≡ connections_counted self.old.counter ConnectionEvent.Failed }
-    {
-        self.counts = self.counts.plus(Counts::of_fault());
-        self.counter.count(ConnectionEvent::Failed);
-        service.log.report_query(state.number, &state.peer, cause);
     }
 }

@@ -5,6 +5,7 @@
 mod accepting;
 mod connection_state;
 mod deciding;
+mod ending;
 mod event_loop;
 mod ready_queue;
 mod service;
