@@ -11,7 +11,7 @@ use Rattle.lost_loop.specs.Swept.{IsSwept, IsSweptBelow, ClosesFirst}
 
 -- what is late is no nothing
 not_none : {X : Type 0} (o : Option X) → IsSome o → o ≡ None → ⊥
-not_none None is none = absurd is
+not_none None is none = absurd (cc)
 not_none (Some x) is none = absurd (cc)
 
 module _ {I O T : Type 0} (limits : TimeLimits) (now : Duration) where
@@ -20,8 +20,8 @@ module _ {I O T : Type 0} (limits : TimeLimits) (now : Duration) where
   late_is_there c key = there (connected_at c key)
     where
       there : (o : Option (Connected I O T)) → IsSome (passed_by limits now o) → IsSome o
-      there None is = absurd is
-      there (Some connected) is = tt
+      there None is = absurd (cc)
+      there (Some connected) is = refl
 
   pub swept_none : (old : Clients I O T) → IsSweptBelow limits now old old 0
   swept_none old = record {

@@ -24,7 +24,7 @@ impl EventLoop<'_> {
         key: usize,
         cause: Option<&'static str>,
     )
-        ensures leaves { Leaves ⟦<SharedStream as Read>⟧.remaining ⟦<SharedStream as Write>⟧.contents (is_some cause) self.old.clients self.new.clients self.old.counts self.new.counts key }
+        ensures leaves { Leaves ⟦<SharedStream as Read>⟧.remaining ⟦<SharedStream as Write>⟧.contents (is_some cause.entry) self.old.clients self.new.clients self.old.counts self.new.counts key }
         ensures forgotten { flag_at self.new.spent.flags.items key ≡ false }
         ensures now { self.new.now ≡ self.old.now }
         ensures counted { self.new.counter
