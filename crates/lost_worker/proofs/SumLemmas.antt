@@ -1,5 +1,5 @@
 -- The counts of connections that were served one after another, and their sum.
-use Rattle.std.proofs.Common.{◌≡◌, ℕ, ◌+◌, Bool, List, [], ◌∷◌, ◌++◌, map, Option, None, Some, sum_by, refl, sym, ap, ◌∙◌, append_assoc, arith}
+use Rattle.std.proofs.Common.{◌≡◌, ℕ, ◌+◌, Bool, List, [], ◌∷◌, ◌++◌, map, Option, None, Some, IfSome, sum_by, refl, sym, ap, ◌∙◌, append_assoc, append-nil, arith}
 use Rattle.std.proofs.lemmas.List.{map-append}
 use Rattle.std.proofs.lemmas.List.Sums.{sum_by_push}
 use Rattle.lost_lines.specs.declared.counts.Counts.{Counts}
@@ -80,3 +80,13 @@ module _ (says : ℕ → Bool → Type 0) (step : Worker → Cut → Reply → W
     pub so_far_none : (old new : Worker) (first now : Option (List C)) (total : Counts) → new ≡ old → now ≡ first → total ≡ record { lines = 0; long_lines = 0; memory = 0; faults = 0 } → SumsSoFar says step old new ends first now total
     so_far_none old new None now total same coming none = tt
     so_far_none old new (Some all) now total same coming none = ([], all, coming, refl, over_none old new total same none)
+
+    -- nothing more comes, so all that were told were served
+    pub all_served : (old new : Worker) (first now later : Option (List C)) (total : Counts) → HandsOver now None later → SumsSoFar says step old new ends first now total → IfSome first (λ all. SumsOver says step old new (map ends all) total)
+    all_served old new None now later total hands so_far = tt
+    all_served old new (Some all) None later total hands (served, left, coming, whole, sums) = absurd (cc)
+    all_served old new (Some all) (Some (next ∷ others)) later total hands so_far = absurd (cc (hands.0))
+    all_served old new (Some all) (Some []) later total hands (served, left, coming, whole, sums) =
+        let rest : left ≡ [] = cc (coming) in
+        let same : all ≡ served = whole ∙ ap (λ l. served ++ l) rest ∙ append-nil served in
+        rw same sums
