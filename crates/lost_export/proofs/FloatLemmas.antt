@@ -10,10 +10,9 @@ use Rattle.std.proofs.Common.{Ordering, Less, Equal, Greater}
 use Rattle.lost_spec.specs.Text.{Text}
 use Rattle.lost_spec.specs.Ring.{Point}
 use Rattle.lost_spec.specs.Civic.{Pairs}
-use Rattle.lost_spec.specs.Service.{service_text}
 use Rattle.lost_spec.specs.Place.{Regions}
 use Rattle.lost_spec.specs.Mapping.{DisplayName, Mapping}
-use Rattle.lost_export.specs.Export.{member_if, list_data, texts_data, position_data, polygon_data, put_pairs, pattern_data, token_set_data, regions_data, expires_text, display_name_data, display_names_data, default_data, boundary_data, publish_members, publish_data}
+use Rattle.lost_export.specs.Export.{member_if, list_data, texts_data, position_data, polygon_data, put_pairs, pattern_data, token_set_data, regions_data, display_name_data, display_names_data, default_data, boundary_data, publish_members, publish_data}
 
 both : (a b : Bool) → a ≡ false → b ≡ false → (a || b) ≡ false
 both true b h k = cc

@@ -10,3 +10,5 @@ pub mod PairLemmas
 pub mod RegionLemmas
 pub mod TreeLemmas
 pub mod ReadLemmas
+pub mod OrderLemmas
+pub mod SaidLemmas

@@ -1,6 +1,6 @@
 -- What members that are put in from the last to the first make.
-use Rattle.std.proofs.Common.{◌≡◌, List, [], ◌∷◌, Bool, true, false, Option, None, Some, option_map, codes, refl}
-use Rattle.serde_json.specs.Data.{Data, string, Members, no_members, member, put}
+use Rattle.std.proofs.Common.{◌≡◌, Option, None, Some, codes, refl}
+use Rattle.serde_json.specs.Data.{Data, Members, no_members, member, put}
 use Rattle.lost_spec.specs.Text.{Text}
 use Rattle.lost_export.specs.Export.{member_if}
 use Rattle.lost_export.specs.Put.{put_if}

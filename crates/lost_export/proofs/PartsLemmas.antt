@@ -1,5 +1,5 @@
 -- The parts that a mapping's tree says: they make the same mapping.
-use Rattle.std.proofs.Common.{◌≡◌, Bool, true, false, not, ◌||◌, List, [], ◌∷◌, length, nat_lt, Option, None, Some, Result, Ok, Err, is_err, refl, sym, ap, ◌∙◌}
+use Rattle.std.proofs.Common.{◌≡◌, Bool, true, false, not, ◌||◌, [], ◌∷◌, length, nat_lt, Option, None, Some, Result, Ok, Err, is_err, refl, sym, ap, ◌∙◌}
 use Rattle.std.specs.List.{list_all, list_any}
 use Rattle.std.specs.Option.{option_or}
 use Rattle.std.specs.Result.{result_unwrap_or}
@@ -9,7 +9,7 @@ use Rattle.lost_spec.specs.declared.faults.MappingError.TheVariants.{BadSource, 
 use Rattle.lost_spec.specs.declared.faults.UrnError.{UrnError}
 use Rattle.lost_spec.specs.Text.{Text, same_text, lowered, first_fault}
 use Rattle.lost_spec.specs.Token.{is_id}
-use Rattle.lost_spec.specs.Service.{Service, is_service, read_service, service_text}
+use Rattle.lost_spec.specs.Service.{Service, read_service, service_text}
 use Rattle.lost_spec.specs.Moment.{is_stamp, stamp_of}
 use Rattle.lost_spec.specs.Place.{by_kind, is_region, are_too_many}
 use Rattle.lost_spec.specs.Mapping.{Parts, Mapping, At, is_source, is_expires, expires_of, no_cache, no_expiration, are_uris, is_number, has_right_regions, is_too_large, has_right_key, parts_fault, mapping_of}

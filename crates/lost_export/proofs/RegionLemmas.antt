@@ -1,8 +1,8 @@
 -- Regions are read from their trees as they were.
-use Rattle.std.proofs.Common.{◌≡◌, ℕ, ◌^◌, ◌<◌, ◌≤◌, Bool, true, false, not, ◌&&◌, cond, nat_lt, List, [], ◌∷◌, ◌++◌, map, Option, None, Some, option_map, option_and_then, is_none, ℤ, pos, negsuc, neg_ℤ, int_le, refl, sym, ap, ◌∙◌, arith}
+use Rattle.std.proofs.Common.{◌≡◌, ℕ, ◌^◌, Bool, true, false, not, cond, nat_lt, List, [], ◌∷◌, ◌++◌, map, Option, None, Some, option_map, is_none, ℤ, pos, negsuc, neg_ℤ, int_le, refl, ap, arith}
 use Rattle.std.specs.List.{list_all, AllByRecursion}
-use Rattle.serde_json.specs.Data.{Data, number, string}
-use Rattle.serde_json.specs.Find.{of_integer, as_i64, as_str}
+use Rattle.serde_json.specs.Data.{Data, number}
+use Rattle.serde_json.specs.Find.{of_integer, as_str}
 use Rattle.serde_json.specs.View.{items_of}
 use Rattle.std.proofs.lemmas.Int.{ints}
 use Rattle.lost_spec.specs.Text.{Text, first_fault}
@@ -12,7 +12,7 @@ use Rattle.lost_spec.specs.Civic.{Pairs}
 use Rattle.lost_spec.specs.Place.{Region, PatternRegion, TokenRegion, Regions, point_of, is_region}
 use Rattle.lost_reading.specs.Members.{each_of, list_in, position_in, whole_in}
 use Rattle.lost_reading.specs.Desk.{region_in, regions_kind}
-use Rattle.lost_export.specs.Export.{texts_data, list_data, position_data, polygon_data, pattern_data, token_set_data, regions_data}
+use Rattle.lost_export.specs.Export.{texts_data, position_data, polygon_data, pattern_data, token_set_data, regions_data}
 use Rattle.lost_export.specs.ReadBack.{HasAscendingNames}
 use Rattle.lost_export.proofs.KindLemmas.{position_of, ring_of, listed, both_true}
 use Rattle.lost_export.proofs.PairLemmas.{pairs_back}

@@ -1,15 +1,15 @@
 -- The tree of a mapping says its parts.
-use Rattle.std.proofs.Common.{◌≡◌, Bool, true, false, List, [], ◌∷◌, Option, None, Some, option_map, option_and_then, unwrap_or, codes, refl, ap, ◌∙◌, subst, sym}
+use Rattle.std.proofs.Common.{◌≡◌, Bool, true, false, List, [], ◌∷◌, Option, None, Some, option_map, option_and_then, unwrap_or, codes, refl, ap, ◌∙◌, sym}
 use Rattle.std.specs.List.{list_all, AllByRecursion}
 use Rattle.serde_json.specs.Data.{Data, string, Members}
-use Rattle.serde_json.specs.Find.{get_member, as_str, as_bool}
+use Rattle.serde_json.specs.Find.{as_str, as_bool}
 use Rattle.lost_spec.specs.Text.{Text}
 use Rattle.lost_spec.specs.Service.{service_text}
-use Rattle.lost_spec.specs.Place.{Region, Regions, no_regions, is_region}
+use Rattle.lost_spec.specs.Place.{Regions, no_regions, is_region}
 use Rattle.lost_spec.specs.Mapping.{Parts, Mapping, DisplayName}
 use Rattle.lost_reading.specs.Members.{unless_null, required, optional, optional_value, defaulting, list_in}
 use Rattle.lost_reading.specs.Desk.{regions_kind, display_name_in, parts_of_members}
-use Rattle.lost_export.specs.Export.{list_data, texts_data, regions_data, expires_text, display_name_data, display_names_data, default_data, boundary_data, publish_members}
+use Rattle.lost_export.specs.Export.{list_data, texts_data, expires_text, display_name_data, display_names_data, default_data, boundary_data, publish_members}
 use Rattle.lost_export.specs.ReadBack.{HasAscendingNames}
 use Rattle.lost_export.proofs.KindLemmas.{listed}
 use Rattle.lost_export.proofs.RegionLemmas.{texts_back, regions_back}

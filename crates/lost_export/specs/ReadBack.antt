@@ -4,9 +4,10 @@ use Rattle.std.specs.List.{AllByRecursion}
 use Rattle.std.specs.List.Sorted.{IsStrictlySortedBy}
 use Rattle.std.specs.Ordering.{nat_cmp}
 use Rattle.std.specs.Cmp.Lexicographic.{slice_cmp}
+use Rattle.lost_spec.specs.Text.{Text}
 use Rattle.lost_spec.specs.Civic.{Pairs, names_of}
 use Rattle.lost_spec.specs.Mapping.{Parts, Mapping, parts_fault, mapping_of}
-use Rattle.lost_spec.specs.Book.{Publish}
+use Rattle.lost_spec.specs.Book.{Publish, Replace}
 use Rattle.lost_reading.specs.Desk.{Stage, desk_line}
 use Rattle.lost_export.specs.Export.{publish_json}
 
@@ -24,3 +25,10 @@ pub record IsBuilt (m : Mapping) : Type 0 where
 -- the line of the mapping says to publish it
 abbrev pub ReadsBack : Mapping → Type 0
 ReadsBack m = desk_line (publish_json m) ≡ Some (Ok (Stage (Publish m)))
+
+-- each mapping that a desk line publishes, or replaces another by, is built
+abbrev pub PublishedAreBuilt : Type 0
+PublishedAreBuilt = (line : Text) (m : Mapping) → desk_line line ≡ Some (Ok (Stage (Publish m))) → IsBuilt m
+
+abbrev pub ReplacingAreBuilt : Type 0
+ReplacingAreBuilt = (line : Text) (m : Mapping) → desk_line line ≡ Some (Ok (Stage (Replace m))) → IsBuilt m

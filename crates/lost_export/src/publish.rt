@@ -157,7 +157,8 @@ fn publish_json(alloc: Global, mapping: &Mapping) -> Result<Vec<u8>, AllocError>
     tree.to_vec(alloc)
 }
 
-/// The desk line that publishes a mapping, with its byte 10 (own format over RFC 5222, section 5).
+/// The desk line that publishes a mapping, with its byte 10 (own format over RFC 5222, section 5). It may be longer than the
+/// line that the mapping came from, since each position is two whole numbers, and longer than the longest line that is read.
 ///
 /// # Errors
 ///
