@@ -1,7 +1,10 @@
 -- A piece of a map's lines grows by a line.
-use Rattle.std.proofs.Common.{◌≡◌, ℕ, zero, suc, ◌+◌, ◌-◌, ◌≤◌, List, [], ◌∷◌, ◌++◌, take, drop, Option, Some, slice_get, unwrap_or, refl, sym, ap, ◌∙◌, append_assoc, append-nil, arith, flat_map}
+use Rattle.std.proofs.Common.{◌≡◌, ℕ, zero, suc, ◌+◌, ◌-◌, ◌≤◌, List, [], ◌∷◌, ◌++◌, take, drop, Some, slice_get, length, ◌<◌, unwrap_or, sym, ap, ◌∙◌, append_assoc, append-nil, arith, flat_map}
 use Rattle.std.proofs.lemmas.Option.{slice_get_within}
 use Rattle.lost_spec.specs.Text.{Text}
+use Rattle.lost_spec.specs.Mapping.{Mapping}
+use Rattle.lost_export.specs.Export.{publish_text}
+use Rattle.lost_desks.specs.MapPieces.{IsPiece}
 
 module _ {Item : Type 0} (written : Item → Text) where
   -- the lines of the first things, and of the next one
@@ -28,3 +31,26 @@ module _ {Item : Type 0} (written : Item → Text) where
       let at : from + (to - from) ≡ to = omega (arith, order) in
       let more : to + 1 - from ≡ suc (to - from) = omega (arith, order) in
       ap (λ n. flat_map written (take n (drop from things))) more ∙ lines_behind things from (to - from) to next at is
+
+-- a piece begins with one line
+pub piece_begins : (mappings : List Mapping) (from : ℕ) (mapping : Mapping) (text : Text) → from < length mappings → slice_get mappings from ≡ Some mapping → text ≡ publish_text mapping
+    → IsPiece mappings from (from + 1) text
+piece_begins mappings from mapping text within is written =
+    let none : from - from ≡ 0 = omega (arith) in
+    record {
+      lines = written ∙ sym (lines_more publish_text mappings from from mapping (omega (arith)) is ∙ ap (λ n. flat_map publish_text (take n (drop from mappings)) ++ publish_text mapping) none);
+      goes_on = omega (arith);
+      within = omega (arith, within);
+    }
+
+-- and grows by one
+pub piece_grows : (mappings : List Mapping) (from next : ℕ) (mapping : Mapping) (before line after : Text) → IsPiece mappings from next before → next < length mappings
+    → slice_get mappings next ≡ Some mapping → line ≡ publish_text mapping → after ≡ before ++ line → IsPiece mappings from (next + 1) after
+piece_grows mappings from next mapping before line after piece within is written grown =
+    let goes_on = piece.goes_on in
+    record {
+      lines = grown ∙ ap (λ text. text ++ line) piece.lines ∙ ap (λ text. flat_map publish_text (take (next - from) (drop from mappings)) ++ text) written
+          ∙ sym (lines_more publish_text mappings from next mapping (omega (arith, goes_on)) is);
+      goes_on = omega (arith, goes_on);
+      within = omega (arith, within);
+    }

@@ -1,9 +1,8 @@
 -- When a desk's turn is over. (Own.)
-use Rattle.std.specs.Prelude.{Bool, true, false, Option, None, Some, if◌then◌else◌, ◌||◌, not}
+use Rattle.std.specs.Prelude.{Bool, false, Option, None, Some, if◌then◌else◌, not}
 use Rattle.std.specs.Bool.{nat_le}
 use Rattle.std.specs.Duration.{as_nanos}
 use Rattle.std.specs.declared.time.Duration.{Duration}
-use Rattle.lost_desks.specs.declared.turn_end.TurnEnd.{TurnEnd}
 use Rattle.lost_desks.specs.declared.turn_end.TurnEnd.TheVariants.{Silent, NoLine, NoLineAndWaited, NotTaken, NotTakenAndWaited}
 use Rattle.lost_desks.specs.declared.turn_end.TurnState.{TurnState}
 use Rattle.lost_desks.specs.declared.turn_end.TurnState.TheVariants.{GoesOn, IsOver, IsOverIfWaited}

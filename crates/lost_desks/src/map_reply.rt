@@ -112,9 +112,10 @@ fn piece_from(alloc: Global, book: &Routing, from: usize) -> Result<MapPiece, Al
     requires { from < length book.now.mappings }
     ensures { IfOk result (λ piece. IsPiece book.now.mappings from piece.next piece.text.items) }
 {
+    let bound = book.len();
     let mut text = publish_line(alloc, book.mapping(from))?;
     let mut next = from + 1;
-    while next < book.len() && text.len() < PIECE {
+    while next < bound && text.len() < PIECE {
         let line = publish_line(alloc, book.mapping(next))?;
         text.extend_from_slice(line.as_slice())?;
         next += 1;

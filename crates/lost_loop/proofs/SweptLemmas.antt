@@ -1,10 +1,9 @@
 -- A check of limits, key by key.
-use Rattle.std.proofs.Common.{◌≡◌, ℕ, ◌+◌, ◌<◌, ◌≤◌, ◌⊎◌, inl, inr, Option, None, Some, IsSome, refl, sym, ap, subst, ◌∙◌, arith}
+use Rattle.std.proofs.Common.{◌≡◌, ℕ, ◌+◌, ◌<◌, ◌≤◌, ◌⊎◌, inl, inr, Option, None, Some, IsSome, refl, sym, ap, ◌∙◌, arith}
 use Rattle.std.proofs.lemmas.Bool.{cases_lt, cases_eq}
 use Rattle.std.specs.declared.time.Duration.{Duration}
 use Rattle.lost_connections.specs.declared.clients.Clients.{Clients}
 use Rattle.lost_connections.specs.declared.clients.Connected.{Connected}
-use Rattle.lost_connections.specs.declared.deadlines.Passed.{Passed}
 use Rattle.lost_connections.specs.declared.limits.TimeLimits.{TimeLimits}
 use Rattle.lost_connections.specs.Clients.{connected_at, late_at, passed_by, IsFirstLate}
 use Rattle.lost_loop.specs.Swept.{IsSwept, IsSweptBelow, ClosesFirst}

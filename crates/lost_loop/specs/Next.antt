@@ -1,5 +1,5 @@
 -- What a worker decides, from values alone. (Own.)
-use Rattle.std.specs.Prelude.{ℕ, ◌-◌, Bool, true, false, if◌then◌else◌, ◌||◌, Option, None, Some, Result, Ok, Err}
+use Rattle.std.specs.Prelude.{◌-◌, Bool, true, false, if◌then◌else◌, None, Some, Result, Ok, Err}
 use Rattle.std.specs.Bool.{nat_le}
 use Rattle.std.specs.Duration.{as_nanos}
 use Rattle.std.specs.declared.time.Duration.{Duration}

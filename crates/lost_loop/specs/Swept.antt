@@ -1,5 +1,5 @@
 -- What a check of limits does. (Own.)
-use Rattle.std.specs.Prelude.{◌≡◌, ◌<◌, ◌≤◌, ℕ, IsSome, Option, None, Some}
+use Rattle.std.specs.Prelude.{◌≡◌, ◌<◌, ◌≤◌, ℕ, IsSome, None}
 use Rattle.std.specs.declared.time.Duration.{Duration}
 use Rattle.lost_connections.specs.declared.clients.Clients.{Clients}
 use Rattle.lost_connections.specs.declared.limits.TimeLimits.{TimeLimits}
