@@ -62,7 +62,7 @@ def option_lines(service: Service, option: Option) -> Iterator[str]:
 def settings_of(service: Service, command: Command) -> str:
     """A service's file of options."""
     options = [option for option in command.options() if option.names[-1] not in ("--help", "--version", *service.never)]
-    missing = {*service.values, *service.offered, *service.never} - {name for option in command.options() for name in option.names}
+    missing = {*service.values, *service.offered} - {name for option in command.options() for name in option.names}
     if missing:
         raise Fault(f"{' '.join(service.words)} has no {', '.join(sorted(missing))}, which {service.unit} names")
     lines = [line for option in options for line in option_lines(service, option)]

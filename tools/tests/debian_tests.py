@@ -10,10 +10,12 @@ import unittest.mock
 from typing import ClassVar, Dict, List, Tuple
 
 from building.debian import changes_of, debian_packages, version_in, write_debian
+from building.faults import Fault
+from building.helps import Command
 from building.installing import tools_of
 from building.machine import PORTABLE
 from building.package import write_package
-from building.services import SERVICES
+from building.services import SERVICES, settings_of
 from building.trees import tree_id, trees_of
 from building.versions import number_of, version_of
 from tests.running import CASES, TOP
@@ -204,6 +206,13 @@ class Texts(unittest.TestCase):
     def test_the_changes_of_a_version(self) -> None:
         text = "# Changes\n\n- before\n\n## 0.2.0, not yet released\n\n**Server**\n\n- a\n- b\n\n## 0.1.0, 2026-01-01\n\n**Gateway**\n\n- c\n"
         self.assertEqual(changes_of(text), [("0.2.0", ["Server: a", "Server: b"]), ("0.1.0", ["Gateway: c"])])
+
+    def test_an_option_that_is_set_must_be_there(self) -> None:
+        lines = ["Options:", *(f"      {name} <X>  does something" for name in SERVICES[0].values)]
+        text = settings_of(SERVICES[0], Command("serve", "", lines, []))
+        self.assertTrue(text.endswith("\n# Does something\n--workers 4\n"), text)
+        with self.assertRaisesRegex(Fault, "lostd serve has no --workers, which lostd.service names"):
+            settings_of(SERVICES[0], Command("serve", "", lines[:-1], []))
 
     def test_the_page_of_changes_begins_with_the_version_of_the_sources(self) -> None:
         with open(f"{TOP}/CHANGELOG.md", encoding="utf-8") as file:
