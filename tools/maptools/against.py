@@ -16,7 +16,7 @@ from maptools.texts import moment_of, stamp_after
 from maptools.times import now_stamp
 
 # What alone makes no edit: a mapping that is the same in all else keeps its stamp and its key.
-OF_NO_ACCOUNT = ("lastUpdated", "key")
+OF_NO_ACCOUNT = ("lastUpdated", "key", "digest")
 
 
 class NoMap(Exception):

@@ -29,28 +29,27 @@ standard input, and it ends at the end of standard input or at an interrupt (Ctr
 standard input, and are sent as they come.
 
 --sync makes the server hold what FILE says: the mappings that its lines leave when they are read from the start. FILE
-must end with a commit, so that a truncated file is not taken for a whole one. FILE.sent keeps what the server was last
-sent. The client compares the two files: it withdraws mappings that are gone, replaces those that changed, publishes new
-ones, and commits all of that at once. If nothing differs, it sends nothing. Without FILE.sent it publishes everything.
+must end with a commit, so that a truncated file is not taken for a whole one. The client asks the server for its map,
+withdraws mappings that are gone, replaces those that changed, publishes new ones, and commits all of that at once. If
+nothing differs, it sends nothing. A mapping whose lastUpdated alone differs is not changed: the server keeps it. At the end
+the client compares the digest of what the server holds with that of what it was to hold. With several --server each is made
+the same, whatever it held.
 
 Before it sends anything, --sync names each edit that would be refused. A changed mapping needs a later lastUpdated, and
-a new key if its regions changed. A mapping that comes back needs a later lastUpdated than its withdrawal. A withdrawal
-has the stamp of its withdraw line in FILE, or else the time of this machine (in UTC, to the second), whichever is after
-the lastUpdated of the withdrawn mapping. If neither is, the stamp is a nanosecond after that lastUpdated.
+a new key if its regions changed. With --stamp now a mapping that changed without a later lastUpdated gets the time of the
+sync instead. That is the default for files of geojson-to-desk and addresses-to-desk, whose commit line says so; --stamp file
+keeps to the file. --back brings an older file back: all that differs gets the time of the sync. A withdrawal has the stamp
+of its withdraw line in FILE, or else the time of the sync, whichever is after the lastUpdated of the withdrawn mapping. If
+neither is, the stamp is a nanosecond after that lastUpdated.
 
 If more than 10 mappings would be withdrawn, and more than 5 % of those that are held, nothing is sent, since FILE may not be
 whole; --most-withdrawn N allows N. --dry-run says for each mapping what would change, and --svg draws it.
-
-If the server still refuses an edit, because it was restarted or another desk changed its map, nothing is committed, and
-FILE.sent stays as it was. Then use --anew: it publishes all of FILE and replaces what the server holds, except what the
-server holds with the same lastUpdated or a later one. It withdraws what FILE.sent has and FILE no longer has. FILE.sent
-is a file of desk lines: a server can start with it.
 """
 DESK_EXAMPLES = """examples:
   tail -n +1 -F map.jsonl | lost-client desk --server localhost:5223 -
-  lost-client desk --sync map.jsonl --dry-run --show
+  lost-client desk --sync map.jsonl --server unix:/run/lostd/desk.sock --dry-run --svg changes.svg
   lost-client desk --sync map.jsonl --server unix:/run/lostd/desk.sock
-  lost-client desk --sync map.jsonl --sent map.second --server 10.0.0.6:5223
+  lost-client desk --sync map.jsonl --server 10.0.0.5:5223 --server 10.0.0.6:5223
 """
 STATUS = """Shows what the server reports at its --status address: whether it is ready, its edition, its mappings, and its counts
 since it started. --json prints the report as it comes, as one JSON object.
@@ -98,9 +97,10 @@ def seconds_argument(text: str) -> float:
 
 
 def add_common(words: argparse.ArgumentParser, is_desk: bool = False) -> None:
-    """The arguments of every subcommand. A desk waits for its turn, and needs no server to say what it would send."""
+    """The arguments of every subcommand. A desk waits for its turn, and may have several servers."""
     where = "where the server listens: HOST:PORT, or unix:PATH for a socket in the file system"
-    words.add_argument("--server", required=not is_desk, type=server_argument, metavar="ADDRESS", help=where)
+    many = {"action": "append", "dest": "servers", "help": f"{where}; with --sync repeat it for more servers"}
+    words.add_argument("--server", required=True, type=server_argument, metavar="ADDRESS", **(many if is_desk else {"help": where}))
     usual = f"{USUAL:g}, but no limit for the first reply, while another desk is served" if is_desk else f"{USUAL:g}"
     seconds = {"type": seconds_argument, "default": None if is_desk else USUAL, "metavar": "SECONDS"}
     words.add_argument("--timeout", help=f"how long to wait for a connection, and for a reply ({usual})", **seconds)
@@ -141,8 +141,9 @@ def add_desk(commands: Any) -> None:
     desk.add_argument("file", metavar="FILE", help="the desk lines; standard input for -")
     desk.add_argument("--keep-open", action="store_true", help="after FILE, send what comes on standard input, until it ends")
     desk.add_argument("--sync", action="store_true", help="make the server hold what FILE says")
-    desk.add_argument("--sent", metavar="PATH", help="where --sync keeps what the server was sent (FILE.sent)")
-    desk.add_argument("--anew", action="store_true", help="with --sync, for a server that may hold anything")
+    stamp = {"choices": ("now", "file"), "help": "with --sync, what changed without a later lastUpdated gets the time of the sync, or is named"}
+    desk.add_argument("--stamp", **stamp)
+    desk.add_argument("--back", action="store_true", help="with --sync, all that differs gets the time of the sync, as for an older FILE")
     desk.add_argument("--dry-run", action="store_true", help="with --sync, say what would be sent, and send nothing")
     desk.add_argument("--show", action="store_true", help="with --dry-run, print the lines that would be sent, not what they change")
     desk.add_argument("--svg", metavar="PATH", help="with --dry-run, draw the outlines that change, as a picture (SVG)")
@@ -167,15 +168,15 @@ def mistake_in(options: argparse.Namespace) -> str:
     """What is wrong with words that do not go together; empty where nothing is."""
     if options.command != "desk":
         return ""
-    if not options.server and not options.dry_run:
-        return "the following arguments are required: --server"
     if options.sync and (options.keep_open or options.file == "-"):
         return "--sync needs a FILE, and goes with neither standard input nor --keep-open"
-    if not options.sync and (options.sent or options.anew or options.dry_run or options.most_withdrawn is not None):
-        return "--sent, --anew, --dry-run and --most-withdrawn go with --sync"
-    if (options.show or options.svg) and not options.dry_run:
-        return "--show and --svg go with --dry-run"
-    return "--svg does not go with --anew, since what the server holds is not known" if options.svg and options.anew else ""
+    if not options.sync and (options.stamp or options.back or options.dry_run or options.most_withdrawn is not None):
+        return "--stamp, --back, --dry-run and --most-withdrawn go with --sync"
+    if not options.sync and len(options.servers) > 1:
+        return "several servers go with --sync"
+    if options.svg and len(options.servers) > 1:
+        return "--svg draws what changes in one server"
+    return "--show and --svg go with --dry-run" if (options.show or options.svg) and not options.dry_run else ""
 
 
 def options_of(description: str, given: List[str]) -> Tuple[argparse.ArgumentParser, argparse.Namespace]:
@@ -185,4 +186,6 @@ def options_of(description: str, given: List[str]) -> Tuple[argparse.ArgumentPar
     mistake = mistake_in(options)
     if mistake:
         words.error(mistake)
+    if options.command == "desk":
+        options.server = options.servers[0]
     return words, options

@@ -1,9 +1,8 @@
 """What a file of desk lines leaves: the mappings that a server holds which reads it from the start."""
 from __future__ import annotations
 
-import os
 import re
-from typing import Any, Dict, List, NamedTuple, Optional
+from typing import Any, Dict, Iterable, List, NamedTuple, Optional
 
 from maptools.desk_rules import (
     EDITS, Book, Fault, Identity, apply_edit, book_fault, empty_book, identity_of, mapping_fault, withdrawal_fault,
@@ -13,8 +12,8 @@ from maptools.outlines import outline_of
 from maptools.refusals import REFUSALS
 
 COMMIT = "commit"
-# Whose map a commit line says that the lines are; servers ignore it.
-SERVER = "server"
+# How a commit line says that what changed may be stamped when it is sent; servers ignore it.
+STAMP, NOW = "stamp", "now"
 NAME_OF_LINE = re.compile(rb'\s*\{\s*"[^"]*"')
 
 
@@ -43,7 +42,7 @@ class DeskMap:
         self.path, self.noun, self.book = path, noun, empty_book()
         self.given: Dict[Identity, Given] = {}
         self.complaints: List[str] = []
-        self.is_committed, self.server = True, ""
+        self.is_committed, self.stamp, self.edition = True, "", ""
 
     def take(self, number: int, line: bytes, parsed: Parsed) -> None:
         """Does what a line says."""
@@ -54,7 +53,7 @@ class DeskMap:
             return
         self.is_committed = kind == COMMIT
         if kind == COMMIT:
-            self.server = str(value.get(SERVER) or "")
+            self.stamp = str(value.get(STAMP) or "")
             return
         apply_edit(self.book, kind, value)
         if kind != "withdraw":
@@ -91,19 +90,19 @@ class Reader:
     def __init__(self) -> None:
         self.known: Dict[bytes, Parsed] = {}
 
-    def read(self, path: str) -> DeskMap:
-        """What a file leaves; its last line must be a commit, lest a file that was cut off be taken for a whole one."""
+    def read_lines(self, path: str, lines: Iterable[bytes]) -> DeskMap:
+        """What lines leave; the last one must be a commit, lest a file that was cut off be taken for a whole one."""
         result = DeskMap(path)
         result.is_committed = False
-        with open(path, "rb") as file:
-            for number, line in enumerate(file, 1):
-                line = line.rstrip(b"\n")
-                parsed = self.known.get(line) or self.known.setdefault(line, parsed_line(line))
-                result.take(number, line, parsed)
+        for number, line in enumerate(lines, 1):
+            line = line.rstrip(b"\n")
+            parsed = self.known.get(line) or self.known.setdefault(line, parsed_line(line))
+            result.take(number, line, parsed)
         if not result.is_committed:
             result.complaints.append(f"{path}: its last line is not a commit; add one, to show that the file is whole")
         return result
 
-    def read_if_there(self, path: str) -> DeskMap:
-        """The same of a file that may be missing, which leaves nothing then."""
-        return self.read(path) if os.path.lexists(path) else DeskMap(path)
+    def read(self, path: str) -> DeskMap:
+        """What a file leaves."""
+        with open(path, "rb") as file:
+            return self.read_lines(path, file)

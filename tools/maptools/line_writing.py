@@ -4,6 +4,7 @@ from __future__ import annotations
 import argparse
 from typing import Any, Dict, NamedTuple
 
+from maptools.desk_map import COMMIT, NOW, STAMP
 from maptools.desk_rules import Book, Fault, Identity, book_fault, empty_book, identity_of, mapping_fault
 from maptools.left_out import LeftOut, Mistake
 from maptools.lines import LONGEST_LINE, line_of
@@ -11,7 +12,8 @@ from maptools.mapping_words import is_constant
 from maptools.meridian import Unfit
 from maptools.refusals import REFUSALS
 
-COMMIT_LINE = '{"commit":{}}'
+# What changed may be stamped when it is sent.
+COMMIT_LINE = f'{{"{COMMIT}":{{"{STAMP}":"{NOW}"}}}}'
 # What stands in the book for each mapping, of which only the identity and the key are looked at.
 HELD: Dict[str, Any] = {}
 

@@ -1,4 +1,4 @@
-"""The outline of a mapping: what the rules of a book look at, and digests of all else.
+"""The outline of a mapping: what the rules of a book look at, digests of all else, and that of the whole.
 
 It stands for the mapping in a book, so that a large map takes little memory, and two mappings have equal outlines where a
 server shows no difference between them.
@@ -9,6 +9,7 @@ import hashlib
 from typing import Any, Dict
 
 from maptools.desk_rules import MEMBERS, contents_of
+from maptools.digest import mapping_digest
 from maptools.lines import line_of
 from maptools.texts import lowered
 
@@ -41,4 +42,5 @@ def outline_of(value: Dict[str, Any]) -> Dict[str, Any]:
             {"profile": profile, member: digest_of(contents_of(value, profile))} for profile, member in MEMBERS.items()
         ],
         "rest": digest_of(rest_of(value)),
+        "digest": mapping_digest(value),
     }

@@ -4,7 +4,7 @@ from __future__ import annotations
 import argparse
 import io
 import socket
-from typing import Any, Dict, FrozenSet, Iterable, List, NamedTuple, Tuple
+from typing import Any, Callable, Dict, Iterable, List, NamedTuple, Tuple
 
 from maptools.desk_map import DeskMap
 from maptools.difference import Edit, line_of_edit
@@ -12,27 +12,9 @@ from maptools.feed import Feed, Patience, replies
 from maptools.replies import reply_of
 from maptools.sending import say
 
-IDENTITY_HELD, IDENTITY_UNKNOWN, NOT_NEWER, KEY_HELD = 13, 14, 15, 16
+WITHDRAWN = 21
 
 Reply = Tuple[str, Dict[str, Any]]
-
-
-class Manner(NamedTuple):
-    """Which refusals say that the server has what is wanted, which edits are sent again and as what, and in how many rounds."""
-
-    fitting: FrozenSet[Tuple[str, int]]
-    again: Dict[Tuple[str, int], str]
-    rounds: int
-
-
-# To a server that holds what it was last sent: each edit is accepted, or something is wrong.
-KNOWN = Manner(frozenset(), {}, 1)
-# To one that may hold anything: what it holds is replaced, and a key is free once the mapping that has it is replaced.
-UNKNOWN = Manner(
-    frozenset({("replace", NOT_NEWER), ("withdraw", IDENTITY_UNKNOWN)}),
-    {("publish", IDENTITY_HELD): "replace", ("publish", KEY_HELD): "publish", ("replace", KEY_HELD): "replace"},
-    4,
-)
 
 
 class Refused(NamedTuple):
@@ -47,10 +29,9 @@ class Refused(NamedTuple):
 
 
 class Outcome(NamedTuple):
-    """What was accepted, what the server had as it is wanted, and what it refused."""
+    """What was accepted, and what the server refused."""
 
     accepted: List[Edit]
-    fitting: List[Edit]
     refused: List[Refused]
 
 
@@ -75,28 +56,18 @@ class Talk:
         return result
 
 
-def sort_out(outcome: Outcome, told: Iterable[Refused], manner: Manner, is_last: bool) -> List[Edit]:
-    """Takes note of the replies of a round; the edits to send in the next one."""
-    again = []
-    for one in told:
-        name = (one.edit.kind, one.code())
-        if one.reply[0] == "staged":
-            outcome.accepted.append(one.edit)
-        elif name in manner.fitting:
-            outcome.fitting.append(one.edit)
-        elif name in manner.again and not is_last:
-            again.append(one.edit._replace(kind=manner.again[name]))
-        else:
-            outcome.refused.append(one)
-    return again
+def send_round(talk: Talk, edits: List[Edit], wanted: DeskMap) -> Outcome:
+    """Sends edits; nothing is committed."""
+    told = list(map(Refused, edits, talk.ask(line_of_edit(edit, wanted) for edit in edits)))
+    is_staged = [one.reply[0] == "staged" for one in told]
+    return Outcome([one.edit for one, is_in in zip(told, is_staged) if is_in], [one for one, is_in in zip(told, is_staged) if not is_in])
 
 
-def settle(talk: Talk, edits: List[Edit], wanted: DeskMap, manner: Manner) -> Outcome:
-    """Sends edits, in as many rounds as they need; nothing is committed."""
-    outcome = Outcome([], [], [])
-    for number in range(1, manner.rounds + 1):
-        told = talk.ask(line_of_edit(edit, wanted) for edit in edits)
-        edits = sort_out(outcome, map(Refused, edits, told), manner, number == manner.rounds)
-        if not edits:
-            break
-    return outcome
+def settle(talk: Talk, edits: List[Edit], wanted: DeskMap, stamp_again: Callable[[Edit], bool]) -> Outcome:
+    """Sends edits. What was withdrawn with a later stamp, which only the server knows, is sent again if it may be stamped again."""
+    first = send_round(talk, edits, wanted)
+    late = [one for one in first.refused if one.code() == WITHDRAWN and stamp_again(one.edit)]
+    if not late:
+        return first
+    second = send_round(talk, [one.edit for one in late], wanted)
+    return Outcome(first.accepted + second.accepted, [one for one in first.refused if one not in late] + second.refused)

@@ -1,7 +1,6 @@
 """tools/lost-client desk --sync --dry-run: what it says and draws of each change; and the guard against a file that is not whole."""
 from __future__ import annotations
 
-import os
 import unittest
 import xml.etree.ElementTree as ElementTree
 from typing import Any, Dict, List
@@ -103,7 +102,8 @@ class Plans(MapFile):
         self.write(*published(mapping("A", 2, "A-2", place=3), mapping("C", place=200)))
         status, output, said = self.sync("--dry-run", "--svg", picture)
         lines = ["B: withdrawn", "A: boundary moved (4 positions of 4; up to less than 1 m)"]
-        lines += ["C: new, urn:service:sos.police, sip:C@map.example, 4 positions", "1 to publish, 1 to replace, 1 to withdraw; nothing was sent"]
+        counts = f"{self.server.address}: 1 to publish, 1 to replace, 1 to withdraw; nothing was sent"
+        lines += ["C: new, urn:service:sos.police, sip:C@map.example, 4 positions", counts]
         self.assertEqual((status, output.splitlines(), said), (0, lines, ""))
         text = "".join(ElementTree.parse(picture).getroot().itertext())
         self.assertIn("3 of the changes are of outlines", text)
@@ -122,7 +122,7 @@ class Plans(MapFile):
     def test_the_guard(self) -> None:
         for held, left, is_allowed in ((30, 20, True), (30, 19, False), (300, 285, True), (300, 284, False)):
             self.write(*published(*self.many(held)))
-            self.assertEqual(self.sync("--anew")[0], 0)
+            self.assertEqual(self.sync("--stamp", "now")[0], 0)
             self.write(*published(*self.many(left)))
             status, output, said = self.sync()
             self.assertEqual(status, 0 if is_allowed else 3, (held, left, said))
@@ -132,7 +132,4 @@ class Plans(MapFile):
                 self.assertEqual(said.splitlines()[0], f"lost-client: {text} --most-withdrawn {gone} allows it")
                 self.assertEqual(self.sync("--most-withdrawn", str(gone - 1))[0], 3)
                 self.assertEqual(self.sync("--most-withdrawn", str(gone))[0], 0)
-            self.write(*published(*self.many(0)))
-            self.assertEqual(self.sync("--most-withdrawn", "300")[0], 0)
-            os.remove(self.sent)
             self.server = self.new_server(f"{held}-{left}.sock")

@@ -10,6 +10,9 @@ import tempfile
 import unittest
 from typing import Any, List, Tuple
 
+from maptools.addresses import server_of
+from maptools.connection import Broken
+from maptools.server_map import digest_told
 from tests.client_address_tests import has_ipv6
 from tests.fake_servers import free_address
 from tests.map_file import A, B, C, COMMIT, mapping, published, withdrawal
@@ -75,47 +78,36 @@ class Standing(unittest.TestCase):
             status, output, _ = run_tool("lost-client", ["boundary", "--server", server, "--key", "west-1"])
             self.assertEqual((status, output.splitlines()[-1]), (0, "from lost.example, edition 2"))
 
+    def begin_one_that_tells_its_map(self) -> None:
+        """Begins a server, if the program can tell its map."""
+        self.begin_usual()
+        try:
+            digest_told(server_of(self.desk), 2)
+        except Broken:
+            self.skipTest("the program does not tell its map")
+
     def test_syncs(self) -> None:
         self.write(*published(A, B))
-        self.begin_usual()
-        held = "2 already held with the same stamp or a later one, 0 already gone; no commit was needed\n"
-        self.assertEqual(self.sync("--anew")[:2], (0, f"0 published, 0 replaced, 0 withdrawn, {held}"))
-        self.assertEqual(self.sync()[1][:15], "nothing to send")
+        self.begin_one_that_tells_its_map()
+        self.assertEqual(self.sync()[1].split(";")[0], f"{self.desk}: nothing to send: it holds what {self.file} says")
         self.write(*published(mapping("B", 2, place=100, uri=["sip:other@map.example"]), C))
-        self.assertEqual(self.sync(), (0, "1 published, 1 replaced, 1 withdrawn; edition 5\n", ""))
+        status, output, said = self.sync()
+        self.assertEqual((status, output.split("; map ")[0], said), (0, f"{self.desk}: 1 published, 1 replaced, 1 withdrawn; edition 5", ""))
         self.assertEqual([self.found("5,5"), self.found("105,5"), self.found("205,5")], [[], ["B"], ["C"]])
         self.write(*published(mapping("B", 2, place=100, uri=["sip:other@map.example"]), C, A))
         status, _, said = self.sync()
         self.assertEqual((status, "code 21, Withdrawn" in said), (3, True))
+        self.assertEqual(self.sync("--stamp", "now")[0], 0)
+        self.assertEqual(self.found("5,5"), ["A"])
 
     def test_another_desk_changes_the_map(self) -> None:
         self.write(*published(A, B))
-        self.begin_usual()
-        shutil.copy(self.file, f"{self.file}.sent")
+        self.begin_one_that_tells_its_map()
         other = json.dumps(withdrawal("A", "2025-12-02T00:00:00Z")) + "\n" + json.dumps(COMMIT) + "\n"
         self.assertEqual(run_tool("lost-client", ["desk", "--server", self.desk, "-"], other)[0], 0)
         self.write(*published(mapping("A", 3), B, C))
-        status, _, said = self.sync()
-        self.assertEqual((status, "line 1: map.example A: refused with code 14, IdentityUnknown" in said), (3, True))
-        self.assertEqual(self.found("205,5"), [])
-        held = "1 already held with the same stamp or a later one, 0 already gone; edition 5\n"
-        self.assertEqual(self.sync("--anew")[:2], (0, f"2 published, 0 replaced, 0 withdrawn, {held}"))
+        self.assertEqual(self.sync()[:1], (0,))
         self.assertEqual([self.found("5,5"), self.found("205,5")], [["A"], ["C"]])
-
-    def test_a_server_begins_with_what_was_sent(self) -> None:
-        self.write(*published(A, B))
-        first = self.begin_usual()
-        shutil.copy(self.file, f"{self.file}.sent")
-        self.write(*published(B, C))
-        self.assertEqual(self.sync()[0], 0)
-        first.kill()
-        first.wait()
-        self.begin_usual(f"{self.file}.sent")
-        self.assertEqual([self.found("5,5"), self.found("105,5"), self.found("205,5")], [[], ["B"], ["C"]])
-        early = json.dumps({"publish": A}) + "\n"
-        self.assertIn("code 21, Withdrawn", run_tool("lost-client", ["desk", "--server", self.desk, "-"], early)[2])
-        self.write(*published(B))
-        self.assertEqual(self.sync()[1][:39], "0 published, 0 replaced, 1 withdrawn; e")
 
     def test_a_second_desk_waits(self) -> None:
         self.begin_usual()

@@ -1,4 +1,4 @@
-"""tools/lost-client desk --sync: what is sent, and what would be refused."""
+"""tools/lost-client desk --sync: what is sent by what the server holds, and what would be refused."""
 from __future__ import annotations
 
 import json
@@ -15,29 +15,28 @@ LATE = "9000-01-01T00:00:00.999999999Z"
 
 
 class Sending(MapFile):
-    """The difference between what was sent and the map file."""
+    """The difference between what the server holds and the map file."""
 
     def test_first_all_is_published_and_then_nothing(self) -> None:
         self.write(*published(A, B))
-        self.assertEqual(self.sync(), (0, "2 published, 0 replaced, 0 withdrawn; edition 2\n", ""))
+        self.assertEqual(self.sync(), (0, self.done("2 published, 0 replaced, 0 withdrawn", 2), ""))
         self.assertEqual(self.heard(), published(A, B))
-        self.check_sent()
-        nothing = f"nothing to send: according to {self.sent}, the server holds what {self.file} says\n"
+        self.check_held(A, B)
+        nothing = f"{self.server.address}: nothing to send: it holds what {self.file} says{self.end(2)}"
         self.assertEqual(self.sync(), (0, nothing, ""))
-        self.assertEqual(len(self.server.heard), 1)
+        self.assertEqual((len(self.server.heard), self.server.told), (1, 3))
 
     def test_a_difference_is_sent_and_no_more(self) -> None:
         self.write(*published(A, B, C))
         self.sync()
         other = {**B, "lastUpdated": "2025-12-02T00:00:00Z", "uri": ["sip:other@map.example"]}
         self.write(*published(D, C, other))
-        self.assertEqual(self.sync(), (0, "1 published, 1 replaced, 1 withdrawn; edition 6\n", ""))
+        self.assertEqual(self.sync(), (0, self.done("1 published, 1 replaced, 1 withdrawn", 6), ""))
         gone, *rest = self.heard()
         self.assertRegex(gone["withdraw"]["lastUpdated"], NOW)
         self.assertEqual(gone, withdrawal("A", gone["withdraw"]["lastUpdated"]))
         self.assertEqual(rest, [{"replace": other}, {"publish": D}, COMMIT])
         self.assertEqual(self.held(), [("B", "02", "B-1"), ("C", "01", "C-1"), ("D", "01", "D-1")])
-        self.check_sent()
 
     def test_what_makes_no_difference(self) -> None:
         self.write(*published(A, {**mapping("S", default=True), "key": None, "serviceBoundary": None}))
@@ -47,14 +46,14 @@ class Sending(MapFile):
         default = {**mapping("S", default=True), "serviceBoundary": [], "displayName": []}
         del default["key"]
         self.write(*published(default, same))
-        self.assertEqual(self.sync()[1][:15], "nothing to send")
+        self.assertEqual(self.sync()[1][: len(self.nothing)], self.nothing)
 
     def test_the_same_ring_as_text_makes_no_difference(self) -> None:
         self.write(*published(A))
         self.assertEqual(self.sync()[0], 0)
         ring = ["0 0.0", [0, 10], "0.0000010  0.000001", "0.0000010 -0", "0 0"]
         self.write(*published({**A, "serviceBoundary": [{"profile": "geodetic-2d", "polygon": ring}]}))
-        self.assertEqual(self.sync()[1][:15], "nothing to send")
+        self.assertEqual(self.sync()[1][: len(self.nothing)], self.nothing)
         ring[1] = "0 0.0000011"
         self.write(*published({**A, "serviceBoundary": [{"profile": "geodetic-2d", "polygon": ring}]}))
         self.assertIn("code 15, NotNewer", self.sync("--dry-run")[2])
@@ -67,7 +66,7 @@ class Sending(MapFile):
         self.write(*published(of_tokens("t1", "t2")))
         self.assertEqual(self.sync()[0], 0)
         self.write(*published({**of_tokens("t1", "t2"), "serviceBoundary": of_tokens("t1", "t2")["serviceBoundary"][::-1]}))
-        self.assertEqual(self.sync()[1][:15], "nothing to send")
+        self.assertEqual(self.sync()[1][: len(self.nothing)], self.nothing)
         for tokens in (("t2", "t1"), ("t1",), ("T1", "t2")):
             self.write(*published(of_tokens(*tokens)))
             self.assertIn("code 15, NotNewer", self.sync("--dry-run")[2])
@@ -75,14 +74,15 @@ class Sending(MapFile):
             self.assertIn("code 17, KeyUnchanged", self.sync("--dry-run")[2])
             self.write(*published(of_tokens(*tokens, lastUpdated="2025-12-02T00:00:00Z", key="A-2")))
             status, output, _ = self.sync("--dry-run")
-            self.assertEqual((status, output.splitlines()[-1]), (0, "0 to publish, 1 to replace, 0 to withdraw; nothing was sent"))
+            last = f"{self.server.address}: 0 to publish, 1 to replace, 0 to withdraw; nothing was sent"
+            self.assertEqual((status, output.splitlines()[-1]), (0, last))
 
     def test_what_makes_a_difference(self) -> None:
         name, uris = [{"lang": "en", "text": "A"}], [*A["uri"], "tel:911"]
         changes = [{"expires": "NO-CACHE"}, {"serviceNumber": "911"}, {"displayName": name}, {"service": "urn:service:sos"}]
         for more in (*changes, {"uri": uris}):
             self.write(*published(A))
-            self.sync("--anew")
+            self.sync("--back")
             self.write(*published({**A, **more}))
             status, _, said = self.sync("--dry-run")
             self.assertEqual((status, "its replacement would be refused with code 15, NotNewer" in said), (3, True), said)
@@ -90,20 +90,17 @@ class Sending(MapFile):
     def test_a_log_is_read_by_its_last_state(self) -> None:
         edits = [{"replace": mapping("A", 2)}, withdrawal("B", "2025-12-05T00:00:00Z"), {"publish": C}, COMMIT]
         self.write(*published(A, B), *edits)
-        self.assertEqual(self.sync()[1], "2 published, 0 replaced, 0 withdrawn; edition 2\n")
+        self.assertEqual(self.sync()[1], self.done("2 published, 0 replaced, 0 withdrawn", 2))
         self.assertEqual(self.heard(), published(mapping("A", 2), C))
-        self.check_sent()
 
     def test_the_name_of_a_line_in_other_white_space(self) -> None:
         with open(self.file, "w", encoding="utf-8") as file:
             file.write(f' {{ "replace" : {json.dumps(mapping("A", 2))} }} \r\n{json.dumps(COMMIT)}'.replace("replace", "publish"))
         self.assertEqual(self.sync()[0], 0)
-        self.check_sent()
         with open(self.file, "w", encoding="utf-8") as file:
-            file.write(f'{{\t"publish"\t:{json.dumps(mapping("A", 3))}}}\n{json.dumps(COMMIT)}')
+            file.write(f'{{\t"publish"\t:{json.dumps(mapping("A", 3, "A-3"))}}}\n{json.dumps(COMMIT)}')
         self.assertEqual(self.sync()[0], 0)
-        self.assertEqual(self.heard(), [{"replace": mapping("A", 3)}, COMMIT])
-        self.check_sent()
+        self.assertEqual(self.heard(), [{"replace": mapping("A", 3, "A-3")}, COMMIT])
 
     def test_a_withdrawal_has_the_stamp_of_the_file_or_one_that_is_late_enough(self) -> None:
         self.write(*published(A, B, mapping("F", lastUpdated=LATE, place=400)))
@@ -114,7 +111,6 @@ class Sending(MapFile):
         self.assertEqual(first, withdrawal("A", "2025-12-09T00:00:00Z"))
         self.assertRegex(second["withdraw"]["lastUpdated"], NOW)
         self.assertEqual([third, commit], [withdrawal("F", "9000-01-01T00:00:01.000000000Z"), COMMIT])
-        self.check_sent()
 
     def test_the_stamp_after_another_one(self) -> None:
         for stamp, after in (
@@ -130,68 +126,63 @@ class Sending(MapFile):
         self.sync()
         moved = [mapping("A", 2, "B-1"), mapping("B", 2, "C-1", place=100), mapping("C", 2, "C-2", place=200), {**D, "key": "A-1"}]
         self.write(*published(*moved))
-        self.assertEqual(self.sync()[1], "1 published, 3 replaced, 0 withdrawn; edition 7\n")
+        self.assertEqual(self.sync()[1], self.done("1 published, 3 replaced, 0 withdrawn", 7))
         self.assertEqual(self.held(), [("A", "02", "B-1"), ("B", "02", "C-1"), ("C", "02", "C-2"), ("D", "01", "A-1")])
-        self.check_sent()
 
     def test_a_key_of_what_is_gone_is_free(self) -> None:
         self.write(*published(A, B))
         self.sync()
         self.write(*published(mapping("A", 2, "B-1"), {**D, "key": "A-1"}))
         self.assertEqual(self.sync()[0], 0)
-        self.check_sent()
 
     def test_everything_may_be_withdrawn_by_a_commit_alone(self) -> None:
         self.write(*published(A, B))
         self.sync()
         self.write(COMMIT)
-        self.assertEqual(self.sync()[1], "0 published, 0 replaced, 2 withdrawn; edition 4\n")
-        self.check_sent()
+        self.assertEqual(self.sync()[1], self.done("0 published, 0 replaced, 2 withdrawn", 4))
 
     def test_a_large_map(self) -> None:
         many = [mapping(f"m{number}", place=number) for number in range(3_000)]
         self.write(*published(*many))
-        self.assertEqual(self.sync()[1], "3000 published, 0 replaced, 0 withdrawn; edition 3000\n")
-        later = [{**one, "lastUpdated": "2025-12-02T00:00:00Z"} for one in many[1_000:2_000]]
+        self.assertEqual(self.sync()[1], self.done("3000 published, 0 replaced, 0 withdrawn", 3000))
+        later = [{**one, "lastUpdated": "2025-12-02T00:00:00Z", "expires": "NO-CACHE"} for one in many[1_000:2_000]]
         self.write(*published(*later, *many[2_000:]))
-        self.assertEqual(self.sync("--most-withdrawn", "1000")[1], "0 published, 1000 replaced, 1000 withdrawn; edition 5000\n")
-        self.check_sent()
+        self.assertEqual(self.sync("--most-withdrawn", "1000")[1], self.done("0 published, 1000 replaced, 1000 withdrawn", 5000))
 
     def test_json_prints_the_replies(self) -> None:
         self.write(*published(A))
         status, output, said = self.sync("--json")
         self.assertEqual((status, output), (0, '{"staged": {"pending": 1}}\n{"committed": {"edition": 1}}\n'))
-        self.assertEqual(said, "1 published, 0 replaced, 0 withdrawn; edition 1\n")
+        self.assertEqual(said, self.done("1 published, 0 replaced, 0 withdrawn", 1))
 
     def test_what_would_be_sent(self) -> None:
         self.write(*published(A, B))
         self.sync()
-        before = self.sent_text()
-        self.write(*published(mapping("A", 2), C))
-        words, counts = ["desk", "--sync", self.file, "--dry-run"], "1 to publish, 1 to replace, 1 to withdraw; nothing was sent\n"
-        plan = ["B: withdrawn", "A: lastUpdated 2025-12-01T00:00:00Z -> 2025-12-02T00:00:00Z"]
+        self.write(*published(mapping("A", 2, uri=["sip:a@map.example"]), C))
+        counts = f"{self.server.address}: 1 to publish, 1 to replace, 1 to withdraw; nothing was sent\n"
+        plan = ["B: withdrawn", "A: uri sip:A@map.example -> sip:a@map.example"]
         plan += ["C: new, urn:service:sos.police, sip:C@map.example, 4 positions", counts]
-        self.assertEqual(run_tool("lost-client", words), (0, "\n".join(plan), ""))
-        status, output, said = run_tool("lost-client", [*words, "--show"])
+        self.assertEqual(self.sync("--dry-run"), (0, "\n".join(plan), ""))
+        status, output, said = self.sync("--dry-run", "--show")
         gone, *rest = (json.loads(line) for line in output.splitlines())
         self.assertEqual((status, said), (0, counts))
-        self.assertEqual((gone["withdraw"]["sourceId"], rest), ("B", [{"replace": mapping("A", 2)}, {"publish": C}, COMMIT]))
-        anew = "2 to publish (to replace, where the server holds them), 0 to replace, 1 to withdraw; nothing was sent\n"
-        self.assertEqual(run_tool("lost-client", [*words, "--anew"]), (0, anew, ""))
-        self.assertEqual((self.sent_text(), len(self.server.heard)), (before, 1))
+        wanted = [{"replace": mapping("A", 2, uri=["sip:a@map.example"])}, {"publish": C}, COMMIT]
+        self.assertEqual((gone["withdraw"]["sourceId"], rest), ("B", wanted))
+        self.assertEqual(len(self.server.heard), 1)
+        self.check_held(A, B)
 
 
 class Refusing(MapFile):
     """What is said before anything is sent."""
 
     def refused(self, *lines: Any) -> str:
-        """What is said of a file that would be refused; nothing may be sent, and FILE.sent must stay."""
-        before, connections = self.sent_text(), len(self.server.heard)
+        """What is said of a file that would be refused; nothing may be sent."""
+        connections = len(self.server.heard)
         self.write(*lines)
         status, output, said = self.sync()
-        self.assertEqual((status, output, self.sent_text(), len(self.server.heard)), (3, "", before, connections))
-        fault, *more = said.splitlines()
-        self.assertEqual(more, ["lost-client: nothing was sent"])
+        self.assertEqual((status, output, len(self.server.heard)), (3, "", connections))
+        fault, more = said.splitlines()
+        self.assertRegex(more, "^lost-client: (unix:.*: )?nothing was sent$")
         return fault
 
     def test_changes_that_would_be_refused(self) -> None:
@@ -208,11 +199,15 @@ class Refusing(MapFile):
         self.sync()
         self.write(*published(A))
         self.assertEqual(self.sync()[0], 0)
-        back = "line 2: map.example B: its publication would be refused with code 21, Withdrawn: map.example B was withdrawn at "
-        self.assertIn(back, self.refused(*published(A, B)))
+        self.write(*published(A, B))
+        status, output, said = self.sync()
+        cause = f"{self.file}, line 2: map.example B: refused with code 21, Withdrawn: it was withdrawn, at this lastUpdated or later"
+        why = "the server remembers a later withdrawal, or another desk changed its map meanwhile; sync again, perhaps with --stamp now"
+        last = f"lost-client: {self.server.address}: 1 of 1 edits were refused, so nothing was published: {why}"
+        self.assertEqual((status, output, said.splitlines()), (3, "", [f"lost-client: {cause}", last]))
         self.write(*published(A, {**B, "lastUpdated": LATE}))
         self.assertEqual(self.sync()[0], 0)
-        self.check_sent()
+        self.check_held(A, {**B, "lastUpdated": LATE})
 
     def test_a_mapping_of_the_end_of_time_stays(self) -> None:
         self.write(*published(A, {**B, "lastUpdated": "9999-12-31T23:59:59.999999999Z"}))
@@ -247,10 +242,12 @@ class Refusing(MapFile):
     def test_mistakes_on_the_command_line(self) -> None:
         server = ["--server", self.server.address]
         for words in (
-            ["--sync", "-", *server], ["--sync", self.file, "--keep-open", *server], [self.file, "--anew", *server],
-            [self.file, "--dry-run", *server], [self.file, "--sent", "x", *server], ["--sync", self.file, "--show", *server],
+            ["--sync", "-", *server], ["--sync", self.file, "--keep-open", *server], [self.file, "--back", *server],
+            [self.file, "--dry-run", *server], [self.file, "--stamp", "now", *server], ["--sync", self.file, "--show", *server],
+            [self.file, *server, *server], ["--sync", self.file, "--stamp", "then", *server],
+            ["--sync", self.file, *server, *server, "--dry-run", "--svg", "x"], ["--sync", self.file, "--dry-run"],
             ["--sync", self.file], [self.file], [self.file, "--most-withdrawn", "3", *server], ["--sync", self.file, "--svg", "x", *server],
-            ["--sync", self.file, "--dry-run", "--anew", "--svg", "x"], ["--sync", self.file, "--most-withdrawn", "-1", *server],
+            ["--sync", self.file, "--most-withdrawn", "-1", *server],
         ):  # fmt: skip
             self.assertEqual(run_tool("lost-client", ["desk", *words])[0], 2, words)
 

@@ -7,10 +7,12 @@ import socket
 import socketserver
 import threading
 from contextlib import suppress
+from itertools import chain
 from typing import Any, Callable, Dict, List, Optional, Tuple
 
 from maptools.addresses import Tcp, Unix
 from maptools.desk_rules import EDITS, Book, apply_edit, edit_fault, empty_book
+from maptools.digest import map_digest, mapping_digest
 from maptools.lines import read_line
 from maptools.refusals import REFUSALS
 
@@ -70,14 +72,16 @@ def serve_once(replier: Replier, path: str = "", host: str = "127.0.0.1") -> Tup
 class DeskServer:
     """A server that serves desks one after another, by the rules that the tools have. What a desk did not commit is dropped.
 
-    `heard` has the lines of each connection. A line that `interrupt` names ends the connection without a reply.
+    `heard` has the lines of each connection. A line that `interrupt` names ends the connection without a reply. Over HTTP it tells
+    its map, and how often; if `lies` says something, that is the digest. What `meanwhile` has becomes its book once it has told it.
     """
 
     def __init__(self, path: str) -> None:
         self.address, self.listener = f"unix:{path}", unix_listener(path)
         self.book, self.edition = empty_book(), 0
         self.heard: List[List[bytes]] = []
-        self.interrupt = b""
+        self.interrupt, self.lies, self.told = b"", "", 0
+        self.meanwhile: Optional[Book] = None
         threading.Thread(target=self.run, daemon=True).start()
 
     def run(self) -> None:
@@ -93,8 +97,12 @@ class DeskServer:
     def serve(self, connection: socket.socket, lines: Any) -> None:
         """Serves one desk."""
         staged, pending = copy_of(self.book), 0
+        first = lines.readline()
+        if first.startswith(b"GET /map "):
+            self.tell(connection, lines)
+            return
         self.heard.append([])
-        for line in lines:
+        for line in chain([first] if first else [], lines):
             self.heard[-1].append(line.rstrip(b"\n"))
             if self.interrupt and self.interrupt in line:
                 return
@@ -106,6 +114,19 @@ class DeskServer:
                 apply_edit(staged, kind, value)
                 pending += 1
             connection.sendall(line_of(desk_reply(kind, code, pending, self.edition)))
+
+    def tell(self, connection: socket.socket, lines: Any) -> None:
+        """Answers GET /map."""
+        while lines.readline().strip():
+            pass
+        body = b"".join(line_of({"publish": value}) for value in self.book.held.values()) + line_of({"commit": {}})
+        digest = self.lies or map_digest(map(mapping_digest, self.book.held.values()))
+        head = f"HTTP/1.1 200 OK\r\nContent-Length: {len(body)}\r\nEdition: {self.edition}\r\nMap: {digest}\r\nConnection: close\r\n\r\n"
+        self.told += 1
+        self.book, self.meanwhile = self.meanwhile or self.book, None
+        # (who wants the digest alone reads no further)
+        with suppress(ConnectionResetError, BrokenPipeError):
+            connection.sendall(head.encode() + body)
 
     def close(self) -> None:
         """Ends the server."""

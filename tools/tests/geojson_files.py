@@ -18,3 +18,5 @@ def feature(coordinates: Any, name: Any = "a", kind: str = "Polygon", **properti
 def collection(features: List[Any]) -> str:
     """A file of features."""
     return json.dumps({"type": "FeatureCollection", "features": features})
+# The commit line that geojson-to-desk writes.
+COMMIT = '{"commit":{"stamp":"now"}}\n'

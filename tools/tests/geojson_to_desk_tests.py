@@ -8,7 +8,7 @@ import unittest
 from typing import Any, List
 
 from maptools.desk_rules import apply_edit, contents_of, edit_fault, empty_book
-from tests.geojson_files import COMMON, RING, collection, feature
+from tests.geojson_files import COMMIT, COMMON, RING, collection, feature
 from tests.running import CASES, found_in, lostd, question, read, replay, run_tool, token_question
 
 D = 10_000_000
@@ -83,7 +83,7 @@ class Cases(unittest.TestCase):
     def test_the_server_takes_each_line_and_finds_what_is_known(self) -> None:
         for name, points in KNOWN_POINTS.items():
             with self.subTest(name):
-                lines = run_tool("geojson-to-desk", arguments_of(name))[1].replace('{"commit":{}}\n', "")
+                lines = run_tool("geojson-to-desk", arguments_of(name))[1].replace(COMMIT, "")
                 asked = "".join(question(*point) for point, _ in points)
                 replies = replay(lines + '{"commit":{}}\n' + asked)
                 count = lines.count("\n")
@@ -315,6 +315,6 @@ class CommandLine(unittest.TestCase):
             (["--without-faulty"], 1, ""),
         ):
             status, output, errors = run_tool("geojson-to-desk", [*COMMON, "--commit", *words], text)
-            self.assertEqual((status, output.count('{"commit":{}}')), (3, commits))
+            self.assertEqual((status, output.count(COMMIT)), (3, commits))
             self.assertIn(said, errors)
-        self.assertEqual(run_tool("geojson-to-desk", [*COMMON, "--commit"], collection([feature(RING)]))[1].count('{"commit":{}}'), 1)
+        self.assertEqual(run_tool("geojson-to-desk", [*COMMON, "--commit"], collection([feature(RING)]))[1].count(COMMIT), 1)

@@ -1,4 +1,4 @@
-"""What the tests of `lost-client desk --sync` share: a map file, a desk in a thread that keeps to the rules, and FILE.sent."""
+"""What the tests of `lost-client desk --sync` share: a map file, and a server in a thread that keeps to the rules."""
 from __future__ import annotations
 
 import json
@@ -6,7 +6,7 @@ import tempfile
 import unittest
 from typing import Any, Dict, List, Optional, Tuple
 
-from maptools.desk_map import Reader
+from maptools.digest import map_digest, mapping_digest
 from tests.fake_servers import DeskServer
 from tests.running import run_tool
 
@@ -43,7 +43,7 @@ class MapFile(unittest.TestCase):
         folder = tempfile.TemporaryDirectory()
         self.addCleanup(folder.cleanup)
         self.folder = folder.name
-        self.file, self.sent = f"{self.folder}/map.jsonl", f"{self.folder}/map.jsonl.sent"
+        self.file = f"{self.folder}/map.jsonl"
         self.server = self.new_server("desk.sock")
 
     def new_server(self, name: str) -> DeskServer:
@@ -70,15 +70,24 @@ class MapFile(unittest.TestCase):
         """What the server holds: the sourceId, the day of lastUpdated and the key of each mapping."""
         return [(one["sourceId"], one["lastUpdated"][8:10], one.get("key")) for one in self.server.book.held.values()]
 
-    def sent_text(self) -> str:
-        """What FILE.sent says."""
-        with open(self.sent, encoding="utf-8") as file:
-            return file.read()
+    def digest(self, *mappings: Dict[str, Any]) -> str:
+        """The digest of mappings; without any, of those that the server holds."""
+        return map_digest(map(mapping_digest, mappings or self.server.book.held.values()))
 
-    def check_sent(self) -> None:
-        """FILE.sent leaves what the server has: the same mappings in the same order, and the same withdrawals."""
-        told = Reader().read(self.sent)
-        self.assertEqual(told.complaints, [])
-        self.assertEqual(list(told.book.held), list(self.server.book.held))
-        self.assertEqual(told.book.keys, self.server.book.keys)
-        self.assertEqual(told.book.traces, self.server.book.traces)
+    @property
+    def nothing(self) -> str:
+        """How it begins that nothing is sent."""
+        return f"{self.server.address}: nothing to send"
+
+    def done(self, edits: str, edition: int) -> str:
+        """The summary of a sync."""
+        return f"{self.server.address}: {edits}{self.end(edition)}"
+
+    def end(self, edition: int, server: Optional[DeskServer] = None) -> str:
+        """How a summary ends."""
+        held = (server or self.server).book.held.values()
+        return f"; edition {edition}; map {map_digest(map(mapping_digest, held))}\n"
+
+    def check_held(self, *mappings: Dict[str, Any]) -> None:
+        """The server holds these mappings, to the letter."""
+        self.assertEqual(self.digest(), self.digest(*mappings))
