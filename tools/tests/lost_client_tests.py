@@ -12,6 +12,7 @@ from maptools.connection import Broken
 from maptools.feed import Patience
 from tests.fake_servers import Replier, free_address, line_of, serve_once
 from tests.running import TOOLS, TOP, has_serve, lostd, question, read, run_tool, start_tool
+from tests.server import COMMITTED
 
 ANSWER = {
     "findServiceResponse": {
@@ -264,7 +265,8 @@ class Serving(unittest.TestCase):
         self.assertIn(b"refused with code 1, BadLine", client.communicate(timeout=10)[1])
         self.assertEqual(client.returncode, 3)
         output, said = self.server.communicate(timeout=10)
-        self.assertEqual((self.server.returncode, said), (0, b""))
+        self.assertEqual(self.server.returncode, 0)
+        self.assertRegex(said.decode().rstrip("\n"), COMMITTED)
         self.assertRegex(output, rb"\Adone lines=[0-9]+ faults=0\n\Z")
 
     def test_a_token_is_asked_for(self) -> None:

@@ -12,7 +12,7 @@ from maptools.addresses import Unix
 from maptools.connection import Broken
 from maptools.digest import map_digest, mapping_digest
 from maptools.server_map import told_by
-from tests.running import TOP, run_tool, serve_has
+from tests.running import TOP, lostd, run_tool, serve_has
 from tests.server import PATIENCE, READY, Server, ask, unix
 
 COMMIT = '{"commit":{}}\n'
@@ -139,7 +139,7 @@ class MapOverHttp(unittest.TestCase):
     def test_the_tools_read_it(self) -> None:
         """map-check and map-page take the map of a server."""
         address = f"unix:{self.desk}"
-        status, output, said = run_tool("map-check", ["--server", address])
+        status, output, said = run_tool("map-check", ["--server", address, "--lostd", str(lostd())])
         if "lacks the module" in said:
             self.skipTest(said)
         self.assertEqual((status, said), (0, ""))

@@ -13,7 +13,7 @@ import unittest
 from datetime import datetime, timezone
 from typing import List, Tuple
 
-from maptools.digest import map_digest
+from maptools.digest import map_digest, mapping_digest
 from tests.running import TOP, question
 from tests.server import PATIENCE, READY, Server, ask, ended, has_maps, unix
 
@@ -239,7 +239,8 @@ class Serving(unittest.TestCase):
             with open(path, "w", encoding="utf-8") as lines:
                 lines.write(self.publish + self.commit)
             self.assertEqual(server.first_line(), READY)
-            self.assertEqual(health(port), (200, f"ready\nedition 1\nmap {map_digest([json.loads(self.publish)['publish']])}\n"))
+            digest = map_digest([mapping_digest(json.loads(self.publish)["publish"])])
+            self.assertEqual(health(port), (200, f"ready\nedition 1\nmap {digest}\n"))
 
 
 def numbered(verb: str, number: int, day: int) -> str:
