@@ -10,9 +10,9 @@ from typing import Any, Dict, List, Optional, Tuple
 
 from maptools.connection import Broken
 from maptools.feed import Patience
+from maptools.digest import map_digest, mapping_digest
 from tests.fake_servers import Replier, free_address, line_of, serve_once
 from tests.running import TOOLS, TOP, has_serve, lostd, question, read, run_tool, start_tool
-from tests.server import COMMITTED
 
 ANSWER = {
     "findServiceResponse": {
@@ -266,7 +266,10 @@ class Serving(unittest.TestCase):
         self.assertEqual(client.returncode, 3)
         output, said = self.server.communicate(timeout=10)
         self.assertEqual(self.server.returncode, 0)
-        self.assertRegex(said.decode().rstrip("\n"), COMMITTED)
+        with open(f"{TOOLS}/cases/client/two-squares.jsonl", encoding="utf-8") as file:
+            values = [json.loads(line)["publish"] for line in file if "publish" in json.loads(line)]
+        figures = f"committed 2 edits: edition 2, 2 mappings, map {map_digest(map(mapping_digest, values))}"
+        self.assertRegex(said.decode(), rf"\Alostd: desk connection from 127\.0\.0\.1:[0-9]+: {figures}\n\Z")
         self.assertRegex(output, rb"\Adone lines=[0-9]+ faults=0\n\Z")
 
     def test_a_token_is_asked_for(self) -> None:
