@@ -7,7 +7,7 @@ from typing import Callable, Dict, Iterator, List, NamedTuple, Tuple
 from building.helps import Command, Option
 
 # What stands for a file in a help.
-FILES = ("FILE", "PATH", "MAP", "OUT", "GEOJSON", "ACCEPTED")
+FILES = ("FILE", "PATH", "MAP", "OUT", "GEOJSON", "ACCEPTED", "FOLDER")
 HEAD = "{command}: made from its --help"
 
 

@@ -44,15 +44,18 @@ class Talk:
         self.patience = Patience(options.timeout, say)
 
     def ask(self, lines: Iterable[bytes]) -> List[Reply]:
-        """The replies to some lines."""
+        """The replies to some lines; it returns as soon as the last one is there."""
         self.patience.begin_anew(False)
-        feed = Feed(self.connection, [io.BytesIO(b"".join(line + b"\n" for line in lines))], has_more=True)
-        result = []
-        for line in replies(self.connection, feed, self.patience):
+        sent = list(lines)
+        feed = Feed(self.connection, [io.BytesIO(b"".join(line + b"\n" for line in sent))], has_more=True)
+        result: List[Reply] = []
+        for line in replies(self.connection, feed, self.patience) if sent else ():
             if line is not None:
                 result.append(reply_of(line))
             if line is not None and self.is_shown:
                 print(line.decode(errors="replace"), flush=True)
+            if len(result) == len(sent):
+                break
         return result
 
 

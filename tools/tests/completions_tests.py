@@ -17,7 +17,7 @@ from tests.running import CASES, TOP
 NO_FILES = {
     "ADDRESS", "ELEMENT=TEMPLATE", "ELEMENT=VALUE [ELEMENT=VALUE ...]", "HOST:PORT", "HOST:PORT[,HOST:PORT..]", "KEY", "LANG=TEMPLATE",
     "LAT,LON", "METRES", "N", "NAME", "NUMBER", "PROPERTY", "SECONDS", "SHARE", "SOUTH,WEST,NORTH,EAST", "STAMP", "T", "TEMPLATE",
-    "THEIRS=OURS", "TIME", "TITLE", "URN",
+    "THEIRS=OURS", "TIME", "TITLE", "URL", "URN",
 }  # fmt: skip
 # What somebody types, and what is offered then.
 TYPED = {
@@ -25,6 +25,8 @@ TYPED = {
     "lost-client s": ["services", "status"],
     "lost-client status --j": ["--json"],
     "lost-client boundary --k": ["--key"],
+    "lost-feed s": ["snapshot", "status"],
+    "lost-feed publish --e": ["--each"],
     "lost-gateway --area ": ["all", "centre", "largest", "refuse"],
     "lostd serve --k": ["--keep-going"],
     "lostd ": ["replay", "serve"],
@@ -133,7 +135,7 @@ class Versions(unittest.TestCase):
 
     def test_each_tool_has_a_version(self) -> None:
         said: Dict[str, str] = {}
-        for name in ("lost-client", "lost-gateway", "map-check", "map-page", "geojson-to-desk", "desk-to-geojson", "desk-to-svg", "addresses-to-desk"):
+        for name in ("lost-client", "lost-feed", "lost-gateway", "map-check", "map-page", "geojson-to-desk", "desk-to-geojson", "desk-to-svg", "addresses-to-desk"):
             ran = subprocess.run([f"{TOP}/tools/{name}", "--version"], capture_output=True, text=True, timeout=60)
             self.assertEqual((ran.returncode, ran.stderr), (0, ""), name)
             said[name] = ran.stdout.replace(f"{name} ", "", 1)

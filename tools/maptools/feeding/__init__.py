@@ -1,0 +1,1 @@
+"""Servers that are fed from one log of commits in PostgreSQL."""

@@ -1,0 +1,210 @@
+"""lost-feed with PostgreSQL and real servers. Skipped where one of PostgreSQL, psycopg2 and the program lostd is missing."""
+from __future__ import annotations
+
+import json
+import os
+import re
+import signal
+import subprocess
+import sys
+import tempfile
+import time
+import unittest
+import urllib.error
+import urllib.request
+from typing import Any, ClassVar, List, Tuple
+
+from tests.feed_fakes import A, B, C, D, digest, line
+from tests.fake_servers import free_address
+from tests.running import TOP, lostd, run_tool, start_tool
+from tests.server import Server, has_maps
+
+sys.path.append(f"{TOP}/checks/replicas")
+
+from database import Database, Unable, programs  # noqa: E402
+
+PATIENCE = 20.0
+COMMIT = '{"commit":{}}'
+
+
+def lacks() -> str:
+    """What is missing for these tests; empty where all is there."""
+    if not programs():
+        return "PostgreSQL is not installed"
+    has_driver = subprocess.run(["/usr/bin/python3", "-c", "import psycopg2"], capture_output=True, timeout=20).returncode == 0
+    return "" if has_driver and has_maps() else "no program is built" if has_driver else "/usr/bin/python3 lacks psycopg2"
+
+
+def need_all(tool: str) -> None:
+    """Skips the tests of a tool, and says so, where something is missing."""
+    what = lacks()
+    if what:
+        print(f"{tool}: the tests with a database are skipped: {what}", file=sys.stderr)
+        raise unittest.SkipTest(what)
+
+
+def new_database() -> Database:
+    """A cluster that is quick, and loses all if the machine goes down."""
+    database = Database(int(free_address().rpartition(":")[2]))
+    database.make("fsync = off\n")
+    database.start()
+    return database
+
+
+def await_that(is_so: Any, what: str) -> None:
+    """Waits until something is so."""
+    end = time.monotonic() + PATIENCE
+    while not is_so():
+        if time.monotonic() > end:
+            raise AssertionError(what)
+        time.sleep(0.05)
+
+
+def page(address: str, path: str) -> Tuple[int, str]:
+    """The status and the text of a page; 0 where nobody answers."""
+    try:
+        with urllib.request.urlopen(f"http://{address}{path}", timeout=PATIENCE) as answer:
+            return answer.status, answer.read().decode()
+    except urllib.error.HTTPError as error:
+        return error.code, error.read().decode()
+    except OSError:
+        return 0, ""
+
+
+class Feeds(unittest.TestCase):
+    """All tests use one cluster; each has a database with a log."""
+
+    database: ClassVar[Database]
+
+    @classmethod
+    def setUpClass(cls) -> None:
+        need_all("lost-feed")
+        cls.database = new_database()
+        cls.addClassCleanup(cls.database.remove)
+
+    def setUp(self) -> None:
+        folder = tempfile.TemporaryDirectory()
+        self.addCleanup(folder.cleanup)
+        self.folder, self.name = folder.name, f"log_{os.urandom(4).hex()}"
+        self.database.sql("postgres", f"CREATE DATABASE {self.name}")
+        self.log = self.database.url(self.name)
+        self.assertEqual(self.feed("init")[0], 0)
+
+    def feed(self, command: str, *words: str, given: str = "") -> Tuple[int, str, str]:
+        """Runs a command over the log."""
+        return run_tool("lost-feed", [command, "--log", self.log, *words], given)
+
+    def publish(self, *lines: str, words: Tuple[str, ...] = ()) -> Tuple[int, str, str]:
+        """Publishes lines."""
+        return self.feed("publish", "--lostd", str(lostd()), *words, "-", given="".join(f"{one}\n" for one in lines))
+
+    def server(self, *words: str) -> Tuple[Server, List[str]]:
+        """A server with a desk and a status, and the words by which a follower finds it."""
+        status, desk = free_address(), f"unix:{self.folder}/desk.sock"
+        server = Server(["--queries", free_address(), "--desk", desk, "--status", status, *words])
+        self.assertEqual(server.first_line(), b"ready\n")
+        self.addCleanup(server.__exit__)
+        return server, ["--desk", desk, "--status", status]
+
+    def follower(self, words: List[str]) -> Tuple[Any, str]:
+        """A follower, and its address."""
+        follower = start_tool("lost-feed", ["follow", "--log", self.log, "--name", "a", "--listen", "127.0.0.1:0", *words])
+        self.addCleanup(follower.wait, PATIENCE)
+        for pipe in (follower.stdin, follower.stdout, follower.stderr):
+            self.addCleanup(pipe.close)
+        self.addCleanup(follower.kill)
+        return follower, follower.stdout.readline().decode().split()[1]
+
+    def await_edition(self, address: str, edition: int, *mappings: Any) -> None:
+        """Waits until a follower's server holds these mappings."""
+        await_that(lambda: page(address, "/health") == (200, f"edition {edition}, map {digest(*mappings)}\n"), f"no edition {edition}")
+
+    def test_publish_and_snapshot(self) -> None:
+        self.assertEqual(self.feed("init")[1], f"the log is there: edition 0, map {'0' * 32}\n")
+        state = ("--state", f"{self.folder}/state")
+        self.assertEqual(self.publish(line("publish", A), line("publish", B), COMMIT, words=state)[:2], (0, f"2 edits in 1 commits: edition 2, map {digest(A, B)}\n"))
+        self.assertEqual(self.publish(line("publish", C), COMMIT, words=state)[:2], (0, f"1 edits in 1 commits: edition 3, map {digest(A, B, C)}\n"))
+        status, output, said = self.publish(line("publish", D), COMMIT, line("publish", A), COMMIT, words=state)
+        self.assertEqual((status, output), (3, ""))
+        self.assertRegex(said, "^lost-feed: standard input, line 3: refused with code 13, IdentityHeld.*\nlost-feed: nothing was published\n$")
+        status, output, said = self.feed("snapshot")
+        lines = [json.loads(one) for one in output.splitlines()]
+        self.assertEqual([next(iter(one)) for one in lines], ["publish", "publish", "commit", "publish", "commit"])
+        self.assertEqual((lines[4]["commit"]["edition"], lines[4]["commit"]["map"]), (3, digest(A, B, C)))
+        self.assertEqual(said, f"lost-feed: edition 3, map {digest(A, B, C)}\n")
+
+    def test_two_publishers_from_one_edition(self) -> None:
+        slow = subprocess.Popen(
+            [f"{TOP}/tools/lost-feed", "publish", "--log", self.log, "--lostd", str(lostd()), "--each", "-"],
+            stdin=subprocess.PIPE, stdout=subprocess.PIPE, stderr=subprocess.PIPE, text=True,
+        )  # fmt: skip
+        slow.stdin.write(f"{line('publish', A)}\n{COMMIT}\n")
+        slow.stdin.flush()
+        self.assertEqual(slow.stdout.readline(), f"1 edits in 1 commits: edition 1, map {digest(A)}\n")
+        self.assertEqual(self.publish(line("publish", B), line("publish", C), COMMIT)[0], 0)
+        output, said = slow.communicate(f"{line('publish', D)}\n{COMMIT}\n", timeout=PATIENCE)
+        self.assertEqual((slow.returncode, output), (3, ""))
+        self.assertRegex(said, r"^lost-feed: postgres published edition 3 first, at .*Z, from the same edition 1: nothing was published; .*\n$")
+        self.assertEqual(self.database.sql(self.name, "SELECT begins, edition FROM feed.commits ORDER BY 1"), "0|1\n1|3")
+
+    def test_roles(self) -> None:
+        self.database.sql(self.name, f"""CREATE ROLE {self.name}_p LOGIN IN ROLE feed_publisher; CREATE ROLE {self.name}_f LOGIN IN ROLE feed_follower;
+            CREATE ROLE {self.name}_x LOGIN""")
+        owner = self.log
+        for user, wanted in (("p", 0), ("f", 1), ("x", 1)):
+            self.log = self.database.url(self.name, f"{self.name}_{user}")
+            given = {"p": A, "f": B, "x": C}[user]
+            status, _, said = self.publish(line("publish", given), COMMIT)
+            self.assertEqual(status, wanted, said)
+            self.assertLessEqual(len(said.splitlines()), 1)
+        self.log = owner
+        self.assertEqual(self.database.sql(self.name, "SELECT publisher FROM feed.commits"), f"{self.name}_p")
+        for statement in ("DELETE FROM feed.commits", "UPDATE feed.commits SET map = map", "TRUNCATE feed.commits CASCADE"):
+            with self.assertRaisesRegex(Unable, "rows of the log are only added"):
+                self.database.sql(self.name, statement)
+            with self.assertRaisesRegex(Unable, "permission denied"):
+                self.database.sql(self.name, statement, f"{self.name}_p")
+        with self.assertRaisesRegex(Unable, "violates foreign key"):
+            self.database.sql(self.name, f"INSERT INTO feed.commits (begins, edition, lines, map) VALUES (7, 8, 'x', '{'0' * 32}')")
+
+    def test_a_follower_through_restarts(self) -> None:
+        self.publish(line("publish", A), COMMIT)
+        server, words = self.server()
+        follower, address = self.follower(words)
+        self.await_edition(address, 1, A)
+        self.publish(line("publish", B), COMMIT)
+        self.await_edition(address, 2, A, B)
+        self.assertIn("\nlostd_feed_healthy 1\n", page(address, "/metrics")[1])
+        self.database.kill(signal.SIGQUIT)
+        self.database.start()
+        self.publish(line("publish", C), COMMIT)
+        self.await_edition(address, 3, A, B, C)
+        server.__exit__()
+        self.assertEqual(page(address, "/health")[0], 503)
+        again = Server(["--queries", free_address(), *words])
+        self.addCleanup(again.__exit__)
+        self.assertEqual(again.first_line(), b"ready\n")
+        self.await_edition(address, 3, A, B, C)
+        status, output, _ = self.feed("status")
+        self.assertEqual(status, 0)
+        self.assertRegex(output, rf"^log: edition 3, map {digest(A, B, C)}\nfollower .*\na +[0-9]")
+        follower.terminate()
+        self.assertEqual(follower.wait(PATIENCE), 0)
+
+    def test_a_server_that_starts_from_a_snapshot_and_one_that_differs(self) -> None:
+        self.publish(line("publish", A), COMMIT, line("publish", B), COMMIT)
+        with open(f"{self.folder}/map.jsonl", "w", encoding="utf-8") as file:
+            file.write(self.feed("snapshot")[1])
+        _, words = self.server("--map", f"{self.folder}/map.jsonl")
+        follower, address = self.follower(words)
+        self.await_edition(address, 2, A, B)
+        self.assertIn("\nlostd_feed_commits_total 0\n", page(address, "/metrics")[1])
+        given = f"{line('publish', D)}\n{COMMIT}\n"
+        self.assertEqual(run_tool("lost-client", ["desk", "--server", words[1], "-"], given)[0], 0)
+        self.assertEqual(follower.wait(PATIENCE), 3)
+        said = follower.stderr.read().decode()
+        self.assertRegex(said, r"^lost-feed: unix:.*/desk.sock differs from the log from edition 3 on: .*: start this server again, .*\n$")
+        self.assertEqual(page(address, "/health")[0], 0)
+        status, output, _ = self.feed("status", "--json")
+        self.assertEqual(status, 3)
+        self.assertTrue(re.search("differs from the log from edition 3 on", json.loads(output)["followers"][0]["fault"]))

@@ -1,0 +1,134 @@
+"""lost-feed follow: what a follower sends, and where it stops. No database is needed."""
+from __future__ import annotations
+
+import unittest
+
+from maptools.connection import Broken
+from maptools.feeding.following import FEW
+from maptools.feeding.health import health_of, metrics_of
+from maptools.feeding.log import Commit
+from maptools.feeding.publishing import Stopped
+from maptools.feeding.standing import EMPTY, Standing
+from tests.feed_fakes import A, B, C, D, E, Feeding, MemoryLog, commits_of, digest, line
+from tests.map_file import mapping
+
+
+class Following(Feeding):
+    """A follower and its server."""
+
+    def test_each_row_is_a_commit(self) -> None:
+        log = MemoryLog(commits_of(A, B))
+        follower = self.follower(log)
+        follower.catch_up(log)
+        self.assertEqual(self.heard(), ["publish commit publish commit"])
+        self.assertEqual(health_of(follower.level), (200, f"edition 2, map {digest(A, B)}\n"))
+        log.commits = commits_of(A, B, C)
+        follower.catch_up(log)
+        self.assertEqual(self.heard()[1:], ["publish commit"])
+        follower.report(log, is_due=True)
+        self.assertEqual(log.said[-1], ("a", self.server.address, Standing(3, digest(A, B, C)), ""))
+        self.assertEqual((follower.level.commits, follower.level.edits, follower.level.commits_behind), (3, 3, 0))
+
+    def test_it_goes_on_from_where_the_server_is(self) -> None:
+        log = MemoryLog(commits_of(A, B, C))
+        self.edit(A, B)
+        follower = self.follower(log)
+        self.assertEqual(health_of(follower.level)[0], 503)
+        follower.catch_up(log)
+        self.assertEqual(self.heard(), ["publish commit"])
+        self.assertEqual(health_of(follower.level)[0], 200)
+
+    def test_many_rows_at_once(self) -> None:
+        many = [mapping(f"m{number}", place=number * 20) for number in range(FEW + 5)]
+        log = MemoryLog(commits_of(*many))
+        follower = self.follower(log)
+        follower.catch_up(log)
+        self.assertEqual(self.heard(), [" ".join(["publish commit"] * len(many))])
+        self.assertEqual(self.server.edition, len(many))
+
+    def test_a_server_that_was_started_again(self) -> None:
+        log = MemoryLog(commits_of(A, B))
+        follower = self.follower(log)
+        follower.catch_up(log)
+        self.server.book.held.clear()
+        self.server.edition = 0
+        self.assertIn("has not reached the end of the log since it started", health_of(follower.level)[1])
+        log.commits = commits_of(A, B, C)
+        follower.catch_up(log)
+        self.assertEqual(self.heard()[1:], ["publish commit publish commit publish commit"])
+        self.assertEqual(health_of(follower.level)[0], 200)
+
+    def test_an_edit_behind_the_log_s_back(self) -> None:
+        log = MemoryLog(commits_of(A, B))
+        follower = self.follower(log)
+        follower.catch_up(log)
+        self.edit(D)
+        self.assertIn("which the log is not known to have", health_of(follower.level)[1])
+        with self.assertRaisesRegex(Stopped, "from edition 3 on: it holds edition 3, .* no commit that makes edition 3: start this server again"):
+            follower.look(log)
+        log.commits = commits_of(A, B, C)
+        with self.assertRaisesRegex(Stopped, f"from edition 3 on: .* edition 3 there with map {digest(A, B, C)}: start this server again"):
+            follower.look(log)
+
+    def test_an_edit_while_rows_are_sent(self) -> None:
+        log = MemoryLog(commits_of(A, B))
+        follower = self.follower(log)
+        follower.catch_up(log)
+        log.commits = commits_of(A, B, C)
+        self.edit(D)
+        with self.assertRaisesRegex(Stopped, "from edition 3 on"):
+            follower.catch_up(log)
+        self.assertNotIn("C", [one["sourceId"] for one in self.server.book.held.values()])
+
+    def test_a_server_that_is_ahead_or_was_never_the_log_s(self) -> None:
+        self.edit(A, B, C)
+        with self.assertRaisesRegex(Stopped, "at edition 2, if not before: it holds edition 3"):
+            self.follower(MemoryLog(commits_of(A)))
+        with self.assertRaisesRegex(Stopped, "at edition 3, if not before: it holds edition 3"):
+            self.follower(MemoryLog(commits_of(A, B, E)))
+
+    def test_a_line_that_is_refused(self) -> None:
+        log = MemoryLog([*commits_of(A), Commit(1, 2, line("publish", A), digest(A, B))])
+        follower = self.follower(log)
+        with self.assertRaisesRegex(Stopped, "line 1 of the commit that makes edition 2 is refused with code 13, IdentityHeld"):
+            follower.catch_up(log)
+        self.assertEqual(self.heard(), ["publish commit publish"])
+
+    def test_another_edition_or_another_digest_than_in_the_log(self) -> None:
+        log = MemoryLog([Commit(0, 2, line("publish", A), digest(A))])
+        with self.assertRaisesRegex(Stopped, "holds edition 1"):
+            self.follower(log).catch_up(log)
+        log = MemoryLog([*commits_of(A), Commit(1, 2, line("publish", B), digest(A, C))])
+        with self.assertRaisesRegex(Stopped, "from edition 2 on: it holds edition 2"):
+            self.follower(log).catch_up(log)
+
+    def test_a_server_that_is_gone_or_not_ready(self) -> None:
+        log = MemoryLog(commits_of(A))
+        follower = self.follower(log)
+        self.pages.is_ready = False
+        with self.assertRaisesRegex(Broken, "is not ready"):
+            follower.look(log)
+        self.assertIn("is not ready", health_of(follower.level)[1])
+        self.pages.is_ready = True
+        self.server.interrupt = b"commit"
+        with self.assertRaises(Broken):
+            follower.catch_up(log)
+        self.server.interrupt = b""
+        follower.catch_up(log)
+        self.assertEqual(self.server.edition, 1)
+
+    def test_behind_and_apart(self) -> None:
+        log = MemoryLog(commits_of(A))
+        level = self.follower(log).level
+        level.stand(EMPTY)
+        level.reach_end()
+        self.assertEqual(health_of(level)[0], 200)
+        late = commits_of(A)[0]._replace(age=30.0)
+        level.wait_for([late], 1)
+        self.assertIn("the server is 30 seconds behind the log", health_of(level)[1])
+        self.assertRegex(metrics_of(level), "\nlostd_feed_commits_behind 1\n")
+        level.reach_end()
+        level.apart_since = level.apart_since or 0.0
+        self.assertEqual(health_of(level)[0], 200)
+        level.most_apart = 5.0
+        self.assertIn("the log has not been reached for", health_of(level)[1])

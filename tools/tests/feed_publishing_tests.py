@@ -1,0 +1,194 @@
+"""lost-feed publish and snapshot: what is judged, what is written, and the command line. No database is needed."""
+from __future__ import annotations
+
+import contextlib
+import io
+import json
+import os
+import tempfile
+import unittest
+from typing import Any, List, Optional
+
+from maptools.connection import Broken
+from maptools.feeding.judge import Judge
+from maptools.feeding.log import Commit
+from maptools.feeding.publishing import Judging, Publisher, Stopped, groups_of, is_commit, publish_all, publish_each
+from maptools.feeding.snapshots import FILE, refresh, snapshot_in, write_commits
+from maptools.feeding.standing import EMPTY, Standing
+from tests.feed_fakes import A, B, C, MemoryLog, commits_of, digest, line
+from tests.fake_servers import free_address
+from tests.running import has_serve, lostd, replay, run_tool
+from tests.server import has_maps
+
+COMMIT = '{"commit":{}}'
+
+
+def file_of(*lines: str) -> io.BytesIO:
+    """A file of lines."""
+    return io.BytesIO("".join(f"{one}\n" for one in lines).encode())
+
+
+class MemoryJudge:
+    """A judge that refuses the lines with a word in them."""
+
+    def __init__(self) -> None:
+        self.edition, self.staged = 0, 0
+
+    def standing(self) -> Standing:
+        """Where it stands."""
+        return Standing(self.edition, f"{self.edition:032x}")
+
+    def ask(self, lines: List[bytes]) -> List[Any]:
+        """The replies."""
+        return list(map(self.reply, lines))
+
+    def reply(self, one: bytes) -> Any:
+        """The reply to a line."""
+        if b"faulty" in one:
+            return "refused", {"code": 13, "name": "IdentityHeld"}
+        if one == COMMIT.encode():
+            self.edition, self.staged = self.edition + self.staged, 0
+            return "committed", {"edition": self.edition}
+        self.staged += 1
+        return "staged", {"pending": self.staged}
+
+
+class MemoryPublisher(Publisher):
+    """Publishes to a log in memory."""
+
+    def __init__(self, log: MemoryLog) -> None:  # pylint: disable=super-init-not-called
+        self.log = log
+
+
+class Publishing(unittest.TestCase):
+    """What becomes of a file."""
+
+    def publish(self, how: Any, *lines: str, log: Optional[MemoryLog] = None) -> str:
+        """Publishes lines to a log; what is printed."""
+        self.log = log or MemoryLog([])
+        output = io.StringIO()
+        with contextlib.redirect_stdout(output):
+            how(Judging(MemoryJudge(), "file"), MemoryPublisher(self.log), groups_of(file_of(*lines), "file"))
+        return output.getvalue()
+
+    def rows(self) -> List[Any]:
+        """What the log has."""
+        return [one[:3] for one in self.log.commits]
+
+    def test_a_row_for_each_commit(self) -> None:
+        said = self.publish(publish_all, "a", "b", COMMIT, COMMIT, "c", '{ "commit" : {"stamp":"now"}}')
+        self.assertEqual(self.rows(), [(0, 2, "a\nb"), (2, 3, "c")])
+        self.assertEqual(said, f"3 edits in 2 commits: edition 3, map {3:032x}\n")
+        self.assertEqual(self.publish(publish_all, COMMIT), f"nothing to publish: edition 0, map {0:032x}\n")
+
+    def test_each_by_itself(self) -> None:
+        said = self.publish(publish_each, "a", COMMIT, "b", COMMIT)
+        self.assertEqual(said, f"1 edits in 1 commits: edition 1, map {1:032x}\n1 edits in 1 commits: edition 2, map {2:032x}\n")
+        with self.assertRaisesRegex(Stopped, "file, line 3: refused with code 13"):
+            self.publish(publish_each, "a", COMMIT, "faulty", COMMIT)
+        self.assertEqual(self.rows(), [(0, 1, "a")])
+
+    def test_what_is_refused_is_named_and_nothing_is_written(self) -> None:
+        with self.assertRaises(Stopped) as stopped:
+            self.publish(publish_all, "a", COMMIT, "faulty 1", "b", COMMIT, "faulty 2", COMMIT)
+        told = str(stopped.exception).splitlines()
+        self.assertEqual([one[:31] for one in told], ["file, line 3: refused with code", "file, line 6: refused with code", "nothing was published"])
+        self.assertEqual(self.rows(), [])
+
+    def test_a_file_that_does_not_end_with_a_commit(self) -> None:
+        with self.assertRaisesRegex(Stopped, "file: its last line is not a commit"):
+            self.publish(publish_all, "a", COMMIT, "b")
+        self.assertEqual(self.rows(), [])
+
+    def test_two_publishers_from_one_edition(self) -> None:
+        first = Commit(0, 5, "x", "y", "alice", "2026-01-01T00:00:00Z")
+        with self.assertRaisesRegex(Stopped, "alice published edition 5 first, at 2026-01-01T00:00:00Z, from the same edition 0: nothing was"):
+            self.publish(publish_all, "a", COMMIT, log=MemoryLog([first]))
+        self.assertEqual(self.log.commits, [first])
+
+    def test_what_is_a_commit_line(self) -> None:
+        for yes in (b'{"commit":{}}', b' { "commit" : {"a":1} }', b'{"\\u0063ommit":{}}'):
+            self.assertTrue(is_commit(yes), yes)
+        for no in (b"", b'{"publish":{"commit":{}}}', b'{"commit":1}', b'{"commit":{},"a":1}', b'{"commits":{}}', b'["commit"]'):
+            self.assertFalse(is_commit(no), no)
+
+    @unittest.skipUnless(has_serve() and has_maps(), "no program is built that reads a map")
+    def test_a_server_judges(self) -> None:
+        with tempfile.NamedTemporaryFile() as file:
+            file.write(f"{line('publish', A)}\n{COMMIT}\n".encode())
+            file.flush()
+            with Judge(lostd(), file.name) as judge:
+                judging = Judging(judge, "file")
+                groups = list(groups_of(file_of(line("publish", B), line("publish", A), COMMIT, line("publish", C), COMMIT), "file"))
+                self.assertEqual(judging.take(groups[0]), [])
+                self.assertRegex(judging.complaints[0], "^file, line 2: refused with code 13, IdentityHeld")
+            with Judge(lostd(), file.name) as judge:
+                judging = Judging(judge, "file")
+                self.assertEqual(judging.take(groups[1]), [Commit(1, 2, line("publish", C), digest(A, C))])
+            file.write(b"faulty\n")
+            file.flush()
+            with self.assertRaisesRegex(Broken, "the lostd that judges did not begin: lostd: --map: line 3: 1 BadLine"):
+                Judge(lostd(), file.name)
+
+    def test_no_judge(self) -> None:
+        with self.assertRaisesRegex(Broken, "/nothing cannot be run: No such file"):
+            Judge("/nothing", "map")
+        self.assertRaisesRegex(Broken, "did not begin: it says nothing", Judge, "/bin/true", "map")
+
+
+class Snapshots(unittest.TestCase):
+    """The log as desk lines."""
+
+    def test_it_has_the_lines_editions_and_digests_of_the_log(self) -> None:
+        log, file = MemoryLog([one._replace(published="2026-01-01T00:00:00Z") for one in commits_of(A, B)]), io.BytesIO()
+        self.assertEqual(write_commits(log, 0, file), Standing(2, digest(A, B)))
+        lines = file.getvalue().decode().splitlines()
+        self.assertEqual([json.loads(one) for one in lines[::2]], [{"publish": A}, {"publish": B}])
+        self.assertEqual(lines[3], f'{{"commit":{{"edition":2,"map":"{digest(A, B)}","time":"2026-01-01T00:00:00Z"}}}}')
+
+    @unittest.skipUnless(lostd(), "no program is built")
+    def test_a_server_reads_it(self) -> None:
+        file = io.BytesIO()
+        write_commits(MemoryLog(commits_of(A, B, C)), 0, file)
+        self.assertEqual(replay(file.getvalue().decode())[-1], {"committed": {"edition": 3}})
+
+    def test_what_is_kept_grows_with_the_log(self) -> None:
+        with tempfile.TemporaryDirectory() as folder:
+            path = f"{folder}/state/{FILE}"
+            for commits in (commits_of(A), commits_of(A, B, C), [], commits_of(B), commits_of(A, C)):
+                log, fresh = MemoryLog(commits), io.BytesIO()
+                write_commits(log, 0, fresh)
+                for _ in range(2):
+                    with snapshot_in(log, f"{folder}/state") as kept:
+                        self.assertEqual(kept, path)
+                    with open(path, "rb") as file:
+                        self.assertEqual(file.read(), fresh.getvalue())
+            with open(path, "ab") as file:
+                file.write(b'{"publish":')
+            with open(path, "a+b") as file:
+                self.assertEqual(refresh(log, file), log.last())
+            with open(path, "rb") as file:
+                self.assertEqual(file.read(), fresh.getvalue())
+
+    def test_without_a_folder_nothing_is_kept(self) -> None:
+        with snapshot_in(MemoryLog([]), None) as path:
+            self.assertEqual(os.path.getsize(path), 0)
+        self.assertFalse(os.path.exists(path))
+        self.assertEqual(EMPTY, Standing(0, "0" * 32))
+
+
+class CommandLine(unittest.TestCase):
+    """What goes wrong before there is a log."""
+
+    def test_mistakes(self) -> None:
+        for words in ([], ["init"], ["follow", "--log", "x"], ["publish", "--log", "x"], ["status", "--log", "x", "--nothing"]):
+            self.assertEqual(run_tool("lost-feed", words)[0], 2, words)
+        listen = ["follow", "--log", "x", "--desk", "unix:/x", "--status", "unix:/y", "--listen", "nowhere"]
+        self.assertIn("is not HOST:PORT", run_tool("lost-feed", listen)[2])
+
+    def test_no_database_or_no_driver(self) -> None:
+        for words in (["init"], ["status"], ["snapshot"], ["publish", "/dev/null"]):
+            status, output, said = run_tool("lost-feed", [*words, "--log", f"postgresql://{free_address()}/lost"])
+            self.assertEqual((status, output), (1, ""))
+            self.assertRegex(said, r"^lost-feed: (no connection to the database: .*|/usr/bin/python3 lacks the module psycopg2: on Debian 12: .*)\n$")
+        self.assertEqual(run_tool("lost-feed", ["publish", "--log", "x", "/nothing"])[0], 1)
