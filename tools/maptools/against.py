@@ -7,12 +7,12 @@ from typing import Any, Dict, Optional
 
 from maptools.desk_map import DeskMap, Given, Reader
 from maptools.desk_rules import Identity, identity_of
-from maptools.difference import difference_of, line_of_edit
+from maptools.difference import difference_of, line_of_edit, too_many_withdrawn
 from maptools.left_out import LeftOut, Mistake
 from maptools.line_writing import Writer, short_line
 from maptools.mapping_words import constant_text, is_constant
 from maptools.outlines import outline_of
-from maptools.texts import moment_of, stamp_after
+from maptools.texts import lowered, moment_of, stamp_after
 from maptools.times import now_stamp
 
 # What alone makes no edit: a mapping that is the same in all else keeps its stamp and its key.
@@ -40,9 +40,9 @@ def map_of(path: str) -> DeskMap:
 class EditWriter(Writer):
     """Keeps the lines of the mappings that differ from those of a map, and writes the edits at the end."""
 
-    def __init__(self, options: argparse.Namespace, noun: str) -> None:
+    def __init__(self, options: argparse.Namespace, noun: str, before: Optional[DeskMap] = None) -> None:
         super().__init__(options, noun)
-        self.before = map_of(options.against)
+        self.before = before or map_of(options.against)
         self.wanted = DeskMap(options.file, noun)
         self.wanted.book = self.takers.book
         self.is_any_unknown, self.unchanged = False, 0
@@ -79,6 +79,11 @@ class EditWriter(Writer):
         if old is not None:
             self.takers.book.held.setdefault(identity, old)
 
+    def spare_others(self, source: str) -> None:
+        """What the map has of other sources stays."""
+        own = lowered(source)
+        self.takers.book.held.update({identity: old for identity, old in self.before.book.held.items() if identity[0] != own})
+
     def spare_all(self, left_out: LeftOut) -> None:
         """Keeps what would be withdrawn, and says so."""
         held = self.takers.book.held
@@ -93,7 +98,11 @@ class EditWriter(Writer):
         if self.is_any_unknown:
             self.spare_all(left_out)
         stamp = constant_text(options.updated) if is_constant(options.updated) else now_stamp()
+        held = len(self.before.book.held)
         difference = difference_of(self.before.book, self.wanted, stamp)
+        too_many = too_many_withdrawn(options, difference, held) if options.is_guarded else ""
+        if too_many:
+            left_out.say_once("--most-withdrawn", too_many)
         for fault in difference.faults:
             left_out.count += 1
             left_out.say(fault)

@@ -1,6 +1,7 @@
 """The edits by which a server that holds one map comes to hold another."""
 from __future__ import annotations
 
+import argparse
 from typing import Any, Dict, List, NamedTuple, Optional
 
 from maptools.desk_map import DeskMap, as_kind
@@ -9,6 +10,8 @@ from maptools.lines import line_of
 from maptools.refusals import REFUSALS
 from maptools.texts import moment_of, stamp_after
 
+# Without being told, so many mappings are withdrawn at once, and this share of those that are held.
+MOST_WITHDRAWN, MOST_SHARE = 10, 0.05
 NOUNS = {"publish": "publication", "replace": "replacement", "withdraw": "withdrawal"}
 
 
@@ -113,3 +116,13 @@ def line_of_edit(edit: Edit, wanted: DeskMap) -> bytes:
     if edit.kind == "withdraw":
         return line_of({edit.kind: edit.value}).encode()
     return as_kind(edit.kind, wanted.given[identity_of(edit.value)].line)
+
+
+def too_many_withdrawn(options: argparse.Namespace, difference: Difference, held: int) -> str:
+    """What is said where so many mappings would be withdrawn that the file or table may not be whole; empty where they are few."""
+    count, most = sum(edit.kind == "withdraw" for edit in difference.edits), options.most_withdrawn
+    if count <= MOST_WITHDRAWN or count <= held * MOST_SHARE if most is None else count <= most:
+        return ""
+    usual = f"more than {MOST_WITHDRAWN}, and more than {MOST_SHARE:.0%}" if most is None else f"more than {most}"
+    text = f"{count:,} of the {held:,} mappings held would be withdrawn, {usual}: is {options.file} whole?"
+    return f"{text} --most-withdrawn {count} allows it"

@@ -47,7 +47,16 @@ def add_mapping_words(words: argparse.ArgumentParser, source_id: str) -> None:
     words.add_argument(
         "--display", action="append", metavar="LANG=TEMPLATE", type=display_argument, help="a name to show; repeat it for more"
     )
-    words.set_defaults(usual_source_id=source_id)
+    words.set_defaults(usual_source_id=source_id, is_guarded=False, is_of_one_source=False)
+
+
+def add_feature_words(words: argparse.ArgumentParser, noun: str) -> None:
+    """Adds the options of what becomes the boundary."""
+    default = f"a {noun} whose PROPERTY is true becomes a default: it has no boundary, and its geometry is null"
+    words.add_argument("--default", metavar="PROPERTY", help=default)
+    words.add_argument("--tokens", metavar="PROPERTY", help="the tokens of PROPERTY become a token set beside the polygons")
+    words.add_argument("--decimal", action="store_true", help="write positions as text of degrees, such as \"0.5 -0.0000001\"")
+    words.add_argument("--flat", action="store_true", help="take each step as it is drawn: none crosses the 180th meridian")
 
 
 def add_writing_words(words: argparse.ArgumentParser) -> None:

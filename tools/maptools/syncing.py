@@ -11,7 +11,7 @@ from maptools.addresses import Server
 from maptools.connection import Broken, connect
 from maptools.desk_map import NOW, DeskMap, Reader
 from maptools.desk_rules import Book, identity_of
-from maptools.difference import Difference, Edit, difference_of, line_of_edit, place_of
+from maptools.difference import Difference, Edit, difference_of, line_of_edit, place_of, too_many_withdrawn
 from maptools.feed import USUAL
 from maptools.plan import Change, changes_of, plan_of
 from maptools.plan_picture import draw_plan
@@ -26,8 +26,6 @@ COMMIT_LINE = b'{"commit":{}}'
 # The codes of refusals that a server gives which holds, or remembers, other mappings than it told.
 OF_WHAT_IS_HELD = (13, 14, 15, 16, 17, 21)
 AGAIN = "sync again"
-# Without being told, so many mappings are withdrawn at once, and this share of those that are held.
-MOST_WITHDRAWN, MOST_SHARE = 10, 0.05
 
 
 class Task(NamedTuple):
@@ -57,16 +55,6 @@ def now() -> str:
     return datetime.datetime.now(datetime.timezone.utc).strftime("%Y-%m-%dT%H:%M:%SZ")
 
 
-def guard(options: argparse.Namespace, difference: Difference, held: int) -> None:
-    """Adds a fault where so many mappings would be withdrawn that the file may not be whole."""
-    count, most = sum(edit.kind == "withdraw" for edit in difference.edits), options.most_withdrawn
-    is_allowed = count <= MOST_WITHDRAWN or count <= held * MOST_SHARE if most is None else count <= most
-    if not is_allowed:
-        usual = f"more than {MOST_WITHDRAWN}, and more than {MOST_SHARE:.0%}" if most is None else f"more than {most}"
-        text = f"{count:,} of the {held:,} mappings held would be withdrawn, {usual}: is {options.file} whole?"
-        difference.faults.append(f"{text} --most-withdrawn {count} allows it")
-
-
 def task_of(options: argparse.Namespace, server: Server, reader: Reader, file: DeskMap) -> Task:
     """What is to be done with a server by a file; Broken where the server does not tell its map."""
     held = held_by(server, options.timeout, reader)
@@ -74,7 +62,8 @@ def task_of(options: argparse.Namespace, server: Server, reader: Reader, file: D
     wanted = to_be_held(held, file, stamping)
     before = Book(dict(held.book.held), dict(held.book.keys), {})
     difference = difference_of(before, wanted, stamping.now)
-    guard(options, difference, len(held.book.held))
+    too_many = too_many_withdrawn(options, difference, len(held.book.held))
+    difference.faults += [too_many] if too_many else []
     return Task(options, server, held, wanted, stamping, difference)
 
 

@@ -15,7 +15,7 @@ from tests.running import CASES, TOP
 
 # What stands for a value in the helps of all commands, and is no file.
 NO_FILES = {
-    "ADDRESS", "ELEMENT=TEMPLATE", "ELEMENT=VALUE [ELEMENT=VALUE ...]", "HOST:PORT", "HOST:PORT[,HOST:PORT..]", "KEY", "LANG=TEMPLATE",
+    "ADDRESS", "CHANNEL", "COLUMN", "ELEMENT=TEMPLATE", "ELEMENT=VALUE [ELEMENT=VALUE ...]", "HOST:PORT", "HOST:PORT[,HOST:PORT..]", "KEY", "LANG=TEMPLATE",
     "LAT,LON", "METRES", "N", "NAME", "NUMBER", "PROPERTY", "SECONDS", "SHARE", "SOUTH,WEST,NORTH,EAST", "STAMP", "T", "TEMPLATE",
     "THEIRS=OURS", "TIME", "TITLE", "URL", "URN",
 }  # fmt: skip
@@ -135,7 +135,7 @@ class Versions(unittest.TestCase):
 
     def test_each_tool_has_a_version(self) -> None:
         said: Dict[str, str] = {}
-        for name in ("lost-client", "lost-feed", "lost-gateway", "map-check", "map-page", "geojson-to-desk", "desk-to-geojson", "desk-to-svg", "addresses-to-desk"):
+        for name in ("lost-client", "lost-feed", "lost-gateway", "map-check", "map-page", "geojson-to-desk", "desk-to-geojson", "desk-to-svg", "addresses-to-desk", "postgis-to-desk"):
             ran = subprocess.run([f"{TOP}/tools/{name}", "--version"], capture_output=True, text=True, timeout=60)
             self.assertEqual((ran.returncode, ran.stderr), (0, ""), name)
             said[name] = ran.stdout.replace(f"{name} ", "", 1)

@@ -27,6 +27,10 @@ class Stopped(Exception):
     """What ends a command with status 3."""
 
 
+class Second(Stopped):
+    """Another publisher came first."""
+
+
 class Group(NamedTuple):
     """Edits up to a commit line: their lines, and the number of the first."""
 
@@ -104,7 +108,7 @@ class Publisher:
         """Says who came first."""
         winner = self.log.after(commits[0].begins)[0]
         who = f"{winner.publisher} published edition {winner.edition} first, at {winner.published}"
-        raise Stopped(f"{who}, from the same edition {commits[0].begins}: {NOTHING}; look at it, and publish again")
+        raise Second(f"{who}, from the same edition {commits[0].begins}: {NOTHING}; look at it, and publish again")
 
     def has(self, commits: List[Commit]) -> bool:
         """Whether the log has commits, of which it has all or none."""
