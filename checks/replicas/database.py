@@ -17,6 +17,7 @@ shared_buffers = '32MB'
 max_connections = 100
 wal_keep_size = '512MB'
 hot_standby = on
+wal_retrieve_retry_interval = '200ms'
 """
 
 

@@ -15,7 +15,7 @@ from maptools.feeding.health import listen
 from maptools.feeding.level import Level
 from maptools.feeding.log import MOST_ROWS, Commit, Log
 from maptools.feeding.publishing import COMMIT_LINE, Stopped
-from maptools.feeding.standing import Standing, standing_of
+from maptools.feeding.standing import EMPTY, Standing, standing_of
 from maptools.replies import ACCEPTED, refused_text
 from maptools.rounds import Reply, Talk
 
@@ -75,6 +75,8 @@ class Follower:
         self.options, self.desk = options, options.desk
         self.name = options.name or f"{socket.gethostname()} {options.desk}"
         self.level = Level(options.status, options.most_behind, options.most_apart)
+        # The edition that the server last said it has, or made: what it holds beyond that is not the log's.
+        self.acknowledged = 0
         self.reported, self.reported_at, self.said = None, 0.0, ""  # type: Optional[Standing], float, str
 
     def say(self, text: str) -> None:
@@ -91,12 +93,13 @@ class Follower:
         if self.level.known.get(standing.edition) != standing.map and log.map_at(standing.edition) != standing.map:
             raise Stopped(self.difference(standing, log))
         self.level.stand(standing)
+        self.acknowledged = standing.edition
 
     def difference(self, standing: Standing, log: Log) -> str:
         """Where the server and the log part, and what to do."""
-        agreed, held = self.level.position, log.map_at(standing.edition)
-        has_agreed = agreed is not None and agreed.edition < standing.edition
-        first = agreed.edition + 1 if has_agreed else min(standing.edition, log.last().edition + 1)
+        agreed, held = max(self.acknowledged, (self.level.position or EMPTY).edition), log.map_at(standing.edition)
+        has_agreed = self.level.position is not None and agreed < standing.edition
+        first = agreed + 1 if has_agreed else min(standing.edition, log.last().edition + 1)
         where = f"from edition {first} on" if has_agreed else f"at edition {first}, if not before"
         other = f"edition {standing.edition} there with map {held}" if held else f"no edition {standing.edition} with that map"
         other = other if held else f"no commit that makes edition {standing.edition}"
@@ -114,6 +117,7 @@ class Follower:
                         self.level.know(commit.standing())
                     talk = Talk(connection, argparse.Namespace(json=False, timeout=REPLY))
                     (send_at_once if is_many else send_one_by_one)(talk, commits)
+                    self.acknowledged = commits[-1].edition
                     self.count(commits)
         except Surprise as surprise:
             self.look(log)

@@ -1,0 +1,179 @@
+"""Faults of a fleet: each happens, lasts a while, ends, and then says what was wrong."""
+import json
+import random
+import signal
+import subprocess
+import time
+from typing import NamedTuple
+
+from fleet import FEED, FOLLOWER, http_get
+from history import History, line
+
+# Seconds: in which a server must reach the log's edition, and one that differs must be out of rotation and named.
+LEVEL, OUT = 2.0, 2.0
+FOLLOWER_STOPPED = 10.0
+PATIENCE = 60.0
+
+
+class Odd(NamedTuple):
+    """An edit behind the log's back: when it was committed, at which server, and the edition that it made."""
+
+    moment: float
+    name: str
+    edition: int
+
+
+class Faults:
+    """All that a fault needs. `wrong` is what was not as it should be, `odd` the edits behind the log's back."""
+
+    def __init__(self, fleet, seed):
+        self.fleet, self.dice, self.history = fleet, random.Random(seed), History(seed + 1)
+        self.wrong, self.odd, self.counts, self.slowest = [], [], {}, {"level": 0.0, "out": 0.0, "named": 0.0}
+
+    # ---- what is common
+
+    def some(self):
+        """One of the members."""
+        return self.dice.choice(self.fleet.members)
+
+    def wait_a_while(self):
+        """Lets a fault last."""
+        time.sleep(self.dice.uniform(0.2, 2.0))
+
+    def need(self, is_so, text):
+        """Notes what is wrong, unless it is so."""
+        if not is_so:
+            self.wrong.append(text)
+            print(f"    WRONG: {text}", flush=True)
+
+    def await_level(self, what):
+        """All is up again: each server must reach the edition that the log has now."""
+        begun, wanted = time.monotonic(), self.fleet.publisher.last_told()
+        left = {one.name: one for one in self.fleet.members}
+        while left and time.monotonic() - begun < PATIENCE:
+            left = {name: one for name, one in left.items() if (one.standing() or (0,))[0] < wanted}
+        passed = time.monotonic() - begun
+        self.slowest["level"] = max(self.slowest["level"], passed)
+        self.need(not left, f"{what}: {', '.join(left)} did not reach edition {wanted}")
+        self.need(left or passed <= LEVEL, f"{what}: edition {wanted} was reached after {passed:.2f} seconds")
+        back = self.fleet.balancer.await_rotation({one.name for one in self.fleet.members})
+        self.need(back is not None, f"{what}: only {sorted(self.fleet.balancer.rotation())} are in rotation")
+
+    def snapshot(self):
+        """A file with the log's lines."""
+        path = f"{self.fleet.folder}/snapshot.jsonl"
+        with open(path, "wb") as file:
+            subprocess.run([FEED, "snapshot", "--log", self.fleet.database.url(FOLLOWER)], stdout=file, stderr=subprocess.DEVNULL, check=True, timeout=PATIENCE)
+        return path
+
+    # ---- the faults
+
+    def server_killed(self):
+        """a server is killed, and starts from the lines that it had a while ago"""
+        one, path = self.some(), self.snapshot()
+        self.wait_a_while()
+        one.kill("server")
+        self.wait_a_while()
+        one.start_server(path)
+
+    def server_empty(self):
+        """a server is killed, and starts empty"""
+        one = self.some()
+        one.kill("server")
+        self.wait_a_while()
+        one.start_server()
+
+    def follower_killed(self):
+        """a follower is killed, and starts again"""
+        one = self.some()
+        one.kill("follower")
+        self.wait_a_while()
+        one.start_follower(self.fleet.database.url(FOLLOWER))
+
+    def follower_stopped(self):
+        """a follower is stopped for ten seconds"""
+        one = self.some()
+        one.signal(signal.SIGSTOP)
+        out = self.fleet.balancer.await_rotation({other.name for other in self.fleet.members if other is not one}, FOLLOWER_STOPPED)
+        self.need(out is not None, f"{one.name} was in rotation while its follower was stopped")
+        time.sleep(FOLLOWER_STOPPED - (out or FOLLOWER_STOPPED))
+        one.signal(signal.SIGCONT)
+
+    def database_killed(self):
+        """PostgreSQL is killed, and starts again"""
+        self.fleet.database.primary.kill()
+        self.wait_a_while()
+        self.fleet.database.primary.start()
+
+    def all_killed(self):
+        """servers, followers and PostgreSQL are killed at once, and start again in some order"""
+        path, members = self.snapshot(), list(self.fleet.members)
+        for one in members:
+            one.kill()
+        self.fleet.database.primary.kill()
+        self.wait_a_while()
+        starts = [self.fleet.database.primary.start, *(lambda one=one: self.start_both(one, path) for one in members)]
+        self.dice.shuffle(starts)
+        for start in starts:
+            start()
+
+    def start_both(self, one, path):
+        """Starts a member, in some order."""
+        starts = [lambda: one.start_server(path if self.dice.random() < 0.5 else None), lambda: one.start_follower(self.fleet.database.url(FOLLOWER))]
+        self.dice.shuffle(starts)
+        for start in starts:
+            start()
+
+    def edit_behind_the_log(self):
+        """a server is given an edit behind the log's back: it is out of rotation within two seconds, and named"""
+        one, others = self.some(), {other.name for other in self.fleet.members}
+        mapping = {**self.history.mapping("odd"), "source": "odd.example"}
+        given = f"{line('publish', mapping)}\n{{\"commit\":{{}}}}\n"
+        words = [FEED.replace("lost-feed", "lost-client"), "desk", "--json", "--server", one.desk, "-"]
+        ran = subprocess.run(words, input=given, capture_output=True, text=True, timeout=PATIENCE)
+        edition = json.loads(ran.stdout.splitlines()[-1])["committed"]["edition"]
+        begun = time.monotonic()
+        self.odd.append(Odd(begun, one.name, edition))
+        out = self.fleet.balancer.await_rotation(others - {one.name}, 5 * OUT)
+        self.need(out is not None and out <= OUT, f"{one.name} was in rotation {out} seconds after edition {edition}, which is odd")
+        self.slowest["out"] = max(self.slowest["out"], out or 5 * OUT)
+        status = one.follower.wait(PATIENCE)
+        self.slowest["named"] = max(self.slowest["named"], time.monotonic() - begun)
+        named = one.said().splitlines()[-1]
+        wanted = f"{one.desk} differs from the log from edition {edition} on"
+        self.need(status == 3 and wanted in named, f"the follower ended with {status}, and edition {edition} is odd: {named}")
+        self.need(http_get(one.host, one.health, "/health")[0] != 200, "/health of a server that differs gave 200")
+        one.kill()
+        one.start_server()
+        one.start_follower(self.fleet.database.url(FOLLOWER))
+
+    def standby_promoted(self):
+        """the primary is killed for good, and the standby is promoted; then it gets a standby of its own"""
+        self.fleet.database.await_standby()
+        self.fleet.database.primary.kill()
+        self.wait_a_while()
+        self.fleet.database.promote()
+
+    def kinds(self):
+        """All faults."""
+        return [
+            self.server_killed, self.server_empty, self.follower_killed, self.follower_stopped, self.database_killed,
+            self.all_killed, self.edit_behind_the_log, self.standby_promoted,
+        ]
+
+    def run(self, seconds):
+        """Has each fault once, and then goes on until the time is over."""
+        end = time.monotonic() + seconds
+        for fault in self.dice.sample(self.kinds(), len(self.kinds())):
+            self.have(fault)
+        while time.monotonic() < end:
+            self.have(self.dice.choice(self.kinds()))
+
+    def have(self, fault):
+        """Has a fault, and waits until all is well again."""
+        print(f"{time.strftime('%H:%M:%S')} {fault.__doc__}", flush=True)
+        fault()
+        self.await_level(fault.__doc__)
+        self.fleet.database.need_standby()
+        self.counts[fault.__doc__] = self.counts.get(fault.__doc__, 0) + 1
+        time.sleep(self.dice.uniform(0.5, 2.0))

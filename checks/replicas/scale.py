@@ -1,0 +1,5 @@
+"""Figures."""
+
+
+def measure(program):
+    return []
