@@ -16,7 +16,9 @@ from server import free_ports
 TOP = os.path.dirname(os.path.dirname(os.path.dirname(os.path.realpath(__file__))))
 PAGE, FEED = f"{TOP}/docs/REPLICAS.md", f"{TOP}/tools/lost-feed"
 SECTION = re.compile(r"```text\n([^`]*^listen lost\n[^`]*)```", re.MULTILINE)
-WRITTEN = ["10.0.0.5:5222", "10.0.0.6:5222", "10.0.0.7:5222"]
+WRITTEN = """    server a 10.0.0.5:5222 check port 5226
+    server b 10.0.0.6:5222 check port 5226
+    server c 10.0.0.7:5222 check port 5226"""
 DATABASE, PUBLISHER, FOLLOWER = "lost", "publisher", "follower"
 ROLES = f"CREATE ROLE {PUBLISHER} LOGIN IN ROLE feed_publisher; CREATE ROLE {FOLLOWER} LOGIN IN ROLE feed_follower;"
 PATIENCE = 60.0
@@ -99,9 +101,9 @@ def section(front, members, stats):
         found = SECTION.search(file.read())
     if not found:
         raise Unable(f"{PAGE} has no block of text with `listen lost`")
-    places = [(f"{written} check port 5226", f"{one.host}:{one.queries} check port {one.health}") for written, one in zip(WRITTEN, members)]
     text = found[1]
-    for written, here in [("bind :5222", f"bind 127.0.0.1:{front}"), *places]:
+    servers = [f"    server {one.name} {one.host}:{one.queries} check port {one.health}" for one in members]
+    for written, here in (("bind :5222", f"bind 127.0.0.1:{front}"), (WRITTEN, "\n".join(servers))):
         if written not in text:
             raise Unable(f"the block of {PAGE} has no {written!r}")
         text = text.replace(written, here)
@@ -112,10 +114,11 @@ class Balancer:
     """HAProxy before the members."""
 
     def __init__(self, folder, members):
-        self.front, self.stats = free_ports(1)[0], f"{folder}/stats.sock"
-        with open(f"{folder}/haproxy.cfg", "w", encoding="utf-8") as file:
+        self.front = free_ports(1)[0]
+        self.stats = f"{folder}/stats-{self.front}.sock"
+        with open(f"{folder}/haproxy-{self.front}.cfg", "w", encoding="utf-8") as file:
             file.write(section(self.front, members, self.stats))
-        self.program = Program(["/usr/sbin/haproxy", "-W", "-f", f"{folder}/haproxy.cfg"], stdout=subprocess.DEVNULL)
+        self.program = Program(["/usr/sbin/haproxy", "-W", "-f", f"{folder}/haproxy-{self.front}.cfg"], stdout=subprocess.DEVNULL)
         await_port(self.front, self.program)
 
     def rotation(self):

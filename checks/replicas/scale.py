@@ -1,5 +1,144 @@
-"""Figures."""
+"""Figures: how fast commits reach followers, and how many questions four servers answer beside one."""
+import socket
+import statistics
+import subprocess
+import tempfile
+import time
+from concurrent.futures import ThreadPoolExecutor
+
+from database import Unable
+from fleet import FEED, FOLLOWER, PUBLISHER, Balancer, Log, members_of
+from history import History, questions
+from measuring import compiled
+from processes import TOP
+from publisher import COMMIT
+from sides import write_pairs
+
+FOLLOWERS, COMMITS, SINGLES = (3, 20), 1_000, 20
+# Connections, lines at a time on each, threads and seconds of the load; servers beside one; and how often each is asked.
+LOAD, SERVERS, ROUNDS = ["64", "16", "2", "4"], 4, 3
+EDITS = 40
+PATIENCE = 120.0
+
+
+def await_edition(member, edition):
+    """Waits until a server has an edition."""
+    end = time.monotonic() + PATIENCE
+    while (member.standing() or (0,))[0] < edition:
+        if time.monotonic() > end:
+            raise Unable(f"edition {edition} did not come to {member.name} in {PATIENCE:g} seconds")
+
+
+def await_all(members, edition):
+    """Waits until each server has an edition; all are asked at once, since each takes a while to say."""
+    with ThreadPoolExecutor(len(members)) as pool:
+        list(pool.map(lambda one: await_edition(one, edition), members))
+
+
+def start_publisher(log, program, folder):
+    """A publisher of each commit as it comes."""
+    words = [FEED, "publish", "--log", log.url(PUBLISHER), "--lostd", program, "--state", f"{folder}/state", "--each", "-"]
+    return subprocess.Popen(words, stdin=subprocess.PIPE, stdout=subprocess.PIPE)
+
+
+def publish_one(publisher, lines):
+    """Publishes a commit; the edition that it makes."""
+    publisher.stdin.write(lines)
+    publisher.stdin.flush()
+    return int(publisher.stdout.readline().split()[6].rstrip(b","))
+
+
+def commit_lines(history):
+    """The lines of a commit of one edit."""
+    return history.edit().encode() + b"\n" + COMMIT + b"\n"
+
+
+def measure_commits(program, folder, count):
+    """Publishes commits one by one, and many as fast as it goes: seconds to the last follower of each, and commits a second."""
+    log, members, history, waits = Log(), members_of(program, folder, count), History(1), []
+    try:
+        log.make()
+        for one in members:
+            one.start_server()
+            one.start_follower(log.url(FOLLOWER))
+        publisher = start_publisher(log, program, folder)
+        for _ in range(SINGLES):
+            begun = time.monotonic()
+            await_all(members, publish_one(publisher, commit_lines(history)))
+            waits.append(time.monotonic() - begun)
+            time.sleep(0.2)
+        before, begun = SINGLES, time.monotonic()
+        publisher.stdin.write(b"".join(commit_lines(history) for _ in range(COMMITS)))
+        publisher.stdin.close()
+        last = [line for line in publisher.stdout][-1]
+        published = time.monotonic() - begun
+        await_all(members, before + COMMITS)
+        passed = time.monotonic() - begun
+        publisher.wait()
+        if b"edition %d," % (before + COMMITS) not in last:
+            raise Unable(f"the publisher says {last!r}")
+        return statistics.median(waits), COMMITS / published, COMMITS / passed
+    finally:
+        for one in members:
+            one.kill()
+        log.remove()
+
+
+def map_file(folder):
+    """A file with a map, and one with questions and their replies, as load.c reads them."""
+    history, path = History(1), f"{folder}/map.jsonl"
+    with open(path, "wb") as file:
+        file.write(b"".join(history.edit().encode() + b"\n" for _ in range(EDITS)) + COMMIT + b"\n")
+    return path
+
+
+def rate(loader, pairs, port):
+    """Replies a second at a port."""
+    ran = subprocess.run([loader, pairs, str(port), *LOAD], capture_output=True, text=True, timeout=PATIENCE)
+    if ran.returncode:
+        raise Unable(f"the load: {ran.stderr.strip()}")
+    return int(ran.stdout) / float(LOAD[-1])
+
+
+def replies_of(member, lines):
+    """What a server replies to lines."""
+    with socket.create_connection((member.host, member.queries), timeout=PATIENCE) as peer, peer.makefile("rwb") as file:
+        file.write(b"".join(line + b"\n" for line in lines))
+        file.flush()
+        return [file.readline() for _ in lines]
+
+
+def measure_questions(program, folder):
+    """Questions a second of one server behind HAProxy, and of four."""
+    path, members, loader = map_file(folder), members_of(program, folder, SERVERS), compiled(f"{TOP}/checks/redis/load.c", folder)
+    balancers, pairs = [], f"{folder}/pairs"
+    try:
+        for one in members:
+            one.start_server(path)
+            one.health = one.status
+        write_pairs(list(zip((line + b"\n" for line in questions()), replies_of(members[0], questions()))), pairs)
+        for count in (1, SERVERS):
+            balancers.append(Balancer(folder, members[:count]))
+            balancers[-1].await_rotation({one.name for one in members[:count]})
+        rounds = [[rate(loader, pairs, balancer.front) for balancer in balancers] for _ in range(ROUNDS)]
+        return [statistics.median(one) for one in zip(*rounds)]
+    finally:
+        for balancer in balancers:
+            balancer.end()
+        for one in members:
+            one.kill()
 
 
 def measure(program):
+    """Prints the figures; nothing is wrong with any."""
+    for count in FOLLOWERS:
+        with tempfile.TemporaryDirectory(prefix="check-replicas-") as folder:
+            wait, published, arrived = measure_commits(program, folder, count)
+        print(f"{count} followers: a commit is everywhere after {1000 * wait:.0f} ms (half of {SINGLES}); {COMMITS} commits one behind the "
+              f"other: {published:.0f} a second are published, {arrived:.0f} a second are everywhere", flush=True)
+    with tempfile.TemporaryDirectory(prefix="check-replicas-") as folder:
+        one, four = measure_questions(program, folder)
+    connections, depth = LOAD[:2]
+    print(f"behind HAProxy, {connections} connections, {depth} lines at a time: one server {one:,.0f} replies a second, "
+          f"{SERVERS} servers {four:,.0f}, {four / one:.2f} times as many", flush=True)
     return []

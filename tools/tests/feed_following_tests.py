@@ -67,7 +67,7 @@ class Following(Feeding):
         with self.assertRaisesRegex(Stopped, "from edition 3 on: it holds edition 3, .* no commit that makes edition 3: start this server again"):
             follower.look(log)
         log.commits = commits_of(A, B, C)
-        with self.assertRaisesRegex(Stopped, f"from edition 3 on: .* edition 3 there with map {digest(A, B, C)}: start this server again"):
+        with self.assertRaisesRegex(Stopped, f"from edition 3 on: .* edition 3 with map {digest(A, B, C)}: start this server again"):
             follower.look(log)
 
     def test_an_edit_while_rows_are_sent(self) -> None:

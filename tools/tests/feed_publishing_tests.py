@@ -38,6 +38,10 @@ class MemoryJudge:
         """Where it stands."""
         return Standing(self.edition, f"{self.edition:032x}")
 
+    def standing_after(self, _edition: int) -> Standing:
+        """Where it stands after a commit."""
+        return self.standing()
+
     def ask(self, lines: List[bytes]) -> List[Any]:
         """The replies."""
         return list(map(self.reply, lines))

@@ -15,7 +15,7 @@ from maptools.feeding.health import listen
 from maptools.feeding.level import Level
 from maptools.feeding.log import MOST_ROWS, Commit, Log
 from maptools.feeding.publishing import COMMIT_LINE, Stopped
-from maptools.feeding.standing import EMPTY, Standing, standing_of
+from maptools.feeding.standing import Standing, standing_of
 from maptools.replies import ACCEPTED, refused_text
 from maptools.rounds import Reply, Talk
 
@@ -97,12 +97,13 @@ class Follower:
 
     def difference(self, standing: Standing, log: Log) -> str:
         """Where the server and the log part, and what to do."""
-        agreed, held = max(self.acknowledged, (self.level.position or EMPTY).edition), log.map_at(standing.edition)
-        has_agreed = self.level.position is not None and agreed < standing.edition
-        first = agreed + 1 if has_agreed else min(standing.edition, log.last().edition + 1)
+        held, position = log.map_at(standing.edition), self.level.position
+        # (what it acknowledged may be where it differs, if its edition is the log's and its digest is not)
+        agreed = [edition for edition in (self.acknowledged, position.edition if position else -1) if edition < standing.edition]
+        has_agreed = position is not None and bool(agreed)
+        first = max(agreed) + 1 if has_agreed else min(standing.edition, log.last().edition + 1)
         where = f"from edition {first} on" if has_agreed else f"at edition {first}, if not before"
-        other = f"edition {standing.edition} there with map {held}" if held else f"no edition {standing.edition} with that map"
-        other = other if held else f"no commit that makes edition {standing.edition}"
+        other = f"edition {standing.edition} with map {held}" if held else f"no commit that makes edition {standing.edition}"
         return f"differs from the log {where}: it holds {standing.text()}, and the log has {other}: {REMEDY}"
 
     def send(self, log: Log, commits: List[Commit]) -> None:

@@ -2,20 +2,24 @@
 from __future__ import annotations
 
 import argparse
+import os
+import re
+import select
 import subprocess
 import tempfile
 from typing import Any, List, Optional
 
 from maptools.addresses import Unix
-from maptools.connection import Broken, connect
+from maptools.connection import CHUNK, Broken, connect
 from maptools.feed import USUAL
 from maptools.feeding.standing import Standing, standing_of
 from maptools.installed import program_at_hand
 from maptools.rounds import Reply, Talk
 
 NO_PROGRAM = "there is no program lostd that could judge the lines: name it with --lostd"
-# How long one reply may take: that to a large commit takes a while.
-SECONDS = 60.0
+# How long one reply may take: that to a large commit takes a while. And how long a line about a commit may take to come.
+SECONDS, SOON = 60.0, 0.1
+COMMITTED = re.compile(rb": committed [0-9]+ edits?: edition ([0-9]+), [0-9]+ mappings, map ([0-9a-f]{32})$")
 
 
 class Judge:
@@ -28,7 +32,8 @@ class Judge:
         self.folder = tempfile.TemporaryDirectory(prefix="lost-feed-")
         self.desk, self.status, queries = (Unix(f"{self.folder.name}/{name}") for name in ("desk", "status", "queries"))
         self.talk: Optional[Talk] = None
-        words = [program, "serve", "--name", "judge.example", "--quiet", "--workers", "1", "--map", map_path]
+        self.said = b""
+        words = [program, "serve", "--name", "judge.example", "--workers", "1", "--map", map_path]
         words += ["--queries", str(queries), "--desk", str(self.desk), "--status", str(self.status)]
         try:
             self.process = subprocess.Popen(words, stdin=subprocess.DEVNULL, stdout=subprocess.PIPE, stderr=subprocess.PIPE)
@@ -61,6 +66,18 @@ class Judge:
     def standing(self) -> Standing:
         """Where it stands."""
         return standing_of(self.status, USUAL)
+
+    def standing_after(self, edition: int) -> Standing:
+        """Where it stands after a commit, by its line about it on standard error; its status, which takes longer, where none comes."""
+        while select.select([self.process.stderr], [], [], SOON)[0]:
+            piece = os.read(self.process.stderr.fileno(), CHUNK)
+            *lines, self.said = (self.said + piece).split(b"\n")
+            for found in filter(None, map(COMMITTED.search, lines)):
+                if int(found[1]) == edition:
+                    return Standing(edition, found[2].decode())
+            if not piece:
+                break
+        return self.standing()
 
     def end(self) -> None:
         """Ends it."""

@@ -79,7 +79,7 @@ class Judging:
         name, reply = self.judge.ask([COMMIT_LINE])[0]
         if name != "committed":
             raise Stopped(f"the commit after line {group.first + len(group.lines) - 1} was {refused_text(name, reply)}; {NOTHING}")
-        self.standing = self.judge.standing()
+        self.standing = self.judge.standing_after(reply.get("edition", before.edition))
         return [Commit(before.edition, self.standing.edition, b"\n".join(group.lines).decode(), self.standing.map)]
 
     def need_clean(self) -> None:
