@@ -26,8 +26,8 @@ class Odd(NamedTuple):
 class Faults:
     """All that a fault needs. `wrong` is what was not as it should be, `odd` the edits behind the log's back."""
 
-    def __init__(self, fleet, seed):
-        self.fleet, self.dice, self.history = fleet, random.Random(seed), History(seed + 1)
+    def __init__(self, fleet, watch, seed):
+        self.fleet, self.watch, self.dice, self.history = fleet, watch, random.Random(seed), History(seed + 1)
         self.wrong, self.odd, self.counts, self.slowest = [], [], {}, {"level": 0.0, "out": 0.0, "named": 0.0}
 
     # ---- what is common
@@ -147,6 +147,23 @@ class Faults:
         one.start_server()
         one.start_follower(self.fleet.database.url(FOLLOWER))
 
+    def upgraded(self):
+        """servers and followers are started again one after another, and no connection is lost"""
+        path, before = self.snapshot(), self.lost()
+        for one in self.fleet.members:
+            self.fleet.balancer.drain(one.name)
+            one.kill()
+            one.start_server(path)
+            one.start_follower(self.fleet.database.url(FOLLOWER))
+            self.fleet.balancer.ask(f"set server lost/{one.name} state ready")
+            back = self.fleet.balancer.await_rotation({other.name for other in self.fleet.members})
+            self.need(back is not None, f"{one.name} is not in rotation again")
+        self.need(self.lost() == before, f"{self.lost() - before} connections were lost while servers were started again")
+
+    def lost(self):
+        """How many connections clients have lost."""
+        return sum(client.lost for client in self.watch.clients)
+
     def standby_promoted(self):
         """the primary is killed for good, and the standby is promoted; then it gets a standby of its own"""
         self.fleet.database.await_standby()
@@ -158,7 +175,7 @@ class Faults:
         """All faults."""
         return [
             self.server_killed, self.server_empty, self.follower_killed, self.follower_stopped, self.database_killed,
-            self.all_killed, self.edit_behind_the_log, self.standby_promoted,
+            self.all_killed, self.edit_behind_the_log, self.standby_promoted, self.upgraded,
         ]
 
     def run(self, seconds):

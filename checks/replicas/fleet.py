@@ -121,17 +121,32 @@ class Balancer:
         self.program = Program(["/usr/sbin/haproxy", "-W", "-f", f"{folder}/haproxy-{self.front}.cfg"], stdout=subprocess.DEVNULL)
         await_port(self.front, self.program)
 
+    def rows(self):
+        """What HAProxy says of each server, by name."""
+        rows = csv.DictReader(io.StringIO(self.ask("show stat").lstrip("# ")))
+        return {row["svname"]: row for row in rows if row["pxname"] == "lost" and len(row["svname"]) == 1}
+
     def rotation(self):
         """The names of the servers that get connections."""
+        return {name for name, row in self.rows().items() if row["status"].startswith("UP")}
+
+    def ask(self, command):
+        """What HAProxy answers to a command."""
         with socket.socket(socket.AF_UNIX) as peer:
             peer.settimeout(2)
             peer.connect(self.stats)
-            peer.sendall(b"show stat\n")
+            peer.sendall(f"{command}\n".encode())
             text = b""
             while piece := peer.recv(65_536):
                 text += piece
-        rows = csv.DictReader(io.StringIO(text.decode().lstrip("# ")))
-        return {row["svname"] for row in rows if row["pxname"] == "lost" and len(row["svname"]) == 1 and row["status"].startswith("UP")}
+        return text.decode()
+
+    def drain(self, name):
+        """Gives a server no new connections, and waits until its last one has ended."""
+        self.ask(f"set server lost/{name} state drain")
+        end = time.monotonic() + PATIENCE
+        while int(self.rows()[name]["scur"]) and time.monotonic() < end:
+            time.sleep(0.05)
 
     def await_rotation(self, wanted, seconds=PATIENCE):
         """Waits until exactly these servers are in rotation; how long that took, or None where it took too long."""

@@ -5,9 +5,10 @@ import subprocess
 import tempfile
 import time
 from concurrent.futures import ThreadPoolExecutor
+from typing import NamedTuple
 
 from database import Unable
-from fleet import FEED, FOLLOWER, PUBLISHER, Balancer, Log, members_of
+from fleet import DATABASE, FEED, FOLLOWER, PUBLISHER, Balancer, Log, members_of
 from history import History, questions
 from measuring import compiled
 from processes import TOP
@@ -19,6 +20,16 @@ FOLLOWERS, COMMITS, SINGLES = (3, 20), 1_000, 20
 LOAD, SERVERS, ROUNDS = ["64", "16", "2", "4"], 4, 3
 EDITS = 40
 PATIENCE = 120.0
+
+
+class Figures(NamedTuple):
+    """Seconds until one commit is everywhere; commits a second published, and everywhere; bytes of its lines, and to a standby."""
+
+    wait: float
+    published: float
+    arrived: float
+    size: int
+    sent: float
 
 
 def await_edition(member, edition):
@@ -67,7 +78,7 @@ def measure_commits(program, folder, count):
             await_all(members, publish_one(publisher, commit_lines(history)))
             waits.append(time.monotonic() - begun)
             time.sleep(0.2)
-        before, begun = SINGLES, time.monotonic()
+        before, begun, place = SINGLES, time.monotonic(), log.primary.sql("postgres", "SELECT pg_current_wal_lsn()")
         publisher.stdin.write(b"".join(commit_lines(history) for _ in range(COMMITS)))
         publisher.stdin.close()
         last = [line for line in publisher.stdout][-1]
@@ -77,7 +88,9 @@ def measure_commits(program, folder, count):
         publisher.wait()
         if b"edition %d," % (before + COMMITS) not in last:
             raise Unable(f"the publisher says {last!r}")
-        return statistics.median(waits), COMMITS / published, COMMITS / passed
+        sent = int(log.primary.sql("postgres", f"SELECT pg_wal_lsn_diff(pg_current_wal_lsn(), '{place}')"))
+        size = int(log.primary.sql(DATABASE, "SELECT avg(octet_length(lines))::int FROM feed.commits"))
+        return Figures(statistics.median(waits), COMMITS / published, COMMITS / passed, size, sent / COMMITS)
     finally:
         for one in members:
             one.kill()
@@ -133,9 +146,10 @@ def measure(program):
     """Prints the figures; nothing is wrong with any."""
     for count in FOLLOWERS:
         with tempfile.TemporaryDirectory(prefix="check-replicas-") as folder:
-            wait, published, arrived = measure_commits(program, folder, count)
-        print(f"{count} followers: a commit is everywhere after {1000 * wait:.0f} ms (half of {SINGLES}); {COMMITS} commits one behind the "
-              f"other: {published:.0f} a second are published, {arrived:.0f} a second are everywhere", flush=True)
+            found = measure_commits(program, folder, count)
+        print(f"{count} followers: half of {SINGLES} commits are everywhere within {1000 * found.wait:.0f} ms; {COMMITS:,} commits one behind the "
+              f"other: {found.published:.0f} a second are published, {found.arrived:.0f} a second are everywhere; a commit of "
+              f"{found.size} bytes sends {found.sent:.0f} bytes to a standby", flush=True)
     with tempfile.TemporaryDirectory(prefix="check-replicas-") as folder:
         one, four = measure_questions(program, folder)
     connections, depth = LOAD[:2]

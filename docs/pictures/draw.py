@@ -1,7 +1,8 @@
 #!/usr/bin/env python3
-"""Draws the pictures of the documents: house.svg, boundary.svg, copies.svg, question.svg and threads.svg, beside this file.
+"""Draws the pictures of the documents: house.svg, boundary.svg, copies.svg, question.svg, replicas.svg and threads.svg,
+beside this file.
 
-Usage: docs/pictures/draw.py          writes the five files
+Usage: docs/pictures/draw.py          writes the six files
        docs/pictures/draw.py --check  writes nothing, and ends with status 1 where a file is not what it would write
 """
 import sys
@@ -216,9 +217,38 @@ def threads():
     return p.write()
 
 
+def replicas():
+    """One log, the followers that feed servers from it, and the balancer before these."""
+    p = Picture(860, 330, "Publishers, the log and its standby, and followers that feed servers behind a balancer")
+    p.box(30, 40, 170, 54, "lost-feed publish", "desk lines, judged first")
+    p.box(30, 130, 170, 54, "postgis-to-desk", "a county's own tables")
+    p.line([(202, 67), (288, 105)], RED, arrow="red")
+    p.line([(202, 157), (288, 125)], RED, arrow="red")
+    p.box(290, 88, 150, 54, "the log", "PostgreSQL", fill="#fbf3df", stroke=RED)
+    p.box(290, 220, 150, 54, "its standby", "at another site", fill="white", stroke=RED, dash="4 3")
+    p.line([(365, 144), (365, 218)], RED, dash="4 3", arrow="red")
+    p.text(375, 186, "each commit", color=RED, anchor="start", size=11)
+    for k, name in enumerate("abc"):
+        top = 30 + 92 * k
+        p.box(500, top, 110, 54, "lost-feed", "follow", fill="#e8f0fa", stroke=BLUE)
+        p.box(650, top, 90, 54, f"server {name}", "lostd", fill="#e8f0fa", stroke=BLUE)
+        p.line([(442, 115), (498, top + 27)], RED, arrow="red")
+        p.line([(612, top + 27), (648, top + 27)], RED, arrow="red")
+        p.line([(770, 146), (742, top + 27)], INK, arrow="ink")
+    p.box(772, 120, 70, 54, "HAProxy")
+    p.line([(807, 250), (807, 176)], INK, arrow="ink")
+    p.text(807, 266, "clients")
+    p.line([(807, 118), (807, 14), (555, 14), (555, 28)], BLUE, dash="4 3", arrow="blue")
+    p.text(680, 10, "GET /health", color=BLUE, size=11)
+    return p.write()
+
+
 def main():
     here = Path(__file__).resolve().parent
-    pictures = {"house.svg": house(), "boundary.svg": boundary(), "copies.svg": copies(), "question.svg": question(), "threads.svg": threads()}
+    pictures = {
+        "house.svg": house(), "boundary.svg": boundary(), "copies.svg": copies(), "question.svg": question(), "replicas.svg": replicas(),
+        "threads.svg": threads(),
+    }
     if sys.argv[1:] == ["--check"]:
         stale = [name for name, text in pictures.items() if not (here / name).exists() or (here / name).read_text() != text]
         for name in stale:

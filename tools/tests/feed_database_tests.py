@@ -15,7 +15,7 @@ from tests.feed_fakes import A, B, C, D, digest, line
 from tests.running import TOP, lostd, run_tool, start_tool
 from tests.server import Server
 
-from database import Unable  # (its folder is on the path since feed_database was read)
+from database import Database, Unable  # (its folder is on the path since feed_database was read)
 
 
 def page(address: str, path: str) -> Tuple[int, str]:
@@ -66,6 +66,37 @@ class Feeds(WithDatabase):
         self.assertEqual([next(iter(one)) for one in lines], ["publish", "publish", "commit", "publish", "commit"])
         self.assertEqual((lines[4]["commit"]["edition"], lines[4]["commit"]["map"]), (3, digest(A, B, C)))
         self.assertEqual(said, f"lost-feed: edition 3, map {digest(A, B, C)}\n")
+        for until, wanted in (("2", 3), ("1", 0), ("3", 5)):
+            self.assertEqual(len(self.feed("snapshot", "--until", until)[1].splitlines()), wanted)
+
+    def test_the_reverse_of_a_mistaken_edit(self) -> None:
+        self.publish(line("publish", A), line("publish", B), COMMIT)
+        mistake = {**A, "lastUpdated": "2026-01-01T00:00:00Z", "key": "A-2", "serviceBoundary": C["serviceBoundary"]}
+        gone = {"source": B["source"], "sourceId": "B", "lastUpdated": "2026-01-01T00:00:00Z"}
+        self.publish(line("replace", mistake), line("withdraw", gone), line("publish", D), COMMIT)
+        with open(f"{self.folder}/now.jsonl", "w", encoding="utf-8") as file:
+            file.write(self.feed("snapshot")[1])
+        features = run_tool("desk-to-geojson", ["-"], self.feed("snapshot", "--until", "2")[1])[1]
+        words = ["-", "--from-desk", "--updated", "now", "--against", f"{self.folder}/now.jsonl"]
+        status, output, said = run_tool("geojson-to-desk", words, features)
+        self.assertEqual((status, said), (0, "geojson-to-desk: 1 to publish, 1 to replace, 1 to withdraw, 0 unchanged\n"))
+        self.assertEqual(self.publish(*output.splitlines())[0], 0)
+        stamps = re.compile(r'"lastUpdated": *"[^"]*"')
+        held = {one["sourceId"]: stamps.sub("", json.dumps(one, sort_keys=True)) for one in self.held()}
+        self.assertEqual(held, {one["sourceId"]: stamps.sub("", json.dumps(one, sort_keys=True)) for one in (A, B)})
+
+    def held(self) -> List[Any]:
+        """The mappings that a server holds which reads the log."""
+        server, words = self.server("--map", self.written())
+        lines = run_tool("desk-to-geojson", ["--server", words[1]])[1]
+        server.__exit__()
+        return [one["publish"] for one in map(json.loads, run_tool("geojson-to-desk", ["-", "--from-desk"], lines)[1].splitlines())]
+
+    def written(self) -> str:
+        """The path of a file with the log."""
+        with open(f"{self.folder}/log.jsonl", "w", encoding="utf-8") as file:
+            file.write(self.feed("snapshot")[1])
+        return file.name
 
     def test_two_publishers_from_one_edition(self) -> None:
         slow = subprocess.Popen(
@@ -127,9 +158,7 @@ class Feeds(WithDatabase):
 
     def test_a_server_that_starts_from_a_snapshot_and_one_that_differs(self) -> None:
         self.publish(line("publish", A), COMMIT, line("publish", B), COMMIT)
-        with open(f"{self.folder}/map.jsonl", "w", encoding="utf-8") as file:
-            file.write(self.feed("snapshot")[1])
-        _, words = self.server("--map", f"{self.folder}/map.jsonl")
+        _, words = self.server("--map", self.written())
         follower, address = self.follower(words)
         self.await_edition(address, 2, A, B)
         self.assertIn("\nlostd_feed_commits_total 0\n", page(address, "/metrics")[1])
@@ -142,3 +171,23 @@ class Feeds(WithDatabase):
         status, output, _ = self.feed("status", "--json")
         self.assertEqual(status, 3)
         self.assertTrue(re.search("differs from the log from edition 3 on", json.loads(output)["followers"][0]["fault"]))
+
+    def test_a_follower_at_a_standby(self) -> None:
+        self.publish(line("publish", A), COMMIT)
+        standby = Database(int(free_address().rpartition(":")[2]), "standby")
+        self.addCleanup(standby.remove)
+        standby.copy_of(self.database)
+        standby.start()
+        _, words = self.server()
+        primary, self.log = self.log, standby.url(self.name)
+        self.assertRegex(self.publish(line("publish", B), COMMIT)[2], "^lost-feed: the log takes nothing from here: cannot execute INSERT in a read-only transaction\n$")
+        _, address = self.follower(words)
+        self.await_edition(address, 1, A)
+        self.log = primary
+        self.publish(line("publish", B), COMMIT)
+        self.await_edition(address, 2, A, B)
+        self.log = standby.url(self.name)
+        standby.run("pg_ctl", "-D", standby.data, "-w", "promote")
+        self.publish(line("publish", C), COMMIT)
+        self.await_edition(address, 3, A, B, C)
+        await_that(lambda: "\na " in self.feed("status")[1], "the follower does not report")

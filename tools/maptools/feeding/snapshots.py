@@ -22,12 +22,15 @@ def commit_line(commit: Commit) -> bytes:
     return line_of({"commit": {"edition": commit.edition, "map": commit.map, "time": commit.published}}).encode()
 
 
-def write_commits(log: Log, edition: int, file: BinaryIO) -> Standing:
-    """Writes the commits after an edition; where a server stands that reads the file."""
-    last: Optional[Commit] = None
-    for last in log.all_after(edition):
-        file.write(b"".join(line + b"\n" for line in (*last.desk_lines(), commit_line(last))))
-    return last.standing() if last else Standing(edition, log.map_at(edition))
+def write_commits(log: Log, edition: int, file: BinaryIO, until: Optional[int] = None) -> Standing:
+    """Writes the commits after an edition, perhaps only those up to another; where a server stands that reads the file."""
+    standing = Standing(edition, log.map_at(edition))
+    for commit in log.all_after(edition):
+        if until is not None and commit.edition > until:
+            break
+        file.write(b"".join(line + b"\n" for line in (*commit.desk_lines(), commit_line(commit))))
+        standing = commit.standing()
+    return standing
 
 
 def end_of(file: BinaryIO) -> Standing:

@@ -5,7 +5,7 @@ import argparse
 from typing import Any, List, Tuple
 
 from maptools.addresses import address, server_of, tcp_of
-from maptools.client_words import seconds_argument
+from maptools.client_words import number_argument, seconds_argument
 from maptools.feeding.schema import FOLLOWER, PUBLISHER
 from maptools.installed import add_version
 
@@ -96,7 +96,8 @@ def parser(description: str) -> argparse.ArgumentParser:
     add_follow(commands)
     status = add_command(commands, "status", "show the log, and where each follower is", STATUS)
     status.add_argument("--json", action="store_true", help="print one JSON object")
-    add_command(commands, "snapshot", "write the log as desk lines that a server starts with", SNAPSHOT)
+    snapshot = add_command(commands, "snapshot", "write the log as desk lines that a server starts with", SNAPSHOT)
+    snapshot.add_argument("--until", type=number_argument, metavar="N", help="only the commits up to edition N, as for the map of an earlier day")
     add_version(words)
     return words
 
