@@ -239,7 +239,7 @@ def replicas():
     p.line([(807, 250), (807, 176)], INK, arrow="ink")
     p.text(807, 266, "clients")
     p.line([(807, 118), (807, 14), (555, 14), (555, 28)], BLUE, dash="4 3", arrow="blue")
-    p.text(680, 10, "GET /health", color=BLUE, size=11)
+    p.text(680, 27, "GET /health", color=BLUE, size=11)
     return p.write()
 
 
