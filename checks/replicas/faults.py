@@ -63,7 +63,8 @@ class Faults:
         """A file with the log's lines."""
         path = f"{self.fleet.folder}/snapshot.jsonl"
         with open(path, "wb") as file:
-            subprocess.run([FEED, "snapshot", "--log", self.fleet.database.url(FOLLOWER)], stdout=file, stderr=subprocess.DEVNULL, check=True, timeout=PATIENCE)
+            words = [FEED, "snapshot", "--log", self.fleet.database.url(FOLLOWER)]
+            subprocess.run(words, stdout=file, stderr=subprocess.DEVNULL, check=True, timeout=PATIENCE)
         return path
 
     # ---- the faults

@@ -71,5 +71,6 @@ def judge(fleet, watch, faults):
     for what, number in faults.counts.items():
         print(f"{number} times: {what}")
     slow = faults.slowest
-    print(f"slowest: the log's edition after {slow['level']:.2f} s; a server that differs out after {slow['out']:.2f} s, named after {slow['named']:.2f} s")
+    out = f"a server that differs out after {slow['out']:.2f} s, named after {slow['named']:.2f} s"
+    print(f"slowest: the log's edition after {slow['level']:.2f} s; {out}")
     return [f"{what}: {text}" for what, texts in groups.items() for text in texts[:MOST_SHOWN]]

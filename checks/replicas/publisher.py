@@ -13,7 +13,7 @@ from verdicts import Books
 COMMIT = b'{"commit":{}}'
 # Seconds: from one commit to the next, until a publish must have ended in some way, and between tries.
 PAUSE, PATIENCE, AGAIN = 0.1, 60.0, 0.2
-TOLD = re.compile(rb"\d+ edits in 1 commits: edition (\d+), map ([0-9a-f]{32})\n")
+TOLD = re.compile(rb"\d+ edits? in 1 commit: edition (\d+), map ([0-9a-f]{32})\n")
 
 
 class Told(NamedTuple):

@@ -73,7 +73,8 @@ class DeskServer:
     """A server that serves desks one after another, by the rules that the tools have. What a desk did not commit is dropped.
 
     `heard` has the lines of each connection. A line that `interrupt` names ends the connection without a reply. Over HTTP it tells
-    its map, and how often; if `lies` says something, that is the digest. What `meanwhile` has becomes its book once it has told it.
+    its map, and how often; if `lies` says something, that is the digest. What `meanwhile` has becomes its book once it has told it. `before_lines` is done once, before the next
+    desk's first line.
     """
 
     def __init__(self, path: str) -> None:
@@ -82,6 +83,7 @@ class DeskServer:
         self.heard: List[List[bytes]] = []
         self.interrupt, self.lies, self.told = b"", "", 0
         self.meanwhile: Optional[Book] = None
+        self.before_lines: Callable[[], None] = lambda: None
         threading.Thread(target=self.run, daemon=True).start()
 
     def run(self) -> None:
@@ -96,8 +98,10 @@ class DeskServer:
 
     def serve(self, connection: socket.socket, lines: Any) -> None:
         """Serves one desk."""
-        staged, pending = copy_of(self.book), 0
         first = lines.readline()
+        before, self.before_lines = self.before_lines, lambda: None
+        before()
+        staged, pending = copy_of(self.book), 0
         if first.startswith(b"GET /map "):
             self.tell(connection, lines)
             return

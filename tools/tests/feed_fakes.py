@@ -105,7 +105,6 @@ class Feeding(unittest.TestCase):
         """A follower of the server, which has looked at it if there is a log."""
         words = {"desk": server_of(self.server.address), "status": server_of(self.status.address), "name": "a"}
         follower = Follower(argparse.Namespace(log="", most_behind=10.0, most_apart=None, **words))
-        follower.level.apart_since = None
         if log is not None:
             follower.look(log)
         return follower

@@ -87,12 +87,22 @@ class Following(Feeding):
         with self.assertRaisesRegex(Stopped, "at edition 3, if not before: it holds edition 3"):
             self.follower(MemoryLog(commits_of(A, B, E)))
 
+    def test_a_server_that_somebody_else_feeds_too(self) -> None:
+        log = MemoryLog(commits_of(A, B, C))
+        follower = self.follower(log)
+        follower.catch_up(MemoryLog(commits_of(A)))
+        # (the other follower's commits come between the look and the lines)
+        self.server.before_lines = lambda: self.edit(B, C)
+        follower.catch_up(log)
+        self.assertEqual(self.heard(), ["publish commit", "publish"])
+        self.assertEqual(health_of(follower.level), (200, f"edition 3, map {digest(A, B, C)}\n"))
+
     def test_a_line_that_is_refused(self) -> None:
         log = MemoryLog([*commits_of(A), Commit(1, 2, line("publish", A), digest(A, B))])
         follower = self.follower(log)
         with self.assertRaisesRegex(Stopped, "line 1 of the commit that makes edition 2 is refused with code 13, IdentityHeld"):
             follower.catch_up(log)
-        self.assertEqual(self.heard(), ["publish commit publish"])
+        self.assertEqual(self.heard(), ["publish commit publish", "publish"])
 
     def test_another_edition_or_another_digest_than_in_the_log(self) -> None:
         log = MemoryLog([Commit(0, 2, line("publish", A), digest(A))])
@@ -128,7 +138,7 @@ class Following(Feeding):
         self.assertIn("the server is 30 seconds behind the log", health_of(level)[1])
         self.assertRegex(metrics_of(level), "\nlostd_feed_commits_behind 1\n")
         level.reach_end()
-        level.apart_since = level.apart_since or 0.0
-        self.assertEqual(health_of(level)[0], 200)
-        level.most_apart = 5.0
+        level.contact_at -= 60
+        self.assertEqual((health_of(level)[0], round(level.seconds_apart())), (200, 60))
+        level.most_apart = 30.0
         self.assertIn("the log has not been reached for", health_of(level)[1])

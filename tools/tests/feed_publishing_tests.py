@@ -87,7 +87,7 @@ class Publishing(unittest.TestCase):
 
     def test_each_by_itself(self) -> None:
         said = self.publish(publish_each, "a", COMMIT, "b", COMMIT)
-        self.assertEqual(said, f"1 edits in 1 commits: edition 1, map {1:032x}\n1 edits in 1 commits: edition 2, map {2:032x}\n")
+        self.assertEqual(said, f"1 edit in 1 commit: edition 1, map {1:032x}\n1 edit in 1 commit: edition 2, map {2:032x}\n")
         with self.assertRaisesRegex(Stopped, "file, line 3: refused with code 13"):
             self.publish(publish_each, "a", COMMIT, "faulty", COMMIT)
         self.assertEqual(self.rows(), [(0, 1, "a")])

@@ -44,6 +44,6 @@ def connected(url: str) -> Any:
         connection.autocommit = True
         return connection
     except psycopg2.ProgrammingError:
-        raise Broken("--log: this is no address of a database: write postgresql://USER@HOST/DATABASE") from None
+        raise Broken("this is no address of a database: write postgresql://USER@HOST/DATABASE") from None
     except psycopg2.Error as error:
         raise Broken(f"no connection to the database: {first_line(error)}") from None

@@ -121,7 +121,10 @@ class Follower:
                     self.acknowledged = commits[-1].edition
                     self.count(commits)
         except Surprise as surprise:
+            before = self.level.position
             self.look(log)
+            if self.level.position != before:
+                return
             if surprise.code == MEMORY and not is_many:
                 raise Broken(str(surprise)) from None
             raise Stopped(f"differs from the log: {surprise}: {REMEDY}") from None
@@ -140,6 +143,7 @@ class Follower:
         while True:
             before = self.level.position.edition
             commits = log.after(before)
+            self.level.note_contact()
             if not commits:
                 return self.level.reach_end()
             self.level.wait_for(commits, len(commits) if len(commits) < MOST_ROWS else log.count_after(before))
@@ -168,12 +172,13 @@ class Follower:
                 if is_told or not is_looked or is_standby or time.monotonic() - polled > POLL:
                     self.catch_up(log)
                     polled = time.monotonic()
-                is_looked, self.level.apart_since = True, None
+                is_looked = True
                 self.say("")
             except Broken as error:
                 is_looked = False
                 self.say(f"{error}; it goes on by itself")
                 self.level.log_edition = log.last().edition
+                self.level.note_contact()
             self.report(log)
             if is_standby and not log.is_standby():
                 return
@@ -192,7 +197,6 @@ class Follower:
                         self.report(log, is_due=True)
                         raise
             except (Broken, psycopg2.Error) as error:
-                self.level.apart_since = self.level.apart_since or time.monotonic()
                 self.say(f"the log cannot be reached ({first_line(error)}); it goes on by itself")
                 time.sleep(AGAIN)
 

@@ -11,6 +11,8 @@ from maptools.feeding.standing import EMPTY, Standing, standing_of
 
 # So many editions are remembered with their digests, and so long a server may take to say where it stands.
 MOST_KNOWN, SECONDS = 2_000, 1.0
+# A follower asks the log more often than this.
+LATELY = 5.0
 
 
 class Level:
@@ -22,7 +24,7 @@ class Level:
         self.position: Optional[Standing] = None
         self.log_edition, self.commits_behind = 0, 0
         self.waiting_since: Optional[float] = None
-        self.apart_since: Optional[float] = time.monotonic()
+        self.contact_at = time.monotonic()
         self.has_reached_end, self.fault = False, ""
         self.commits = self.edits = self.bursts = self.looks = 0
         self.forget()
@@ -59,10 +61,14 @@ class Level:
         since = self.waiting_since
         return 0.0 if since is None else max(0.0, time.monotonic() - since)
 
+    def note_contact(self) -> None:
+        """Notes that the log answered."""
+        self.contact_at = time.monotonic()
+
     def seconds_apart(self) -> float:
-        """For how long the log could not be reached."""
-        since = self.apart_since
-        return 0.0 if since is None else time.monotonic() - since
+        """For how long the log has not answered; 0 where it answered lately."""
+        passed = time.monotonic() - self.contact_at
+        return passed if passed > LATELY else 0.0
 
     def cause_in(self, standing: Standing) -> str:
         """Why a server that stands there must not be asked; empty where it may."""

@@ -15,6 +15,7 @@ from maptools.feeding.log import Commit, Log, Taken
 from maptools.feeding.snapshots import snapshot_in
 from maptools.feeding.standing import Standing
 from maptools.lines import read_line
+from maptools.plan import counted
 from maptools.replies import ACCEPTED, refused_text
 
 COMMIT_LINE = b'{"commit":{}}'
@@ -133,7 +134,7 @@ def told(commits: List[Commit], standing: Standing) -> str:
     if not commits:
         return f"nothing to publish: {standing.text()}"
     edits = commits[-1].edition - commits[0].begins
-    return f"{edits} edits in {len(commits)} commits: {standing.text()}"
+    return f"{counted(edits, 'edit')} in {counted(len(commits), 'commit')}: {standing.text()}"
 
 
 def publish_each(judging: Judging, publisher: Publisher, groups: Iterator[Group]) -> None:

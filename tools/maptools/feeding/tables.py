@@ -53,12 +53,14 @@ class Table:
         places = [column for column in columns if column[1] and geometry in (None, column[0])]
         if len(places) != 1:
             have = ", ".join(column[0] for column in columns if column[1]) or "none"
-            raise Broken(f"{name} has the geometries {have}: name one with --geometry" if geometry is None else f"{name} has no geometry {geometry}: it has {have}")
+            what = f"the geometries {have}: name one with --geometry" if geometry is None else f"no geometry {geometry}: it has {have}"
+            raise Broken(f"{name} has {what}")
         keys = self.run(KEY, name)
         key = f"row_of_table.{keys[0][0]}" if len(keys) == 1 else "NULL"
         properties = ", ".join(f"row_of_table.{column[2]}" for column in columns if not column[1])
         table = self.run("SELECT %s::regclass::text", name)[0][0]
-        return FEATURES.format(key=key, order=key if len(keys) == 1 else "row_of_table::text", geometry=f"row_of_table.{places[0][2]}", properties=properties, table=table)
+        order, place = key if len(keys) == 1 else "row_of_table::text", f"row_of_table.{places[0][2]}"
+        return FEATURES.format(key=key, order=order, geometry=place, properties=properties, table=table)
 
     def features(self) -> Iterator[Any]:
         """The rows as features, all of one moment; Broken where a geometry cannot be written in WGS 84."""

@@ -7,6 +7,7 @@ from typing import Any, Dict, List
 
 from maptools.feeding.log import Log, Told
 from maptools.feeding.standing import Standing
+from maptools.plan import counted
 from maptools.status_layout import printable
 
 # A follower writes every few seconds: one that was silent for so long is gone.
@@ -25,7 +26,7 @@ def fault_of(told: Told, log: Log) -> str:
 
 def behind_text(told: Told) -> str:
     """How far a follower is behind."""
-    return f"{told.commits} commits, {told.seconds or 0:.0f} s" if told.commits else "-"
+    return f"{counted(told.commits, 'commit')}, {told.seconds or 0:.0f} s" if told.commits else "-"
 
 
 def table(rows: List[List[str]]) -> List[str]:
