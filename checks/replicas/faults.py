@@ -59,6 +59,11 @@ class Faults:
         back = self.fleet.balancer.await_rotation({one.name for one in self.fleet.members})
         self.need(back is not None, f"{what}: only {sorted(self.fleet.balancer.rotation())} are in rotation")
 
+    def need_rotation(self, when):
+        """Notes which servers are not in rotation."""
+        missing = {one.name for one in self.fleet.members} - self.fleet.balancer.rotation()
+        self.need(not missing, f"{sorted(missing)} were out of rotation {when}")
+
     def snapshot(self):
         """A file with the log's lines."""
         path = f"{self.fleet.folder}/snapshot.jsonl"
@@ -101,10 +106,13 @@ class Faults:
         one.signal(signal.SIGCONT)
 
     def database_killed(self):
-        """PostgreSQL is killed, and starts again"""
+        """PostgreSQL is killed, and starts again; all servers stay in rotation"""
         self.fleet.database.primary.kill()
         self.wait_a_while()
+        self.need_rotation("while PostgreSQL was down")
         self.fleet.database.primary.start()
+        time.sleep(1)
+        self.need_rotation("when PostgreSQL was back")
 
     def all_killed(self):
         """servers, followers and PostgreSQL are killed at once, and start again in some order"""

@@ -1,14 +1,16 @@
 """lost-feed follow: what a follower sends, and where it stops. No database is needed."""
 from __future__ import annotations
 
-import unittest
+import re
 
+from maptools.addresses import Tcp, server_of
 from maptools.connection import Broken
 from maptools.feeding.following import FEW
-from maptools.feeding.health import health_of, metrics_of
+from maptools.feeding.health import health_of, listen, metrics_of
 from maptools.feeding.log import Commit
 from maptools.feeding.publishing import Stopped
 from maptools.feeding.standing import EMPTY, Standing
+from maptools.status_page import page_of
 from tests.feed_fakes import A, B, C, D, E, Feeding, MemoryLog, commits_of, digest, line
 from tests.map_file import mapping
 
@@ -97,6 +99,15 @@ class Following(Feeding):
         self.assertEqual(self.heard(), ["publish commit", "publish"])
         self.assertEqual(health_of(follower.level), (200, f"edition 3, map {digest(A, B, C)}\n"))
 
+    def test_another_log_after_a_new_connection(self) -> None:
+        log = MemoryLog(commits_of(A, B))
+        follower = self.follower(log)
+        follower.catch_up(log)
+        follower.is_verified = False
+        self.assertEqual(health_of(follower.level)[0], 200)
+        with self.assertRaisesRegex(Stopped, f"from edition 3 on|edition 2, if not before: it holds edition 2, .* edition 2 with map {digest(A, C)}"):
+            follower.look(MemoryLog(commits_of(A, C)))
+
     def test_a_line_that_is_refused(self) -> None:
         log = MemoryLog([*commits_of(A), Commit(1, 2, line("publish", A), digest(A, B))])
         follower = self.follower(log)
@@ -126,6 +137,20 @@ class Following(Feeding):
         self.server.interrupt = b""
         follower.catch_up(log)
         self.assertEqual(self.server.edition, 1)
+
+    def test_the_address_of_a_follower(self) -> None:
+        log = MemoryLog(commits_of(A))
+        follower = self.follower(log)
+        address = listen(Tcp("127.0.0.1", 0), follower.level)
+        server = server_of(address)
+        self.assertEqual(page_of(server, "/health", 5).status, 503)
+        follower.catch_up(log)
+        self.assertEqual(page_of(server, "/health", 5), (200, f"edition 1, map {digest(A)}\n".encode()))
+        metrics = page_of(server, "/metrics", 5).body.decode()
+        self.assertEqual({line.split()[0] for line in metrics.splitlines() if "#" not in line}, set(re.findall(r"# TYPE (\S+) ", metrics)))
+        self.assertEqual(page_of(server, "/", 5).status, 404)
+        with self.assertRaisesRegex(Broken, f"--listen {address}: Address already in use"):
+            listen(server, follower.level)
 
     def test_behind_and_apart(self) -> None:
         log = MemoryLog(commits_of(A))

@@ -19,8 +19,10 @@ from maptools.feeding.standing import Standing, standing_of
 from maptools.replies import ACCEPTED, refused_text
 from maptools.rounds import Reply, Talk
 
-# Seconds: between looks at the server, and at the log where nothing is told of; between reports; for a reply; between tries.
-LOOK, LOOK_AT_STANDBY, POLL, REPORT, REPLY, AGAIN = 0.5, 0.1, 2.0, 5.0, 30.0, 0.5
+# Seconds between looks at the server; between looks at a standby, which tells of nothing, and at another log that tells of nothing.
+LOOK, LOOK_AT_STANDBY, POLL = 0.5, 0.1, 2.0
+# Seconds between reports, of what changed and of what did not; for a reply; between tries.
+SOON, REPORT, REPLY, AGAIN = 1.0, 5.0, 30.0, 0.5
 # More commits at once are sent in one go, to a server that is out of rotation meanwhile.
 FEW = 16
 MEMORY = 20
@@ -77,7 +79,10 @@ class Follower:
         self.level = Level(options.status, options.most_behind, options.most_apart)
         # The edition that the server last said it has, or made: what it holds beyond that is not the log's.
         self.acknowledged = 0
-        self.reported, self.reported_at, self.said = None, 0.0, ""  # type: Optional[Standing], float, str
+        # Whether this log, and not one before, has what the server holds.
+        self.is_verified = False
+        self.reported, self.reported_at, self.is_at_standby = None, 0.0, False  # type: Optional[Standing], float, bool
+        self.said = ""
 
     def say(self, text: str) -> None:
         """A line on standard error, unless it was the last one."""
@@ -90,8 +95,12 @@ class Follower:
     def look(self, log: Log) -> None:
         """Asks the server where it stands. Stopped where the log has no such commit, Broken where it does not say."""
         standing = standing_of(self.options.status, REPLY)
-        if self.level.known.get(standing.edition) != standing.map and log.map_at(standing.edition) != standing.map:
+        is_known = self.is_verified and self.level.known.get(standing.edition) == standing.map
+        if not is_known and log.map_at(standing.edition) != standing.map:
             raise Stopped(self.difference(standing, log))
+        if not self.is_verified:
+            self.level.forget(standing)
+            self.is_verified = True
         self.level.stand(standing)
         self.acknowledged = standing.edition
 
@@ -151,37 +160,37 @@ class Follower:
             self.report(log)
 
     def report(self, log: Log, is_due: bool = False) -> None:
-        """Writes down where the server is, where that changed or is due, and the log can be written to."""
+        """Writes down where the server is, where that changed or is due, unless the log is at a standby, which only reads."""
         now = time.monotonic()
-        pause = REPORT if self.level.position == self.reported else 1.0
-        if (is_due or now - self.reported_at > pause) and not log.is_standby():
-            log.report(self.name, str(self.desk), self.level.position, self.level.fault)
+        pause = REPORT if self.level.position == self.reported else SOON
+        if is_due or now - self.reported_at > pause:
+            self.is_at_standby = log.is_standby()
+            if not self.is_at_standby:
+                log.report(self.name, str(self.desk), self.level.position, self.level.fault)
             self.reported, self.reported_at = self.level.position, now
 
     def follow(self, log: Log) -> None:
-        """Feeds the server as long as the log can be reached."""
-        is_standby = log.is_standby()
+        """Feeds the server as long as the log can be reached, and a standby is one."""
+        is_standby = self.is_at_standby = log.is_standby()
         if not is_standby:
             log.listen()
-        self.level.forget()
-        polled, is_told, is_looked = 0.0, True, False
-        while True:
+        looked, polled, is_told, self.is_verified = 0.0, 0.0, True, False
+        while self.is_at_standby or not is_standby:
+            now = time.monotonic()
             try:
-                if not is_told or not is_looked:
+                if now - looked > LOOK / 2:
                     self.look(log)
-                if is_told or not is_looked or is_standby or time.monotonic() - polled > POLL:
+                    looked = now
+                if is_told or is_standby or now - polled > POLL:
                     self.catch_up(log)
-                    polled = time.monotonic()
-                is_looked = True
+                    polled = now
                 self.say("")
             except Broken as error:
-                is_looked = False
+                looked = polled = 0.0
                 self.say(f"{error}; it goes on by itself")
                 self.level.log_edition = log.last().edition
                 self.level.note_contact()
             self.report(log)
-            if is_standby and not log.is_standby():
-                return
             is_told = log.wait(LOOK_AT_STANDBY if is_standby else LOOK)
 
     def run(self) -> None:

@@ -27,11 +27,11 @@ class Level:
         self.contact_at = time.monotonic()
         self.has_reached_end, self.fault = False, ""
         self.commits = self.edits = self.bursts = self.looks = 0
-        self.forget()
+        self.forget(EMPTY)
 
-    def forget(self) -> None:
-        """Forgets what the log had: it may be another one after a new connection."""
-        self.known = {EMPTY.edition: EMPTY.map}
+    def forget(self, standing: Standing) -> None:
+        """Forgets all that the log had, but for this and the empty map: after a new connection it may be another one."""
+        self.known = {EMPTY.edition: EMPTY.map, standing.edition: standing.map}
 
     def know(self, standing: Standing) -> None:
         """Remembers an edition of the log."""
