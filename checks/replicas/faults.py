@@ -1,5 +1,4 @@
 """Faults of a fleet: each happens, lasts a while, ends, and then says what was wrong."""
-import json
 import random
 import signal
 import subprocess
@@ -16,8 +15,9 @@ PATIENCE = 60.0
 
 
 class Odd(NamedTuple):
-    """An edit behind the log's back: when it was committed, at which server, and the edition that it made."""
+    """An edit behind the log's back: when it was sent, when its commit was answered, at which server, and the edition that it made."""
 
+    sent: float
     moment: float
     name: str
     edition: int
@@ -26,7 +26,8 @@ class Odd(NamedTuple):
 class Faults:
     """All that a fault needs. `wrong` is what was not as it should be, `odd` the edits behind the log's back."""
 
-    def __init__(self, fleet, watch, seed):
+    def __init__(self, fleet, watch, seed, named):
+        self.named = named
         self.fleet, self.watch, self.dice, self.history = fleet, watch, random.Random(seed), History(seed + 1)
         self.wrong, self.odd, self.counts, self.slowest = [], [], {}, {"level": 0.0, "out": 0.0, "named": 0.0}
 
@@ -137,12 +138,11 @@ class Faults:
         """a server is given an edit behind the log's back: it is out of rotation within two seconds, and named"""
         one, others = self.some(), {other.name for other in self.fleet.members}
         mapping = {**self.history.mapping("odd"), "source": "odd.example"}
-        given = f"{line('publish', mapping)}\n{{\"commit\":{{}}}}\n"
-        words = [FEED.replace("lost-feed", "lost-client"), "desk", "--json", "--server", one.desk, "-"]
-        ran = subprocess.run(words, input=given, capture_output=True, text=True, timeout=PATIENCE)
-        edition = json.loads(ran.stdout.splitlines()[-1])["committed"]["edition"]
+        sent = time.monotonic()
+        edition = one.edit([line("publish", mapping)])
         begun = time.monotonic()
-        self.odd.append(Odd(begun, one.name, edition))
+        self.odd.append(Odd(sent, begun, one.name, edition))
+        print(f"    {one.name} is at edition {edition}, which is odd", flush=True)
         out = self.fleet.balancer.await_rotation(others - {one.name}, 5 * OUT)
         self.need(out is not None and out <= OUT, f"{one.name} was in rotation {out} seconds after edition {edition}, which is odd")
         self.slowest["out"] = max(self.slowest["out"], out or 5 * OUT)
@@ -181,11 +181,12 @@ class Faults:
         self.fleet.database.promote()
 
     def kinds(self):
-        """All faults."""
-        return [
+        """All faults, or those with a word in what they say of themselves."""
+        kinds = [
             self.server_killed, self.server_empty, self.follower_killed, self.follower_stopped, self.database_killed,
             self.all_killed, self.edit_behind_the_log, self.standby_promoted, self.upgraded,
         ]
+        return [kind for kind in kinds if self.named in kind.__doc__]
 
     def run(self, seconds):
         """Has each fault once, and then goes on until the time is over."""

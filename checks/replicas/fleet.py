@@ -88,6 +88,15 @@ class Member:
         """Stops the follower, or lets it go on."""
         self.follower.send_signal(number)
 
+    def edit(self, lines):
+        """Sends lines and a commit to the server's desk, as a desk that is not its follower; the edition that this makes."""
+        with socket.socket(socket.AF_UNIX) as desk, desk.makefile("rwb") as file:
+            desk.settimeout(PATIENCE)
+            desk.connect(self.desk[len("unix:") :])
+            file.write("".join(f"{one}\n" for one in [*lines, '{"commit":{}}']).encode())
+            file.flush()
+            return json.loads([file.readline() for _ in range(len(lines) + 1)][-1])["committed"]["edition"]
+
     def standing(self):
         """The edition and the digest that the server shows; None where it does not answer."""
         status, body = http_get(self.host, self.status, "/status")

@@ -1,6 +1,6 @@
 """Judges what clients were told and what servers showed, once all is over."""
 from faults import OUT
-from verdicts import EDITION, Question, edition_in, shown
+from verdicts import Question, edition_in, shown
 
 MOST_SHOWN = 5
 
@@ -11,15 +11,17 @@ def lost_commits(told, rows):
     return [f"edition {one.edition} was told, and the log has it not" for one in told if held.get(one.edition) != (one.edition, one.map, one.lines)]
 
 
-def is_odd_moment(moment, odd, name=None):
-    """Whether an edit behind the log's back may just have been seen, at a server."""
-    return any(one.moment <= moment <= one.moment + OUT and name in (None, one.name) for one in odd)
+def is_odd(odd, edition, *moments, name=None):
+    """Whether this edition may be that of a server that had just got an edit behind the log's back, at all of these moments."""
+    return any(
+        one.edition <= edition and name in (None, one.name) and all(one.sent <= moment <= one.moment + OUT for moment in moments) for one in odd
+    )
 
 
 def differing_servers(seen, rows, odd):
     """Servers that were in rotation and held something else than the log says for their edition."""
     maps = {0: "0" * 32, **{row[0]: row[1] for row in rows}}
-    wrong = [one for one in seen if maps.get(one.edition) != one.map and not is_odd_moment(one.moment, odd, one.name)]
+    wrong = [one for one in seen if maps.get(one.edition) != one.map and not is_odd(odd, one.edition, one.moment, name=one.name)]
     return [f"{one.name} was in rotation with edition {one.edition}, map {one.map}" for one in wrong]
 
 
@@ -45,7 +47,7 @@ class Replies:
                 self.different += 1
                 if self.is_wanted(line, reply):
                     continue
-                if is_odd_moment(first, self.odd) and is_odd_moment(last, self.odd) and EDITION.match(reply):
+                if is_odd(self.odd, edition_in(reply) or 0, first, last):
                     self.of_odd += 1
                 else:
                     found.append(f"{shown(line)}\n    got {shown(reply)}")
@@ -73,4 +75,4 @@ def judge(fleet, watch, faults):
     slow = faults.slowest
     out = f"a server that differs out after {slow['out']:.2f} s, named after {slow['named']:.2f} s"
     print(f"slowest: the log's edition after {slow['level']:.2f} s; {out}")
-    return [f"{what}: {text}" for what, texts in groups.items() for text in texts[:MOST_SHOWN]]
+    return [f"{what}, {len(texts)} in all: {text}" for what, texts in groups.items() for text in texts[:MOST_SHOWN]]

@@ -25,7 +25,7 @@ print(lost_commits([Told(0.0, 3, one, "a"), Told(0.0, 5, other, "b")], rows))
 print(len(lost_commits([Told(0.0, 3, other, "a"), Told(0.0, 5, other, "x"), Told(0.0, 6, one, "c")], rows)))
 seen = [Seen(1.0, "a", 3, one), Seen(1.0, "a", 0, "0" * 32)]
 print(differing_servers(seen, rows, []))
-odd = [Odd(10.0, "a", 6)]
+odd = [Odd(10.0, 10.0, "a", 6)]
 wrong = [Seen(10.0 + OUT / 2, "a", 6, one), Seen(10.0 + OUT / 2, "b", 6, one), Seen(10.1 + OUT, "a", 6, one), Seen(9.0, "a", 5, one)]
 print([(each.name, each.moment) for each in wrong if differing_servers([each], rows, odd)] == [("b", 11.0), ("a", 12.1), ("a", 9.0)])
 
@@ -39,8 +39,8 @@ replies = {(line, Question(line, books.oracle).wanted(books.by_edition[edition])
 judged = Replies([SimpleNamespace(replies=replies)], books, odd)
 print(judged.wrong(), judged.different == len(replies) > 500, judged.of_odd)
 late = next(reply for (line, reply) in replies if b"sip:" in reply)
-changed = {(line, reply): moments for (line, reply), moments in replies.items()}
 line = next(line for (line, reply) in replies if reply == late)
+odd = [Odd(10.0, 10.0, "a", 1)]
 for moments in ((1.0, 2.0), (10.5, 11.0), (10.5, 13.0)):
     judged = Replies([SimpleNamespace(replies={(line, late.replace(b"sip:", b"sip:x")): moments})], books, odd)
     print(len(judged.wrong()), judged.of_odd)
