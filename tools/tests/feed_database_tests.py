@@ -13,7 +13,7 @@ from tests.fake_servers import free_address
 from tests.feed_database import COMMIT, PATIENCE, WithDatabase, await_that
 from tests.feed_fakes import A, B, C, D, digest, line
 from tests.running import TOP, lostd, run_tool, start_tool
-from tests.server import Server
+from tests.server import Server, ask, unix
 
 from database import Database, Unable  # (its folder is on the path since feed_database was read)
 
@@ -114,6 +114,24 @@ class Feeds(WithDatabase):
         self.assertRegex(said, r"^lost-feed: postgres published edition 3 first, at .*Z, from the same edition 1: nothing was published; .*\n$")
         self.assertEqual(self.database.sql(self.name, "SELECT begins, edition FROM feed.commits ORDER BY 1"), "0|1\n1|3")
 
+    def test_a_publisher_goes_on_after_a_restart(self) -> None:
+        words = [f"{TOP}/tools/lost-feed", "publish", "--log", self.log, "--lostd", str(lostd()), "--each", "-"]
+        publisher = subprocess.Popen(words, stdin=subprocess.PIPE, stdout=subprocess.PIPE, text=True)
+        for number, one in enumerate((A, B, C), 1):
+            publisher.stdin.write(f"{line('publish', one)}\n{COMMIT}\n")
+            publisher.stdin.flush()
+            self.assertEqual(publisher.stdout.readline(), f"1 edit in 1 commit: edition {number}, map {digest(*(A, B, C)[:number])}\n")
+            self.database.kill(signal.SIGQUIT)
+            self.database.start()
+        self.assertEqual((publisher.communicate(timeout=PATIENCE)[0], publisher.returncode), ("", 0))
+        self.assertEqual(self.database.sql(self.name, "SELECT edition FROM feed.commits ORDER BY 1"), "1\n2\n3")
+
+    def test_a_user_who_may_not(self) -> None:
+        self.database.sql(self.name, f"CREATE ROLE {self.name}_y LOGIN; DROP SCHEMA feed CASCADE")
+        self.assertRegex(self.feed("status")[2], '^lost-feed: relation "feed.commits" does not exist: is this the database of the log, .*\n$')
+        self.log = self.database.url(self.name, f"{self.name}_y")
+        self.assertRegex(self.feed("init")[2], "^lost-feed: the log cannot be made: permission denied for database .*\n$")
+
     def test_roles(self) -> None:
         self.database.sql(self.name, f"""CREATE ROLE {self.name}_p LOGIN IN ROLE feed_publisher; CREATE ROLE {self.name}_f LOGIN IN ROLE feed_follower;
             CREATE ROLE {self.name}_x LOGIN""")
@@ -173,6 +191,18 @@ class Feeds(WithDatabase):
         status, output, _ = self.feed("status", "--json")
         self.assertEqual(status, 3)
         self.assertTrue(re.search("differs from the log from edition 3 on", json.loads(output)["followers"][0]["fault"]))
+
+    def test_a_server_that_is_behind(self) -> None:
+        self.publish(line("publish", A), COMMIT)
+        _, words = self.server()
+        _, address = self.follower([*words, "--most-behind", "1"])
+        self.await_edition(address, 1, A)
+        with unix(words[1][len("unix:") :]) as desk:
+            ask(desk, f"{line('publish', D)}\n")
+            self.publish(line("publish", B), COMMIT)
+            await_that(lambda: page(address, "/health")[0] == 503, "it is not behind")
+            self.assertRegex(page(address, "/health")[1], "^the server is [0-9]+ seconds behind the log\n$")
+        self.await_edition(address, 2, A, B)
 
     def test_a_follower_at_a_standby(self) -> None:
         self.publish(line("publish", A), COMMIT)

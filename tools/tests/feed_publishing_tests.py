@@ -110,6 +110,14 @@ class Publishing(unittest.TestCase):
             self.publish(publish_all, "a", COMMIT, log=MemoryLog([first]))
         self.assertEqual(self.log.commits, [first])
 
+    def test_commits_whose_answer_was_lost(self) -> None:
+        for held, wanted in (([], commits_of(A)), (commits_of(A), commits_of(A))):
+            publisher = MemoryPublisher(MemoryLog(held))
+            publisher.add_again(commits_of(A))
+            self.assertEqual(publisher.log.commits, wanted)
+        with self.assertRaisesRegex(Stopped, "published edition 1 first"):
+            MemoryPublisher(MemoryLog(commits_of(B))).add_again(commits_of(A))
+
     def test_what_is_a_commit_line(self) -> None:
         for yes in (b'{"commit":{}}', b' { "commit" : {"a":1} }', b'{"\\u0063ommit":{}}'):
             self.assertTrue(is_commit(yes), yes)

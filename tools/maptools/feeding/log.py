@@ -29,7 +29,7 @@ FOLLOWERS = """SELECT name, server, edition, map, fault, extract(epoch FROM cloc
     (SELECT extract(epoch FROM clock_timestamp() - published)::float8 FROM feed.commits
         WHERE begins >= coalesce(followers.edition, 0) ORDER BY begins LIMIT 1)
     FROM feed.followers ORDER BY name"""
-NO_LOG = "the database has no log that this user may read: `lost-feed init` makes one"
+NO_LOG = "is this the database of the log, and may this user do that? (`lost-feed init` makes a log)"
 
 
 class Commit(NamedTuple):
@@ -87,15 +87,18 @@ class Log:
             with self.connection.cursor() as cursor:
                 cursor.execute(statement, values)
                 return cursor.fetchall() if cursor.description else []
-        except (database.psycopg2.errors.UndefinedTable, database.psycopg2.errors.InsufficientPrivilege,
-                database.psycopg2.errors.InvalidSchemaName):  # fmt: skip
-            raise Broken(NO_LOG) from None
+        except database.psycopg2.ProgrammingError as error:
+            raise Broken(f"{first_line(error)}: {NO_LOG}") from None
 
     def make(self) -> bool:
         """Makes the tables, unless they are there; says whether it did."""
         if self.rows("SELECT to_regclass('feed.commits') IS NOT NULL")[0][0]:
             return False
-        self.rows(f"BEGIN; {ALL} COMMIT;")
+        try:
+            with self.connection.cursor() as cursor:
+                cursor.execute(f"BEGIN; {ALL} COMMIT;")
+        except database.psycopg2.Error as error:
+            raise Broken(f"the log cannot be made: {first_line(error)}") from None
         return True
 
     def last(self) -> Standing:

@@ -20,7 +20,7 @@ from maptools.replies import ACCEPTED, refused_text
 
 COMMIT_LINE = b'{"commit":{}}'
 NOTHING = "nothing was published"
-# For how long the log is asked what became of a publish whose answer was lost, and how often.
+# For how long, in seconds, a publish is tried again whose answer was lost, and how often.
 PATIENCE, AGAIN = 20.0, 0.5
 
 
@@ -115,18 +115,26 @@ class Publisher:
         """Whether the log has commits, of which it has all or none."""
         return all(one[:4] in [row[:4] for row in self.log.after(one.begins)[:1]] for one in (commits[0], commits[-1]))
 
+    def add_again(self, commits: List[Commit]) -> None:
+        """Adds commits that may have been added before. (Where that is still under way, this waits for what comes of it.)"""
+        if self.has(commits):
+            return
+        try:
+            self.log.add(commits)
+        except Taken:
+            if not self.has(commits):
+                self.say_taken(commits)
+
     def look_after(self, commits: List[Commit], cause: str) -> None:
-        """Returns where the log has the commits after all; Broken where it has not, or cannot be asked."""
+        """Returns once the log has the commits after all; Broken where it cannot be reached for too long."""
         end = time.monotonic() + PATIENCE
-        lost, what = f"the connection to the log failed ({cause})", "whether the commits are in the log is not known"
         while time.monotonic() < end:
             with contextlib.suppress(Broken, psycopg2.Error):
                 self.log = Log(self.url)
-                what = "" if self.has(commits) else NOTHING
-                break
+                return self.add_again(commits)
             time.sleep(AGAIN)
-        if what:
-            raise Broken(f"{lost}: {what}; `lost-feed status` shows where the log stands")
+        what = "whether the commits are in the log is not known; ask `lost-feed status` before you publish them again"
+        raise Broken(f"the connection to the log failed ({cause}): {what}")
 
 
 def told(commits: List[Commit], standing: Standing) -> str:
