@@ -2,6 +2,7 @@
 from __future__ import annotations
 
 import json
+import os
 import re
 import signal
 import subprocess
@@ -125,6 +126,20 @@ class Feeds(WithDatabase):
             self.database.start()
         self.assertEqual((publisher.communicate(timeout=PATIENCE)[0], publisher.returncode), ("", 0))
         self.assertEqual(self.database.sql(self.name, "SELECT edition FROM feed.commits ORDER BY 1"), "1\n2\n3")
+
+    def test_a_publisher_that_is_ended_leaves_no_judge(self) -> None:
+        for number, (one, how) in enumerate(((A, signal.SIGTERM), (B, signal.SIGKILL)), 1):
+            words = [f"{TOP}/tools/lost-feed", "publish", "--log", self.log, "--lostd", str(lostd()), "--each", "-"]
+            publisher = subprocess.Popen(words, stdin=subprocess.PIPE, stdout=subprocess.PIPE, text=True)
+            publisher.stdin.write(f"{line('publish', one)}\n{COMMIT}\n")
+            publisher.stdin.flush()
+            self.assertIn(f"edition {number},", publisher.stdout.readline())
+            with open(f"/proc/{publisher.pid}/task/{publisher.pid}/children", encoding="ascii") as file:
+                (judge,) = file.read().split()
+            publisher.send_signal(how)
+            publisher.communicate(timeout=PATIENCE)
+            await_that(lambda: not os.path.exists(f"/proc/{judge}"), "the judge goes on")
+            self.assertEqual(publisher.returncode, 143 if how == signal.SIGTERM else -how)
 
     def test_a_user_who_may_not(self) -> None:
         self.database.sql(self.name, f"CREATE ROLE {self.name}_y LOGIN; DROP SCHEMA feed CASCADE")

@@ -143,7 +143,7 @@ class Publishing(unittest.TestCase):
                 Judge(lostd(), file.name)
 
     def test_no_judge(self) -> None:
-        with self.assertRaisesRegex(Broken, "/nothing cannot be run: No such file"):
+        with self.assertRaisesRegex(Broken, "--lostd: /nothing is no program"):
             Judge("/nothing", "map")
         self.assertRaisesRegex(Broken, "did not begin: it says nothing", Judge, "/bin/true", "map")
 

@@ -5,6 +5,7 @@ import argparse
 import os
 import re
 import select
+import shutil
 import subprocess
 import tempfile
 from typing import Any, List, Optional
@@ -22,6 +23,11 @@ SECONDS, SOON = 60.0, 0.1
 COMMITTED = re.compile(rb": committed [0-9]+ edits?: edition ([0-9]+), [0-9]+ mappings, map ([0-9a-f]{32})$")
 
 
+def leash() -> List[str]:
+    """What goes before a command that must not outlive this program, even if that is killed; nothing where setpriv is missing."""
+    return ["setpriv", "--pdeathsig", "KILL"] if shutil.which("setpriv") else []
+
+
 class Judge:
     """The server, and the connection of its one desk. Used in a `with`, both are ended at the end."""
 
@@ -29,16 +35,15 @@ class Judge:
         program = program or program_at_hand()
         if program is None:
             raise Broken(NO_PROGRAM)
+        if not os.access(program, os.X_OK) or os.path.isdir(program):
+            raise Broken(f"--lostd: {program} is no program")
         self.folder = tempfile.TemporaryDirectory(prefix="lost-feed-")
         self.desk, self.status, queries = (Unix(f"{self.folder.name}/{name}") for name in ("desk", "status", "queries"))
         self.talk: Optional[Talk] = None
         self.said = b""
-        words = [program, "serve", "--name", "judge.example", "--workers", "1", "--map", map_path]
+        words = [*leash(), program, "serve", "--name", "judge.example", "--workers", "1", "--map", map_path]
         words += ["--queries", str(queries), "--desk", str(self.desk), "--status", str(self.status)]
-        try:
-            self.process = subprocess.Popen(words, stdin=subprocess.DEVNULL, stdout=subprocess.PIPE, stderr=subprocess.PIPE)
-        except OSError as error:
-            raise Broken(f"{program} cannot be run: {error.strerror}") from None
+        self.process = subprocess.Popen(words, stdin=subprocess.DEVNULL, stdout=subprocess.PIPE, stderr=subprocess.PIPE)
         try:
             self.need_ready()
         except BaseException:

@@ -5,7 +5,6 @@ import argparse
 import contextlib
 import io
 import select
-import signal
 import sys
 import time
 from typing import Any, Optional
@@ -130,7 +129,6 @@ def say(text: str) -> None:
 
 def follow(options: argparse.Namespace) -> int:
     """Makes the edits without end; the status once it is told to end. What fails at the beginning ends it."""
-    signal.signal(signal.SIGTERM, lambda *_: sys.exit(0))
     rounds, table, said = Rounds(options), opened(options), ""
     while True:
         try:
