@@ -11,9 +11,9 @@ from urllib.parse import parse_qs, urlsplit
 
 from maptools.addresses import Server, Tcp
 from maptools.connection import Broken, ask
-from maptools.desk_rules import is_pair
 from maptools.lines import line_of
 from maptools.replies import reply_of
+from maptools.rings import is_pair
 from maptools.server_map import file_of
 
 SECONDS = 10

@@ -3,6 +3,7 @@ from __future__ import annotations
 
 import json
 import os
+import re
 import subprocess
 import tempfile
 import unittest
@@ -118,6 +119,13 @@ class Boundaries(Findings):
     def test_a_hole_that_is_given_as_a_second_polygon(self) -> None:
         self.finds([mapping("A", square(0, 0, 10_000, 10_000), square(2000, 2000, 4000, 4000))], ("own-overlap", "warning", ("A",)))
         self.finds([mapping("A", square(0, 0, 10_000, 10_000), square(0, 10_000, 4000, 14_000))])
+
+    def test_neighbours_that_cross_between_whole_points_overlap_and_neither_overlaps_itself(self) -> None:
+        # Each keeps every other position of their border, as when districts are simplified one by one.
+        left = ring_of((0, 0), (3375, -908), (9728, 2656), (15_185, -2763), (18_000, 0), (18_000, -30_000), (0, -30_000))
+        right = ring_of((0, 30_000), (18_000, 30_000), (18_000, 0), (12_823, 2341), (6619, -63), (0, 0))
+        found = self.checker.check([mapping("left", left), mapping("right", right)])
+        self.assertEqual({one["kind"] for one in found}, {"no-default", "overlap", "gap"}, [one["text"] for one in found])
 
     def test_an_expired_mapping_leaves_a_gap(self) -> None:
         mappings = grid(3, 3)
@@ -337,8 +345,22 @@ class Command(unittest.TestCase):
         given = "\n".join([*lines, lines[0], "no line", '{"findService":{}}', '{"withdraw":{"source":"map.example","sourceId":"0.1","lastUpdated":"2026-01-02T00:00:00Z"}}'])
         status, findings = self.found([], given)
         self.assertEqual((status, [one["kind"] for one in findings]), (3, ["refused", "refused", "no-default"]))
-        self.assertIn("line 4: refused with code 13, IdentityHeld", findings[0]["text"])
+        self.assertIn("line 4: map.example 0.0: refused with code 13, IdentityHeld", findings[0]["text"])
+        self.assertEqual([one["identities"] for one in findings[:2]], [[{"source": "map.example", "sourceId": "0.0"}], []])
         self.assertIn("line 5: refused with code 1, BadLine", findings[1]["text"])
+
+    def test_why_a_polygon_is_refused(self) -> None:
+        ring = square(400_000_000, -1_050_000_000, 400_010_000, -1_049_990_000)
+        for change, cause in (
+            (lambda ring: [position[::-1] for position in ring], "position 1 has a latitude out of range, -1050000000: are latitude and longitude swapped?"),
+            (lambda ring: [*ring[:1], [400_000_000, 1_800_000_001], *ring[2:]], "position 2 has a longitude out of range, 1800000001"),
+            (lambda ring: [*ring[:2], "40.0 -105.0 0", *ring[3:]], "position 3 is not a latitude and a longitude, in whole units or as a text of degrees"),
+            (lambda ring: ring[:-1], "does not end where it begins"),
+            (lambda ring: ring[:2] + ring[:1], "has 3 positions, where 4 to 4,096 may be"),
+        ):
+            status, findings = self.found([], desk_lines([mapping("A", change(ring))]))
+            self.assertEqual((status, findings[0]["identities"]), (3, [{"source": "map.example", "sourceId": "A"}]))
+            self.assertTrue(findings[0]["text"].endswith(f"code 9, BadRegion: region 1 is not a region: its polygon {cause}"), findings[0]["text"])
 
     def test_long_rings_in_any_spelling(self) -> None:
         ring = ring_of(*[(number * number, -number) for number in range(80)])
@@ -357,7 +379,7 @@ class Command(unittest.TestCase):
         codes = [(number, one) for number, one in ((str(number), code) for number, (_, code) in enumerate(odd, 1)) if number in refused]
         self.assertEqual({str(number) for number, (_, code) in enumerate(odd, 1) if code}, refused)
         for number, code in codes:
-            self.assertTrue(any(f"line {number}: refused with code {code}," in one["text"] for one in findings), (number, code))
+            self.assertTrue(any(re.search(rf"line {number}: (map[.]example A{number}: )?refused with code {code},", one["text"]) for one in findings), (number, code))
 
     def test_accepted_findings(self) -> None:
         mappings = [one for one in grid(3, 3) if one["sourceId"] != "1.1"]
