@@ -144,6 +144,13 @@ class MapOverHttp(unittest.TestCase):
             self.skipTest(said)
         self.assertEqual((status, said), (0, ""))
         self.assertRegex(output, r"0 errors")
+        double = {**json.loads(self.lines[0])["publish"], "sourceId": "double", "key": "double-1"}
+        with unix(self.desk) as desk:
+            self.assertIn("staged", ask(desk, json.dumps({"publish": double}) + "\n"))
+            self.assertIn("committed", ask(desk, COMMIT))
+        status, output, said = run_tool("map-check", ["--server", address, "--lostd", str(lostd())])
+        self.assertEqual((status, said), (3, ""))
+        self.assertRegex(output, r"error: same-area .* findService answers map\.example \S+ and map\.example double\.\n")
         with self.assertRaises(Broken), told_by(Unix(f"{self.folder.name}/queries.sock"), 5):
             pass
 
