@@ -5,7 +5,7 @@ import re
 from typing import Any, Dict, Iterable, List, NamedTuple, Optional
 
 from maptools.desk_rules import (
-    EDITS, Book, Fault, Identity, apply_edit, book_fault, empty_book, identity_of, mapping_fault, withdrawal_fault,
+    EDITS, Fault, Identity, apply_edit, book_fault, empty_book, identity_of, mapping_fault, withdrawal_fault,
 )  # fmt: skip
 from maptools.lines import read_line
 from maptools.outlines import outline_of

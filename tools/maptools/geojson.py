@@ -6,7 +6,7 @@ from decimal import Decimal, InvalidOperation
 from typing import Any, Dict, List
 
 from maptools.desk_rules import GEODETIC, MOST_REGIONS
-from maptools.rings import GREATEST_LATITUDE, MOST_POSITIONS
+from maptools.rings import MOST_POSITIONS
 from maptools.lines import refuse_constant
 from maptools.meridian import TURN, Ring, Unfit, cut, laid_out
 from maptools.units import rounded_units

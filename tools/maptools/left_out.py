@@ -2,6 +2,7 @@
 from __future__ import annotations
 
 import difflib
+import re
 import sys
 from typing import Any, Dict, Iterable, List, Set
 
@@ -11,6 +12,10 @@ from maptools.templates import NoValue
 # After so many rows a terminal is told again how many there are.
 STEP = 1000
 CLEAR = "\r\x1b[K"
+# Of what is left out for like reasons, so many are named.
+MOST_SAID = 20
+# What may differ in like reasons: texts of the input, and numbers.
+DIFFERENT = re.compile(r"'[^']*'|\"[^\"]*\"|[-+]?[0-9][-+0-9.,:TZ]*")
 OWN_NAMES = ("@number", "@district", "@source-id", "@regions")
 
 
@@ -27,6 +32,26 @@ def has_value(properties: Dict[str, Any], name: str) -> bool:
     return properties.get(name) not in (None, "")
 
 
+class Alike:
+    """What is left out for like reasons: the first of it, how many it is, and the last one's place."""
+
+    def __init__(self) -> None:
+        self.first: List[str] = []
+        self.count, self.last = 0, ""
+
+    def add(self, place: str, unfit: Unfit) -> bool:
+        """Counts one more; whether it is one of the first."""
+        self.count, self.last = self.count + 1, place
+        if self.count <= MOST_SAID:
+            self.first.append(f"{place}: {unfit}")
+        return self.count <= MOST_SAID
+
+    def rest(self) -> str:
+        """How many there are beyond the first ones; empty where there are no more."""
+        more = self.count - len(self.first)
+        return f"{more:,} more left out for like reasons, the last of them {self.last}" if more else ""
+
+
 class LeftOut:
     """Counts what is left out, and says why on standard error.
 
@@ -37,7 +62,8 @@ class LeftOut:
     def __init__(self, program: str, noun: str, names: Iterable[str], usual: Iterable[str] = ()) -> None:
         self.program, self.noun, self.usual = program, noun, set(usual)
         self.unseen: Set[str] = set(names) - set(OWN_NAMES)
-        self.waiting: Dict[str, List[str]] = {}
+        self.waiting: Dict[str, Alike] = {}
+        self.alike: Dict[str, Alike] = {}
         self.known: List[str] = []
         self.said: Set[str] = set()
         self.count, self.looked = 0, 0
@@ -61,19 +87,23 @@ class LeftOut:
         self.known = self.known or [name for name in properties if not name.startswith("@")]
         for name in [name for name in self.unseen if has_value(properties, name)]:
             self.unseen.discard(name)
-            for text in self.waiting.pop(name, ()):
-                self.say(text)
+            if name in self.waiting:
+                self.alike[name] = self.waiting.pop(name)
+                for text in self.alike[name].first:
+                    self.say(text)
 
     def add(self, place: str, unfit: Unfit) -> None:
         """Counts what is left out at a place, and says why."""
         self.count += 1
-        text = f"{place}: {unfit}"
         if isinstance(unfit, Mistake):
             self.say_once(unfit.option, unfit.cause)
         elif isinstance(unfit, NoValue) and unfit.name in self.unseen:
-            self.waiting.setdefault(unfit.name, []).append(text)
+            self.waiting.setdefault(unfit.name, Alike()).add(place, unfit)
         else:
-            self.say(text)
+            reason = unfit.name if isinstance(unfit, NoValue) else DIFFERENT.sub("", str(unfit))
+            alike = self.alike.setdefault(reason, Alike())
+            if alike.add(place, unfit):
+                self.say(alike.first[-1])
 
     def say_once(self, option: str, text: str) -> None:
         """Says a mistake of an option, unless it was said."""
@@ -89,7 +119,9 @@ class LeftOut:
         return f": did you mean {near[0]!r}?" if near else f": there are {', '.join(map(repr, self.known[:10]))}"
 
     def finish(self) -> None:
-        """Says which properties nothing had."""
+        """Says how much more was left out than was named, and which properties nothing had."""
+        for rest in filter(None, (alike.rest() for alike in self.alike.values())):
+            self.say(rest)
         for name in sorted(self.unseen) if self.looked else []:
             text = f"no {self.noun} has a value of the property {name!r}{self.hint(name)}"
             if name in self.waiting:

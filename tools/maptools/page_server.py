@@ -1,7 +1,6 @@
 """Serves the page of map-page: it asks a running lostd at each click, and looks whether the file of the map changes."""
 from __future__ import annotations
 
-import json
 import os
 import socket
 import threading

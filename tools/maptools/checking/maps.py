@@ -5,7 +5,6 @@ import os
 import re
 import subprocess
 import sys
-import tempfile
 from typing import Any, BinaryIO, Dict, Iterable, List, NamedTuple, Optional, Tuple
 
 from maptools.checking.fast_lines import rings_of, shortened

@@ -1,0 +1,54 @@
+"""Mistakes on the command lines of the tools: one line each, with the nearest option and the command's own --help."""
+from __future__ import annotations
+
+import unittest
+
+from tests.running import run_tool
+
+# A command, words with a mistake, the word that is not expected, and the option that is meant.
+UNEXPECTED = [
+    ("geojson-to-desk", ["--servce", "urn:service:sos.police"], "--servce", "--service"),
+    ("geojson-to-desk", ["--commmit=x"], "--commmit", "--commit"),
+    ("addresses-to-desk", ["addresses.csv", "--distrct", "{esn}"], "--distrct", "--district"),
+    ("desk-to-geojson", ["--sever", "unix:desk.sock"], "--sever", "--server"),
+    ("desk-to-svg", ["--bbx", "0,0,1,1"], "--bbx", "--bbox"),
+    ("map-check", ["--outlne", "county.geojson"], "--outlne", "--outline"),
+    ("map-page", ["--findngs", "found.json"], "--findngs", "--findings"),
+    ("lost-client find", ["--sevice", "urn:service:sos"], "--sevice", "--service"),
+    ("lost-client desk", ["--dryrun", "map.jsonl"], "--dryrun", "--dry-run"),
+    ("lost-gateway", ["--lisen", "127.0.0.1:8080"], "--lisen", "--listen"),
+    ("map-page", ["--nothing-like-it"], "--nothing-like-it", ""),
+    ("desk-to-geojson", ["a.jsonl", "b.jsonl"], "b.jsonl", ""),
+]
+# A command, words with another mistake, and what is said of it.
+OTHERS = [
+    ("lost-client find", ["--serv", "x"], "ambiguous option: --serv could match --service, --server"),
+    ("map-check", ["--outline"], "argument --outline: expected one argument"),
+    ("addresses-to-desk", [], "the following arguments are required: --district"),
+]
+
+
+class Mistakes(unittest.TestCase):
+    """What is said of a mistake."""
+
+    def says(self, command: str, words: list, text: str) -> None:
+        """Fails unless a mistake is said in just this line."""
+        tool, *below = command.split()
+        self.assertEqual(run_tool(tool, [*below, *words]), (2, "", f"{command}: {text}; see `{command} --help`\n"))
+
+    def test_an_unknown_option_names_the_nearest_one(self) -> None:
+        for command, words, word, meant in UNEXPECTED:
+            with self.subTest(command=command, words=words):
+                self.says(command, words, f"unexpected argument {word!r} found" + (f" (did you mean {meant!r}?)" if meant else ""))
+
+    def test_other_mistakes_take_one_line(self) -> None:
+        for command, words, text in OTHERS:
+            with self.subTest(command=command, words=words):
+                self.says(command, words, text)
+
+    def test_the_beginning_of_an_option_and_values_that_look_like_options_are_taken(self) -> None:
+        lines = '{"commit":{}}\n'
+        status, picture, said = run_tool("desk-to-svg", ["--tit", "--no option"], lines)
+        self.assertEqual((status, said, "--no option" in picture), (0, "", True))
+        self.assertEqual(run_tool("desk-to-svg", ["--title=--none"], lines)[::2], (0, ""))
+        self.assertEqual(run_tool("desk-to-geojson", ["--line"], lines)[::2], (0, ""))
