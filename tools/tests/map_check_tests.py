@@ -61,6 +61,14 @@ class Boundaries(Findings):
         self.assertEqual(gap["geometry"]["type"], "Polygon")
         self.answers(gap, "notFound")
 
+    def test_a_gap_with_many_edges_is_beside_those_that_share_one_and_not_those_at_its_corners(self) -> None:
+        mappings = [one for one in grid(3, 3) if one["sourceId"] != "1.1"]
+        for one in mappings:
+            corners = one["serviceBoundary"][0]["polygon"]
+            steps = [(a, b, step) for a, b in zip(corners, corners[1:]) for step in range(50)]
+            one["serviceBoundary"][0]["polygon"] = [[a[axis] + (b[axis] - a[axis]) * step // 50 for axis in (0, 1)] for a, b, step in steps] + corners[:1]
+        self.finds(mappings, ("gap", "error", ("0.1", "1.0", "1.2", "2.1")))
+
     def test_a_gap_that_a_default_or_a_service_above_fills_is_a_warning(self) -> None:
         mappings = [one for one in grid(3, 3) if one["sourceId"] != "1.1"]
         above = mapping("state", square(0, 0, 30_000, 30_000), service="urn:service:sos")

@@ -98,12 +98,12 @@ class Boundaries:
 
     def open(self, parts: List[Any]) -> Iterator[Finding]:
         """Gaps; narrow ones between the same mappings as one."""
-        groups: Dict[Any, List[Spot]] = {}
+        groups: Dict[Tuple[Any, ...], List[Spot]] = {}
         for number, spot in enumerate(self.measured(parts, lambda holders: not holders)):
             beside = owners_beside(self.layer, spot.polygon)
-            groups.setdefault((beside, spot.form) if spot.form else number, []).append(spot)
-        for spots in groups.values():
-            yield self.finding(OPEN, owners_beside(self.layer, spots[0].polygon), spots)
+            groups.setdefault((beside, spot.form or number), []).append(spot)
+        for (beside, _), spots in groups.items():
+            yield self.finding(OPEN, beside, spots)
 
     def shared(self, owners: Owners, parts: List[Any]) -> Iterator[Finding]:
         """Overlaps of the same mappings; narrow ones as one."""
