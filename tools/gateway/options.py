@@ -89,8 +89,8 @@ def parser(description: str) -> CommandLine:
     add("--listen", type=checked(listen_of), metavar="HOST:PORT", help="the address for clients, over HTTP")
     servers = {"type": checked(servers_of), "metavar": "HOST:PORT[,HOST:PORT..]"}
     add("--lostd", help="the --queries addresses of the servers behind, the preferred one first", **servers)
-    add("--check", metavar="FILE", help="do not listen: say of each request in FILE (- is standard input; documents one behind the "
-        "other) what it is sent as, and with --lostd what comes back and what the client is told")
+    add("--check", metavar="FILE", help="do not listen: say of each request in FILE (- is standard input; documents one after "
+        "another) what it is sent as, and with --lostd what comes back and what the client is told")
     pool = {"type": number_between(1, 64, int), "default": 2, "metavar": "N"}
     add("--pool", help="connections from each process to each server (2); a server with --connections needs as many --workers as all of them", **pool)
     processes = {"type": number_between(1, 256, int), "default": 1, "metavar": "N"}
