@@ -1,9 +1,10 @@
 """Mistakes on the command lines of the tools: one line each, with the nearest option and the command's own --help."""
 from __future__ import annotations
 
+import subprocess
 import unittest
 
-from tests.running import run_tool
+from tests.running import TOP, run_tool
 
 # A command, words with a mistake, the word that is not expected, and the option that is meant.
 UNEXPECTED = [
@@ -20,6 +21,8 @@ UNEXPECTED = [
     ("map-page", ["--nothing-like-it"], "--nothing-like-it", ""),
     ("desk-to-geojson", ["a.jsonl", "b.jsonl"], "b.jsonl", ""),
 ]
+# The same of what builds, packs, installs and tests.
+OWN = [("./build", "--portabel", "--portable"), ("./install", "--unts", "--units"), ("tools/test", "--lostdd", "--lostd")]
 # A command, words with another mistake, and what is said of it.
 OTHERS = [
     ("lost-client find", ["--serv", "x"], "ambiguous option: --serv could match --service, --server"),
@@ -40,6 +43,13 @@ class Mistakes(unittest.TestCase):
         for command, words, word, meant in UNEXPECTED:
             with self.subTest(command=command, words=words):
                 self.says(command, words, f"unexpected argument {word!r} found" + (f" (did you mean {meant!r}?)" if meant else ""))
+
+    def test_so_do_the_commands_of_the_repository(self) -> None:
+        for command, word, meant in OWN:
+            with self.subTest(command=command):
+                ran = subprocess.run([command, word], cwd=TOP, capture_output=True, text=True, timeout=60)
+                wanted = f"{command}: unexpected argument {word!r} found (did you mean {meant!r}?); see `{command} --help`\n"
+                self.assertEqual((ran.returncode, ran.stdout, ran.stderr), (2, "", wanted))
 
     def test_other_mistakes_take_one_line(self) -> None:
         for command, words, text in OTHERS:
