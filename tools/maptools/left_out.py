@@ -2,20 +2,16 @@
 from __future__ import annotations
 
 import difflib
-import re
 import sys
 from typing import Any, Dict, Iterable, List, Set
 
+from maptools.alike import Alike, Complaints
 from maptools.meridian import Unfit
 from maptools.templates import NoValue
 
 # After so many rows a terminal is told again how many there are.
 STEP = 1000
 CLEAR = "\r\x1b[K"
-# Of what is left out for like reasons, so many are named.
-MOST_SAID = 20
-# What may differ in like reasons: texts of the input, and numbers.
-DIFFERENT = re.compile(r"'[^']*'|\"[^\"]*\"|[-+]?[0-9][-+0-9.,:TZ]*")
 OWN_NAMES = ("@number", "@district", "@source-id", "@regions")
 
 
@@ -32,26 +28,6 @@ def has_value(properties: Dict[str, Any], name: str) -> bool:
     return properties.get(name) not in (None, "")
 
 
-class Alike:
-    """What is left out for like reasons: the first of it, how many it is, and the last one's place."""
-
-    def __init__(self) -> None:
-        self.first: List[str] = []
-        self.count, self.last = 0, ""
-
-    def add(self, place: str, unfit: Unfit) -> bool:
-        """Counts one more; whether it is one of the first."""
-        self.count, self.last = self.count + 1, place
-        if self.count <= MOST_SAID:
-            self.first.append(f"{place}: {unfit}")
-        return self.count <= MOST_SAID
-
-    def rest(self) -> str:
-        """How many there are beyond the first ones; empty where there are no more."""
-        more = self.count - len(self.first)
-        return f"{more:,} more left out for like reasons, the last of them {self.last}" if more else ""
-
-
 class LeftOut:
     """Counts what is left out, and says why on standard error.
 
@@ -63,7 +39,7 @@ class LeftOut:
         self.program, self.noun, self.usual = program, noun, set(usual)
         self.unseen: Set[str] = set(names) - set(OWN_NAMES)
         self.waiting: Dict[str, Alike] = {}
-        self.alike: Dict[str, Alike] = {}
+        self.complaints = Complaints(self.say, "left out for like reasons")
         self.known: List[str] = []
         self.said: Set[str] = set()
         self.count, self.looked = 0, 0
@@ -88,8 +64,8 @@ class LeftOut:
         for name in [name for name in self.unseen if has_value(properties, name)]:
             self.unseen.discard(name)
             if name in self.waiting:
-                self.alike[name] = self.waiting.pop(name)
-                for text in self.alike[name].first:
+                alike = self.complaints.alike[name] = self.waiting.pop(name)
+                for text in alike.first:
                     self.say(text)
 
     def add(self, place: str, unfit: Unfit) -> None:
@@ -98,12 +74,9 @@ class LeftOut:
         if isinstance(unfit, Mistake):
             self.say_once(unfit.option, unfit.cause)
         elif isinstance(unfit, NoValue) and unfit.name in self.unseen:
-            self.waiting.setdefault(unfit.name, Alike()).add(place, unfit)
+            self.waiting.setdefault(unfit.name, Alike()).add(place, str(unfit))
         else:
-            reason = unfit.name if isinstance(unfit, NoValue) else DIFFERENT.sub("", str(unfit))
-            alike = self.alike.setdefault(reason, Alike())
-            if alike.add(place, unfit):
-                self.say(alike.first[-1])
+            self.complaints.add(place, str(unfit), unfit.name if isinstance(unfit, NoValue) else "")
 
     def say_once(self, option: str, text: str) -> None:
         """Says a mistake of an option, unless it was said."""
@@ -120,8 +93,7 @@ class LeftOut:
 
     def finish(self) -> None:
         """Says how much more was left out than was named, and which properties nothing had."""
-        for rest in filter(None, (alike.rest() for alike in self.alike.values())):
-            self.say(rest)
+        self.complaints.finish()
         for name in sorted(self.unseen) if self.looked else []:
             text = f"no {self.noun} has a value of the property {name!r}{self.hint(name)}"
             if name in self.waiting:

@@ -1,6 +1,7 @@
 """Mistakes on the command lines of the tools: one line each, with the nearest option and the command's own --help."""
 from __future__ import annotations
 
+import json
 import subprocess
 import unittest
 
@@ -29,6 +30,25 @@ OTHERS = [
     ("map-check", ["--outline"], "argument --outline: expected one argument"),
     ("addresses-to-desk", [], "the following arguments are required: --district"),
 ]
+
+
+class Complaints(unittest.TestCase):
+    """Many lines that are no desk lines, as when GeoJSON is given for them."""
+
+    def test_of_many_like_faults_20_are_said(self) -> None:
+        for tool, cause in (("desk-to-svg", "standard input, line {}: not a line that the server knows"), ("desk-to-geojson", "line {}: not a desk line")):
+            status, _, said = run_tool(tool, ["-"], "nonsense\n" * 300 + '{"commit":[]}\n')
+            place = cause.format(300).partition(": ")[0]
+            wanted = [f"{tool}: {cause.format(number)}" for number in range(1, 21)]
+            wanted += [f"{tool}: {cause.format(301).partition(': ')[0]}: refused with code 1, BadLine: the value is not an object"] if tool == "desk-to-svg" else []
+            self.assertEqual((status, said.splitlines()), (3, [*wanted, f"{tool}: 280 more lines with like faults, the last of them {place}"]))
+
+    def test_geojson_is_told_from_a_faulty_line(self) -> None:
+        geojson = json.dumps({"type": "FeatureCollection", "features": []})
+        for tool in ("desk-to-svg", "desk-to-geojson"):
+            status, _, said = run_tool(tool, ["-"], geojson)
+            self.assertEqual(status, 3)
+            self.assertTrue(said.endswith(": if this is GeoJSON, geojson-to-desk makes desk lines of it\n"), said)
 
 
 class Mistakes(unittest.TestCase):
