@@ -5,7 +5,7 @@ from typing import NamedTuple
 HEAD = """\
 # Benchmarks
 
-This page is for whoever plans a server. `checks/benchmarks/run` writes it from what the named commands print. No promise speaks of speed.
+This page is for anyone who plans a server. `checks/benchmarks/run` writes it from what the named commands print. No promise speaks of speed.
 
 {run}
 

@@ -187,6 +187,15 @@ def no_area(cut, row, column):
     cut.want("no-area", name)
 
 
+def simplified(cut, row, column):
+    """A border of which each of two neighbours keeps every other position: it opens and overlaps, where both or one of them are."""
+    one, other = pair(cut, row, column)
+    between = cut.border(row, column)[1:-1]
+    for name, left_out in ((one, between[::2]), (other, between[1::2])):
+        cut.set_ring(name, [position for position in cut.open_ring(name) if position not in left_out])
+    cut.allow(BETWEEN, [one, other])
+
+
 def spike(cut, row, column):
     """A ring that runs out and back."""
     name = cut.name(row, column)
@@ -332,7 +341,7 @@ def exact_position(cut, row, column):
 
 
 FAULTS = [
-    gap, overlap, sliver, crack, missing, swapped, double, drawn_twice, crossed, no_area, spike, repeated, own_overlap, service, scheme,
-    tokens, same_token, source_ids, keys, display_name, future, expired, expiring, double_pattern, unreachable_pattern, address,
+    gap, overlap, sliver, crack, simplified, missing, swapped, double, drawn_twice, crossed, no_area, spike, repeated, own_overlap, service,
+    scheme, tokens, same_token, source_ids, keys, display_name, future, expired, expiring, double_pattern, unreachable_pattern, address,
     exact_position,
 ]

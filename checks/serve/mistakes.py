@@ -8,20 +8,13 @@ from server import NAME, PATIENCE, free_ports
 NOBODY = 65534
 FREE = "127.0.0.1:0"
 OPTIONS = {"--name": NAME, "--queries": FREE, "--desk": FREE, "--workers": "1", "--connections": "1"}
-# The option, its value, and the status.
+# The option, its value, and the status. (tools/cases/command.rows has more, each with the whole line that is said.)
 VALUES = [
-    ("--queries", "127.0.0.1", 1), ("--queries", "", 1), ("--queries", "127.0.0.1:", 1), ("--desk", ":lost", 1),
-    ("--desk", "127.0.0.1:65536", 1), ("--desk", "127.0.0.1:-1", 1), ("--queries", "no-such-host.invalid:5222", 1),
-    ("--queries", "192.0.2.1:0", 1), ("--desk", "192.0.2.1:0", 1),
-    ("--workers", "0", 2), ("--workers", "65", 2), ("--workers", "four", 2), ("--workers", "", 2),
-    ("--connections", "0", 2), ("--connections", "1000001", 2), ("--connections", "99999999999999999999", 2),
-    ("--idle", "86401", 2), ("--idle", "1.5", 2), ("--desk-idle", "86401", 2), ("--desk-idle", "1.5", 2),
-    ("--map", "/no/such/file", 1), ("--map", "/", 1),
-    ("--status", "127.0.0.1", 1), ("--status", "192.0.2.1:0", 1),
-    ("--desk", "unix:/no/such/folder/socket", 1), ("--desk", "unix:/", 1), ("--queries", "unix:/" + "x" * 200, 1),
-    ("--desk", "unix:/dev/null", 1), ("--socket-mode", "8", 2), ("--socket-mode", "1000", 2),
-    ("--name", "a..b", 2), ("--name", "", 2),
-    ("--queries", None, 2), ("--desk", None, 2), ("--workers", None, 2), ("--name", None, 2),
+    ("--queries", "", 1), ("--queries", "127.0.0.1:", 1), ("--desk", ":lost", 1), ("--desk", "127.0.0.1:65536", 1),
+    ("--desk", "127.0.0.1:-1", 1), ("--queries", "no-such-host.invalid:5222", 1), ("--desk", "192.0.2.1:0", 1),
+    ("--workers", "", 2), ("--connections", "99999999999999999999", 2), ("--idle", "1.5", 2), ("--desk-idle", "1.5", 2),
+    ("--status", "192.0.2.1:0", 1), ("--desk", "unix:/", 1), ("--queries", "unix:/" + "x" * 200, 1), ("--desk", "unix:/dev/null", 1),
+    ("--socket-mode", "8", 2), ("--name", "", 2), ("--queries", None, 2), ("--workers", None, 2), ("--name", None, 2),
     ("--now", "2026-01-01T00:00:00Z", 2),
 ]
 

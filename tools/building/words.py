@@ -2,18 +2,16 @@
 from __future__ import annotations
 
 import argparse
-from typing import NoReturn, Optional
+from typing import Optional
+
+from maptools.command_line import CommandLine
 
 
-class Words(argparse.ArgumentParser):
-    """A parser that says what is wrong in one line."""
+class Words(CommandLine):
+    """The command line of what builds, packs and installs."""
 
     def __init__(self, command: str, help_text: Optional[str]) -> None:
-        super().__init__(prog=command, description=help_text, formatter_class=argparse.RawDescriptionHelpFormatter)
-
-    def error(self, message: str) -> NoReturn:
-        """Ends with status 2."""
-        self.exit(2, f"{self.prog}: {message}; see {self.prog} --help\n")
+        super().__init__(prog=command, description=help_text)
 
     def add_jobs(self) -> None:
         """Takes --jobs N."""

@@ -7,6 +7,7 @@ from typing import Any, Callable, List
 from gateway import nena
 from gateway.services import Alias, alias_of
 from maptools.addresses import Tcp, tcp_of
+from maptools.command_line import CommandLine
 from maptools.installed import add_version
 
 PACKAGES = "apt-get install python3-lxml python3-aiohttp python3-prometheus-client"
@@ -81,16 +82,15 @@ def read_words(words: argparse.ArgumentParser) -> argparse.Namespace:
     return options
 
 
-def parser(description: str) -> argparse.ArgumentParser:
+def parser(description: str) -> CommandLine:
     """The command line."""
-    raw = argparse.RawDescriptionHelpFormatter
-    words = argparse.ArgumentParser(prog="lost-gateway", description=description, epilog=EXAMPLE, formatter_class=raw)
+    words = CommandLine(prog="lost-gateway", description=description, epilog=EXAMPLE)
     add = words.add_argument
     add("--listen", type=checked(listen_of), metavar="HOST:PORT", help="the address for clients, over HTTP")
     servers = {"type": checked(servers_of), "metavar": "HOST:PORT[,HOST:PORT..]"}
     add("--lostd", help="the --queries addresses of the servers behind, the preferred one first", **servers)
-    add("--check", metavar="FILE", help="do not listen: say of each request in FILE (- is standard input; documents one behind the "
-        "other) what it is sent as, and with --lostd what comes back and what the client is told")
+    add("--check", metavar="FILE", help="do not listen: say of each request in FILE (- is standard input; documents one after "
+        "another) what it is sent as, and with --lostd what comes back and what the client is told")
     pool = {"type": number_between(1, 64, int), "default": 2, "metavar": "N"}
     add("--pool", help="connections from each process to each server (2); a server with --connections needs as many --workers as all of them", **pool)
     processes = {"type": number_between(1, 256, int), "default": 1, "metavar": "N"}

@@ -5,6 +5,7 @@ import argparse
 from typing import Any, List, Tuple
 
 from maptools.addresses import server_of
+from maptools.command_line import CommandLine
 from maptools.feed import USUAL
 from maptools.installed import add_version
 from maptools.units import joined
@@ -152,9 +153,9 @@ def add_desk(commands: Any) -> None:
     add_common(desk, is_desk=True)
 
 
-def parser(description: str) -> argparse.ArgumentParser:
+def parser(description: str) -> CommandLine:
     """The command line."""
-    words = argparse.ArgumentParser(prog="lost-client", description=description, epilog=EXAMPLES, formatter_class=RAW)
+    words = CommandLine(prog="lost-client", description=description, epilog=EXAMPLES)
     commands = words.add_subparsers(dest="command", required=True, metavar="COMMAND")
     add_requests(commands)
     add_desk(commands)

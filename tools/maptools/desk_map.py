@@ -4,8 +4,9 @@ from __future__ import annotations
 import re
 from typing import Any, Dict, Iterable, List, NamedTuple, Optional
 
+from maptools.desk_reading import geojson_hint
 from maptools.desk_rules import (
-    EDITS, Book, Fault, Identity, apply_edit, book_fault, empty_book, identity_of, mapping_fault, withdrawal_fault,
+    EDITS, Fault, Identity, apply_edit, book_fault, empty_book, identity_of, mapping_fault, withdrawal_fault,
 )  # fmt: skip
 from maptools.lines import read_line
 from maptools.outlines import outline_of
@@ -69,7 +70,7 @@ def parsed_line(line: bytes) -> Parsed:
     """What a line says."""
     member = read_line(line)
     if member is None or member[0] not in (*EDITS, COMMIT):
-        return Parsed("", None, Fault(1, "this is not a desk line"))
+        return Parsed("", None, Fault(1, f"this is not a desk line{geojson_hint(line)}"))
     kind, value = member
     if kind == COMMIT:
         return Parsed(kind, value, None if isinstance(value, dict) else Fault(1, "the value is not an object"))

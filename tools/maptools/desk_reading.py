@@ -34,6 +34,11 @@ def lines_of(paths: List[str]) -> Iterator[Tuple[str, bytes]]:
                 yield f"{'standard input' if path == '-' else path}, line {number}", line.rstrip(b"\n")
 
 
+def geojson_hint(line: bytes) -> str:
+    """What to do with a line that is of GeoJSON, as it seems; empty for any other line."""
+    return ": if this is GeoJSON, geojson-to-desk makes desk lines of it" if b'"Feature' in line[:4096] else ""
+
+
 def take_edit(reading: Reading, kind: str, value: Any) -> Optional[str]:
     """Stages an edit; what is wrong with it, if anything is."""
     fault = edit_fault(reading.staged, kind, value)
@@ -48,7 +53,7 @@ def take_line(reading: Reading, line: bytes, take_request: TakeRequest) -> Optio
     """Does what a line says; what is wrong with it, if anything is."""
     member = read_flat(line)
     if member is None or member[0] not in (*EDITS, "commit", *REQUESTS):
-        return "not a line that the server knows"
+        return f"not a line that the server knows{geojson_hint(line)}"
     name, value = member
     if name in EDITS:
         return take_edit(reading, name, value)

@@ -1,15 +1,12 @@
 """What the desk's connection refuses: a second way to read the tables of docs/PROTOCOL.md, "The desk's lines"."""
 from __future__ import annotations
 
-from array import array
 from typing import Any, Dict, List, NamedTuple, Optional, Tuple
 
-from maptools.texts import (
-    Point, is_expires, is_id, is_number, is_source, lowered, moment_of, scheme_of, service_of, size, spelled_point,
-)  # fmt: skip
+from maptools.rings import in_pairs, is_ring, ring_cause
+from maptools.texts import is_expires, is_id, is_number, is_source, lowered, moment_of, scheme_of, service_of, size
 
-GREATEST_LATITUDE, GREATEST_LONGITUDE = 900_000_000, 1_800_000_000
-MOST_POSITIONS, MOST_TOKENS, MOST_NAMES, MOST_MAPPINGS, MOST_TRACES = 4096, 64, 16, 65_536, 65_536
+MOST_TOKENS, MOST_NAMES, MOST_MAPPINGS, MOST_TRACES = 64, 16, 65_536, 65_536
 GEODETIC, CIVIC, TOKEN = "geodetic-2d", "civic", "x-token"
 # The profiles, each with the member of its regions, and how many of these a mapping has at most.
 MEMBERS = {GEODETIC: "polygon", CIVIC: "pattern", TOKEN: "tokens"}
@@ -101,47 +98,6 @@ def uri_fault(uris: List[str]) -> Optional[Fault]:
     return Fault(7, f"two URIs have the scheme {twice[0]}") if twice else None
 
 
-def is_pair(value: Any) -> bool:
-    """Two whole numbers in range, latitude first."""
-    return (
-        isinstance(value, list)
-        and len(value) == 2
-        and type(value[0]) is type(value[1]) is int
-        and -GREATEST_LATITUDE <= value[0] <= GREATEST_LATITUDE
-        and -GREATEST_LONGITUDE <= value[1] <= GREATEST_LONGITUDE
-    )
-
-
-def position_of(value: Any) -> Optional[Point]:
-    """A position as a latitude and a longitude: such a pair, or a text of degrees. None where it is neither, or out of range."""
-    pair = list(spelled_point(value) or ()) if isinstance(value, str) else value
-    return (pair[0], pair[1]) if is_pair(pair) else None
-
-
-def in_pairs(ring: Any) -> Any:
-    """A ring with each position as a pair, as the server prints it; an outline, or a flat ring, stays as it is."""
-    has_texts = isinstance(ring, list) and str in map(type, ring)
-    return [list(position_of(position) or ()) for position in ring] if has_texts else ring
-
-
-def is_flat_ring(ring: Any) -> bool:
-    """The same as is_ring of an array of latitude, longitude, latitude and so on."""
-    if not 4 <= len(ring) / 2 <= MOST_POSITIONS or len(ring) % 2 or ring[:2] != ring[-2:]:
-        return False
-    most = max(max(ring), -min(ring))
-    is_far = most > GREATEST_LATITUDE and max(max(ring[0::2]), -min(ring[0::2])) > GREATEST_LATITUDE
-    return most <= GREATEST_LONGITUDE and not is_far
-
-
-def is_ring(value: Any) -> bool:
-    """4 to 4,096 positions, the last equal to the first; they may be flat, as maptools.flat_rings reads them."""
-    if isinstance(value, array):
-        return is_flat_ring(value)
-    is_long = isinstance(value, list) and 4 <= len(value) <= MOST_POSITIONS
-    ring = in_pairs(value) if is_long else []
-    return is_long and all(map(is_pair, ring)) and ring[0] == ring[-1]
-
-
 def is_pattern(value: Any) -> bool:
     """1 to 128 elements with texts of at most 512 bytes."""
     return (
@@ -163,6 +119,12 @@ def is_region(value: Any) -> bool:
         return False
     is_right = {GEODETIC: is_ring, CIVIC: is_pattern, TOKEN: is_token_set}
     return is_right[profile](value.get(MEMBERS[profile]))
+
+
+def region_cause(region: Any) -> str:
+    """Why an item that is not a region is none, as far as it is a polygon."""
+    cause = ring_cause(region.get(MEMBERS[GEODETIC])) if isinstance(region, dict) and region.get("profile") == GEODETIC else ""
+    return f": its polygon {cause}" if cause else ""
 
 
 def regions_of(value: Dict[str, Any]) -> List[Dict[str, Any]]:
@@ -189,7 +151,7 @@ def boundary_fault(value: Dict[str, Any]) -> Optional[Fault]:
         return Fault(8, f"{number!r} is not a service number")
     for place, region in enumerate(regions, 1):
         if not is_region(region):
-            return Fault(9, f"region {place} is not a region")
+            return Fault(9, f"region {place} is not a region{region_cause(region)}")
     if is_default == bool(regions):
         return Fault(10, "a default has a region" if is_default else "there is no region")
     if are_too_many(value):

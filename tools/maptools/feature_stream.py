@@ -8,7 +8,7 @@ import itertools
 import json
 from typing import Any, BinaryIO, Iterator, List
 
-from maptools.geojson import NoGeojson, decimal_of, features_in, features_of
+from maptools.geojson import decimal_of, features_in, features_of
 from maptools.lines import refuse_constant
 
 SEPARATOR = b"\x1e"

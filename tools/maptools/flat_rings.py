@@ -10,7 +10,8 @@ from array import array
 from itertools import chain
 from typing import Any, List, Optional, Tuple
 
-from maptools.desk_rules import GEODETIC, MEMBERS, in_pairs, is_ring
+from maptools.desk_rules import GEODETIC, MEMBERS
+from maptools.rings import in_pairs, is_ring
 from maptools.lines import LONGEST_LINE, read_line
 
 NUMBER = rb"(?:0|-?[1-9][0-9]{0,9})"

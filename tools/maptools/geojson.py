@@ -5,7 +5,8 @@ import json
 from decimal import Decimal, InvalidOperation
 from typing import Any, Dict, List
 
-from maptools.desk_rules import GEODETIC, GREATEST_LATITUDE, MOST_POSITIONS, MOST_REGIONS
+from maptools.desk_rules import GEODETIC, MOST_REGIONS
+from maptools.rings import MOST_POSITIONS
 from maptools.lines import refuse_constant
 from maptools.meridian import TURN, Ring, Unfit, cut, laid_out
 from maptools.units import rounded_units

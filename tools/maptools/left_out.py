@@ -5,6 +5,7 @@ import difflib
 import sys
 from typing import Any, Dict, Iterable, List, Set
 
+from maptools.alike import Alike, Complaints
 from maptools.meridian import Unfit
 from maptools.templates import NoValue
 
@@ -37,7 +38,8 @@ class LeftOut:
     def __init__(self, program: str, noun: str, names: Iterable[str], usual: Iterable[str] = ()) -> None:
         self.program, self.noun, self.usual = program, noun, set(usual)
         self.unseen: Set[str] = set(names) - set(OWN_NAMES)
-        self.waiting: Dict[str, List[str]] = {}
+        self.waiting: Dict[str, Alike] = {}
+        self.complaints = Complaints(self.say, "left out for like reasons")
         self.known: List[str] = []
         self.said: Set[str] = set()
         self.count, self.looked = 0, 0
@@ -61,19 +63,20 @@ class LeftOut:
         self.known = self.known or [name for name in properties if not name.startswith("@")]
         for name in [name for name in self.unseen if has_value(properties, name)]:
             self.unseen.discard(name)
-            for text in self.waiting.pop(name, ()):
-                self.say(text)
+            if name in self.waiting:
+                alike = self.complaints.alike[name] = self.waiting.pop(name)
+                for text in alike.first:
+                    self.say(text)
 
     def add(self, place: str, unfit: Unfit) -> None:
         """Counts what is left out at a place, and says why."""
         self.count += 1
-        text = f"{place}: {unfit}"
         if isinstance(unfit, Mistake):
             self.say_once(unfit.option, unfit.cause)
         elif isinstance(unfit, NoValue) and unfit.name in self.unseen:
-            self.waiting.setdefault(unfit.name, []).append(text)
+            self.waiting.setdefault(unfit.name, Alike()).add(place, str(unfit))
         else:
-            self.say(text)
+            self.complaints.add(place, str(unfit), unfit.name if isinstance(unfit, NoValue) else "")
 
     def say_once(self, option: str, text: str) -> None:
         """Says a mistake of an option, unless it was said."""
@@ -89,7 +92,8 @@ class LeftOut:
         return f": did you mean {near[0]!r}?" if near else f": there are {', '.join(map(repr, self.known[:10]))}"
 
     def finish(self) -> None:
-        """Says which properties nothing had."""
+        """Says how much more was left out than was named, and which properties nothing had."""
+        self.complaints.finish()
         for name in sorted(self.unseen) if self.looked else []:
             text = f"no {self.noun} has a value of the property {name!r}{self.hint(name)}"
             if name in self.waiting:

@@ -6,7 +6,7 @@ import hashlib
 import html
 import os
 import re
-from typing import Dict, List
+from typing import Dict
 
 LEAFLET = "/usr/share/javascript/leaflet"
 PARTS = os.path.join(os.path.dirname(os.path.realpath(__file__)), "page")

@@ -29,7 +29,7 @@ def read_findings(text: str) -> List[Dict[str, Any]]:
     try:
         found = json.loads(text)["findings"]
         names = ("severity", "text", "point", "identities", "service", "answer")
-        return [{name: finding[name] for name in names} for finding in found]
+        return [{**{name: finding[name] for name in names}, "asked": finding.get("asked")} for finding in found]
     except (ValueError, KeyError, TypeError):
         raise Unchecked("this is not what map-check --json prints") from None
 

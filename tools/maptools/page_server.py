@@ -1,26 +1,42 @@
 """Serves the page of map-page: it asks a running lostd at each click, and looks whether the file of the map changes."""
 from __future__ import annotations
 
-import json
 import os
 import socket
 import threading
 from http.server import BaseHTTPRequestHandler, ThreadingHTTPServer
-from typing import Any, Callable, Dict, Optional, Tuple
+from typing import Any, Callable, Dict, NamedTuple, Optional, Tuple
 from urllib.parse import parse_qs, urlsplit
 
 from maptools.addresses import Server, Tcp
 from maptools.connection import Broken, ask
-from maptools.desk_rules import is_pair
 from maptools.lines import line_of
 from maptools.replies import reply_of
+from maptools.rings import is_pair
 from maptools.server_map import file_of
+from maptools.status_page import status_body, status_object
 
 SECONDS = 10
 HTML, JSON, BYTES, TEXT = "text/html", "application/json", "application/octet-stream", "text/plain"
 
 # The page, and the packed map, of a file in a version.
 Made = Tuple[bytes, bytes]
+
+
+class Lostd(NamedTuple):
+    """A running server: where it is asked, and where it tells its status, if that is known."""
+
+    queries: Server
+    status: Optional[Server]
+
+    def edition(self) -> Optional[int]:
+        """The edition that it answers from."""
+        _, reply = reply_of(ask(self.queries, b'{"listServices":{}}', SECONDS))
+        return reply.get("edition")
+
+    def digest(self) -> Optional[str]:
+        """The digest of the map that it answers from; None where it is not told."""
+        return status_object(self.status, status_body(self.status, SECONDS)).get("map") if self.status else None
 
 
 class MapSource:
@@ -68,12 +84,12 @@ class MapFile(MapSource):
 class MapOfServer(MapSource):
     """The map that a server holds: read at its desk's address when the edition that it answers from has changed."""
 
-    def __init__(self, desk: Server, queries: Server, make: Callable[[str, str], Made]) -> None:
-        self.desk, self.queries = desk, queries
+    def __init__(self, desk: Server, lostd: Lostd, make: Callable[[str, str], Made]) -> None:
+        self.desk, self.lostd = desk, lostd
         super().__init__(make)
 
     def stamp(self) -> str:
-        return f"edition-{edition_of(self.queries)}"
+        return f"edition-{self.lostd.edition()}-{self.lostd.digest() or ''}"
 
     def made_now(self, stamp: str) -> Made:
         with file_of(self.desk, SECONDS) as path:
@@ -89,27 +105,22 @@ def question_of(words: Dict[str, Any]) -> bytes:
     return line_of({"findService": {"service": words["service"][0], "location": [place]}}).encode()
 
 
-def edition_of(server: Server) -> Optional[int]:
-    """The edition that the server answers from."""
-    _, reply = reply_of(ask(server, b'{"listServices":{}}', SECONDS))
-    return reply.get("edition")
-
-
-def state_of(source: MapSource, server: Server) -> Dict[str, Any]:
-    """The version of the map, and the edition of the server or why there is none."""
+def state_of(source: MapSource, lostd: Lostd) -> Dict[str, Any]:
+    """The version of the map, and the edition and the digest of the server or why there are none."""
     try:
-        return {"version": source.look(), "edition": edition_of(server), "fault": None}
+        return {"version": source.look(), "edition": lostd.edition(), "digest": lostd.digest(), "fault": None}
     except Broken as error:
-        return {"version": source.version, "edition": None, "fault": str(error)}
+        fault = str(error)
     except OSError as error:
-        return {"version": source.version, "edition": None, "fault": f"{error.filename}: {error.strerror}"}
+        fault = f"{error.filename}: {error.strerror}"
+    return {"version": source.version, "edition": None, "digest": None, "fault": fault}
 
 
 class Pages(BaseHTTPRequestHandler):
     """What a browser asks for."""
 
     source: MapSource
-    lostd: Server
+    lostd: Lostd
     hosts: Tuple[str, ...]
 
     def do_GET(self) -> None:  # noqa: N802 (the name that the base class calls)
@@ -125,7 +136,7 @@ class Pages(BaseHTTPRequestHandler):
             if parts.path == "/state":
                 return self.reply(200, JSON, line_of(state_of(self.source, self.lostd)).encode())
             if parts.path == "/answer":
-                return self.reply(200, JSON, ask(self.lostd, question_of(parse_qs(parts.query)), SECONDS))
+                return self.reply(200, JSON, ask(self.lostd.queries, question_of(parse_qs(parts.query)), SECONDS))
         except (ValueError, KeyError):
             return self.reply(400, TEXT, b"ask with latitude, longitude and service\n")
         except Broken as error:
@@ -152,7 +163,7 @@ def names_of(address: Tcp, port: int) -> Tuple[str, ...]:
     return (*hosts, *(host.rpartition(":")[0] for host in hosts)) if port == 80 else hosts
 
 
-def server_at(address: Tcp, source: MapSource, lostd: Server) -> ThreadingHTTPServer:
+def server_at(address: Tcp, source: MapSource, lostd: Lostd) -> ThreadingHTTPServer:
     """A server of the page that listens at an address; OSError where it cannot."""
     handler = type("PagesOfMap", (Pages,), {"source": source, "lostd": lostd, "hosts": names_of(address, address.port)})
     family = socket.AF_INET6 if ":" in address.host else socket.AF_INET

@@ -7,9 +7,9 @@ from itertools import groupby
 from typing import Any, Dict, List, NamedTuple, Optional, Tuple
 from xml.sax.saxutils import escape
 
-from maptools.desk_rules import GREATEST_LATITUDE, GREATEST_LONGITUDE
 from maptools.flat_rings import Ring
 from maptools.places import Area, Edge, Finding, belonging
+from maptools.rings import GREATEST_LATITUDE, GREATEST_LONGITUDE
 from maptools.texts import Point
 from maptools.units import degrees_of
 

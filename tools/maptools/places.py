@@ -9,7 +9,8 @@ from __future__ import annotations
 from collections import Counter
 from typing import Any, Dict, Iterable, List, NamedTuple, Optional, Tuple
 
-from maptools.desk_rules import GEODETIC, GREATEST_LATITUDE, GREATEST_LONGITUDE, MEMBERS, contents_of, position_of
+from maptools.desk_rules import GEODETIC, MEMBERS, contents_of
+from maptools.rings import GREATEST_LATITUDE, GREATEST_LONGITUDE, position_of
 from maptools.flat_rings import Ring
 from maptools.texts import WITHOUT_END, Moment, Point, moment_of, service_of
 

@@ -13,7 +13,7 @@ class Refusal(NamedTuple):
 
 
 REFUSALS: Dict[int, Refusal] = {
-    1: Refusal("BadLine", "a required member is missing, a member is of another kind, or this is not a desk line", "mend the line"),
+    1: Refusal("BadLine", "a required member is missing, a member is of another kind, or this is not a desk line", "fix the line"),
     2: Refusal("BadSource", "source is not a source name", "write it as labels joined by single dots"),
     3: Refusal("BadSourceId", "sourceId is empty, over 128 bytes, or has a control byte", "give another one"),
     4: Refusal("BadStamp", "lastUpdated is not a stamp, or its day does not exist", "write it in UTC, with T and Z"),
@@ -21,7 +21,7 @@ REFUSALS: Dict[int, Refusal] = {
     6: Refusal("BadService", "service is not a service URN", "write it with urn:service:"),
     7: Refusal("BadUri", "no URI, more than 16, a text that is not a URI, or two of one scheme", "give one for each scheme"),
     8: Refusal("BadNumber", "serviceNumber is empty, over 64 characters, or has another character", "give only digits, * and #"),
-    9: Refusal("BadRegion", "an item of serviceBoundary is not a region", "mend the region; close the ring"),
+    9: Refusal("BadRegion", "an item of serviceBoundary is not a region", "fix the region; close the ring"),
     10: Refusal("RegionMissing", "a mapping that is not a default has no region, or a default has one", "add a region, or leave it out"),
     11: Refusal("TooLarge", "over 64 polygons, 256 patterns, 64 token sets or 16 names, or a name over 1,024 bytes", "split the mapping in two"),
     12: Refusal("BadKey", "no key, a malformed key, or a key on a default", "give a key, or none on a default"),
@@ -38,7 +38,7 @@ REFUSALS: Dict[int, Refusal] = {
 }
 
 ERRORS: Dict[str, str] = {
-    "badRequest": "the line is no request that the server knows; mend the client",
+    "badRequest": "the line is no request that the server knows; fix the client",
     "loop": "the path has the server's own name: the request has been here before",
     "locationProfileUnrecognized": "no location is geodetic-2d, civic or x-token",
     "SRSInvalid": "the srsName is not urn:ogc:def:crs:EPSG::4326",

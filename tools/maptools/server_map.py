@@ -18,6 +18,7 @@ from maptools.sending import say
 from maptools.status_page import OK, Http
 
 PATH = "/map"
+PIECE = 1 << 20
 HINT = "is it the server's --desk address, and does the server tell its map there?"
 
 
@@ -54,8 +55,10 @@ def told_by(server: Server, seconds: Optional[float]) -> Iterator[Told]:
 
 
 def digest_told(server: Server, seconds: Optional[float]) -> str:
-    """The digest of what a server holds now, by what it says."""
+    """The digest of what a server holds now, by what it says. Its lines are read to their end, lest it report a broken connection."""
     with told_by(server, seconds) as told:
+        for _ in iter(lambda: told.lines.read(PIECE), b""):
+            pass
         return told.digest
 
 

@@ -8,6 +8,7 @@ from collections import Counter
 from typing import Iterable, List, NamedTuple, TextIO
 
 from maptools.addresses import Server
+from maptools.alike import say_lines
 from maptools.connection import Broken, connect
 from maptools.desk_map import NOW, DeskMap, Reader
 from maptools.desk_rules import Book, identity_of
@@ -175,8 +176,7 @@ def sync_desk(options: argparse.Namespace) -> int:
     """Makes each server hold what the file says; the status: 1 if one could not be reached, 3 if one does not hold it for another cause."""
     reader, statuses = Reader(), []
     file = reader.read(options.file)
-    for complaint in file.complaints:
-        say(complaint)
+    say_lines(file.complaints, say)
     if file.complaints:
         say("nothing was sent")
         return 3

@@ -4,7 +4,7 @@ from __future__ import annotations
 from decimal import MAX_EMAX, MAX_PREC, MIN_EMIN, ROUND_HALF_EVEN, Context, Decimal, InvalidOperation
 from typing import List, Tuple, Union
 
-from maptools.desk_rules import is_pair
+from maptools.rings import is_pair
 from maptools.texts import Point
 
 EXACT = Context(prec=MAX_PREC, Emax=MAX_EMAX, Emin=MIN_EMIN, rounding=ROUND_HALF_EVEN)

@@ -33,6 +33,9 @@ class Checkout(unittest.TestCase):
             os.makedirs(os.path.dirname(f"{self.top}/{script}"), exist_ok=True)
             shutil.copy(f"{TOP}/{script}", f"{self.top}/{script}")
         shutil.copytree(f"{TOP}/tools/building", f"{self.top}/tools/building", ignore=shutil.ignore_patterns("__pycache__"))
+        os.makedirs(f"{self.top}/tools/maptools")
+        for name in ("__init__.py", "command_line.py"):
+            shutil.copy(f"{TOP}/tools/maptools/{name}", f"{self.top}/tools/maptools")
         self.change("tools/building/kit.py", PLACE, f"{self.kit}/rt")
         self.change("tools/building/machine.py", "DISK = 12_000", "DISK = 1")
         self.change("tools/building/schedule.py", " = 1_200, 0.8, 0.1", " = 1, 0.8, 0.1")

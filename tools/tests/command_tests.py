@@ -11,6 +11,8 @@ from typing import List, Tuple
 from tests.running import lostd, read
 
 MARKS = "$<@=>~!"
+# Words that are not spelled as they are.
+SPELLED = {"''": b"", r"\xff": b"\xff"}
 
 
 def behind(row: str, mark: str) -> List[str]:
@@ -18,9 +20,15 @@ def behind(row: str, mark: str) -> List[str]:
     return [line[2:] for line in row.splitlines() if line.startswith(f"{mark} ")]
 
 
-def words_of(row: str) -> List[str]:
+def words_of(row: str) -> List[bytes]:
     """The words of a row's command line."""
-    return ["" if word == "''" else word for word in behind(row, "$")[0].split(" ")]
+    return [SPELLED.get(word, word.encode()) for word in behind(row, "$")[0].split(" ")]
+
+
+def given_by(row: str) -> bytes:
+    """What a row writes to standard input."""
+    counts = [int(special.split(" ")[0]) for special in behind(row, "@") if special.endswith(" lines")]
+    return b"\n" * sum(counts) + "".join(f"{line}\n" for line in behind(row, "<")).encode()
 
 
 def shown_on_a_terminal(terminal: int) -> str:
@@ -37,10 +45,9 @@ def shown_on_a_terminal(terminal: int) -> str:
 def run(row: str) -> Tuple[int, str, str]:
     """The status of a row's command line, what it prints, and what it says on standard error."""
     specials = behind(row, "@")
-    given = "".join(f"{line}\n" for line in behind(row, "<")).encode()
     terminal, errors = pty.openpty() if "terminal" in specials else (-1, -1)
     with tempfile.TemporaryFile() as lines, tempfile.TemporaryFile() as output, tempfile.TemporaryFile() as said:
-        lines.write(given)
+        lines.write(given_by(row))
         lines.seek(0)
         folder = os.open("/", os.O_RDONLY)
         with open("/dev/full", "wb") as full:
@@ -69,7 +76,7 @@ class CommandTests(unittest.TestCase):
 
     def test_rows(self) -> None:
         rows = read("command.rows").rstrip("\n").split("\n\n")[1:]
-        self.assertEqual(len(rows), 65)
+        self.assertEqual(len(rows), 81)
         for row in rows:
             with self.subTest(row):
                 self.assertTrue(all(line[0] in MARKS and line[1] == " " for line in row.splitlines()))

@@ -7,10 +7,11 @@ import unittest
 from typing import Any, Dict, List
 
 from maptools.desk_rules import (
-    EDITS, GEODETIC, MOST_MAPPINGS, MOST_TRACES, TOKEN, Book, apply_edit, contents_of, edit_fault, empty_book, position_of,
+    EDITS, GEODETIC, MOST_MAPPINGS, MOST_TRACES, TOKEN, Book, apply_edit, contents_of, edit_fault, empty_book,
 )  # fmt: skip
 from maptools.lines import read_line
 from maptools.refusals import ERRORS, REFUSALS, WARNINGS
+from maptools.rings import position_of
 from tests.running import TOP
 
 

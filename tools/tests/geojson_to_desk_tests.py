@@ -303,6 +303,19 @@ class CommandLine(unittest.TestCase):
         lines = [f"geojson-to-desk: feature {number} (id '{number - 1}'): it has no value of the property 'code'" for number in (1, 2, 4)]
         self.assertEqual((status, output.count("\n"), said.splitlines()[:-1]), (3, 1, lines))
 
+    def test_of_many_with_like_causes_20_are_named_and_the_rest_counted(self) -> None:
+        features = [feature(RING, f"{number} here", note="a" if number > 30 else "") for number in range(1, 61)]
+        words = [*COMMON[: COMMON.index("--uri")], "--uri", "sip{note}@x", *COMMON[COMMON.index("--uri") + 2 :]]
+        status, output, said = run_tool("geojson-to-desk", words, collection(features))
+        lines = said.splitlines()
+        # 30 without a note, which wait until feature 31 has one, and 30 whose URI has no scheme.
+        self.assertEqual((status, output, len(lines)), (3, "", 20 + 20 + 2 + 1))
+        self.assertIn("feature 1 ", lines[0])
+        self.assertIn("feature 20 ", lines[19])
+        self.assertIn("feature 50 ", lines[39])
+        rest = [f"geojson-to-desk: 10 more left out for like reasons, the last of them feature {last}" for last in (30, 60)]
+        self.assertEqual([line.partition(" (id")[0] for line in lines[40:42]], rest)
+
     def test_an_optional_property_that_nothing_has_is_noted(self) -> None:
         status, output, said = run_tool("geojson-to-desk", [*COMMON, "--service-number", "{dail?}"], collection([feature(RING, dial="1")]))
         self.assertEqual((status, output.count("\n")), (0, 1))

@@ -28,7 +28,7 @@ class Install(Checkout):
         for tool in TOOLS:
             shutil.copy(f"{TOP}/tools/{tool}", f"{self.top}/tools/{tool}")
         for folder in ("tools/gateway", "tools/maptools", "release/service"):
-            shutil.copytree(f"{TOP}/{folder}", f"{self.top}/{folder}", ignore=shutil.ignore_patterns("__pycache__"))
+            shutil.copytree(f"{TOP}/{folder}", f"{self.top}/{folder}", dirs_exist_ok=True, ignore=shutil.ignore_patterns("__pycache__"))
         self.write(f"{self.top}/crates/lost_status/src/status.rt", 'pub const VERSION: &str = "0.0.7";\n')
         self.prefix, self.destination = f"{self.folder}/a place", ""
         self.write(f"{self.top}/crates/lostd/src/main.rt", read("install/stand-in"))

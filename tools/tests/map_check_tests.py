@@ -1,15 +1,12 @@
 """tools/map-check: each kind of finding, from maps made by hand. checks/map-faults tries thousands of maps."""
 from __future__ import annotations
 
-import json
-import os
 import subprocess
-import tempfile
 import unittest
 from typing import Any, Dict, List, Sequence, Tuple
 
 from tests.map_checking import (
-    FIRE, POLICE, PYTHON, Checker, default, desk_lines, grid, has_shapely, kinds_of, mapping, ring_of, run_check, square,
+    FIRE, POLICE, PYTHON, Checker, default, grid, has_shapely, kinds_of, mapping, ring_of, square,
 )  # fmt: skip
 from tests.running import TOOLS, lostd
 
@@ -63,6 +60,14 @@ class Boundaries(Findings):
         self.assertTrue(all(0.001 <= degrees < 0.002 for degrees in gap["point"]), gap["point"])
         self.assertEqual(gap["geometry"]["type"], "Polygon")
         self.answers(gap, "notFound")
+
+    def test_a_gap_with_many_edges_is_beside_those_that_share_one_and_not_those_at_its_corners(self) -> None:
+        mappings = [one for one in grid(3, 3) if one["sourceId"] != "1.1"]
+        for one in mappings:
+            corners = one["serviceBoundary"][0]["polygon"]
+            steps = [(a, b, step) for a, b in zip(corners, corners[1:]) for step in range(50)]
+            one["serviceBoundary"][0]["polygon"] = [[a[axis] + (b[axis] - a[axis]) * step // 50 for axis in (0, 1)] for a, b, step in steps] + corners[:1]
+        self.finds(mappings, ("gap", "error", ("0.1", "1.0", "1.2", "2.1")))
 
     def test_a_gap_that_a_default_or_a_service_above_fills_is_a_warning(self) -> None:
         mappings = [one for one in grid(3, 3) if one["sourceId"] != "1.1"]
@@ -118,6 +123,13 @@ class Boundaries(Findings):
     def test_a_hole_that_is_given_as_a_second_polygon(self) -> None:
         self.finds([mapping("A", square(0, 0, 10_000, 10_000), square(2000, 2000, 4000, 4000))], ("own-overlap", "warning", ("A",)))
         self.finds([mapping("A", square(0, 0, 10_000, 10_000), square(0, 10_000, 4000, 14_000))])
+
+    def test_neighbours_that_cross_between_whole_points_overlap_and_neither_overlaps_itself(self) -> None:
+        # Each keeps every other position of their border, as when districts are simplified one by one.
+        left = ring_of((0, 0), (3375, -908), (9728, 2656), (15_185, -2763), (18_000, 0), (18_000, -30_000), (0, -30_000))
+        right = ring_of((0, 30_000), (18_000, 30_000), (18_000, 0), (12_823, 2341), (6619, -63), (0, 0))
+        found = self.checker.check([mapping("left", left), mapping("right", right)])
+        self.assertEqual({one["kind"] for one in found}, {"no-default", "overlap", "gap"}, [one["text"] for one in found])
 
     def test_an_expired_mapping_leaves_a_gap(self) -> None:
         mappings = grid(3, 3)
@@ -234,6 +246,19 @@ class Values(Findings):
         self.finds(self.with_values(*harbour, {"service": "urn:service:sos.harbor"}), ("service-spelling", "warning", ("0.2",)))
         self.finds(self.with_values({"service": "urn:service:sos.fire"}, {"service": "urn:service:sos.gas"}))
 
+    def test_what_a_caller_gets_where_a_mapping_says_something_wrong(self) -> None:
+        values = [{}, {"service": "urn:service:sos.polcie"}, {"expires": "2026-01-01T00:00:00Z"}, {"displayName": [{"lang": "en", "text": ""}]}]
+        found = {one["kind"]: one for one in self.checker.check([*self.with_values(*values), {**default("all"), "uri": ["spi:a@map.example"]}])}
+        for kind, column, answer in (
+            ("service-spelling", 1, "map.example all (a default)"), ("expired", 2, "map.example all (a default)"), ("display-name-empty", 3, "map.example 0.3"),
+        ):  # fmt: skip
+            latitude, longitude = found[kind]["point"]
+            self.assertTrue(0 <= latitude < 0.001 and column / 1000 <= longitude < (column + 1) / 1000, found[kind])
+            self.answers(found[kind], answer)
+        self.assertEqual((found["service-spelling"]["asked"], "asked" in found["expired"]), (POLICE, False))
+        # (a default has no area, and so no place of its own)
+        self.assertEqual((found["uri-scheme"]["point"], found["uri-scheme"]["answer"]), (None, None))
+
     def test_schemes(self) -> None:
         self.finds(self.with_values({}, {}, {"uri": ["spi:a@map.example"]}), ("uri-scheme", "error", ("0.2",)))
         self.finds(self.with_values({}, {}, {"uri": ["sip:a@map.example", "x-pager:7"]}), ("uri-scheme", "warning", ("0.2",)))
@@ -284,136 +309,3 @@ class Values(Findings):
         self.answers(found, "map.example A and map.example B")
         self.finds([mapping("A", regions=having(street)), mapping("B", regions=having({**town, "RD": "High"}))])
         self.finds([mapping("A", regions=having(town)), mapping("B", regions=having(town), service=FIRE)])
-
-
-def smaller(one: Dict[str, Any]) -> Dict[str, Any]:
-    """A square of the grid without the northern fifth."""
-    south, west = one["serviceBoundary"][0]["polygon"][0]
-    return {**one, "serviceBoundary": [{"profile": "geodetic-2d", "polygon": square(south, west, south + 8000, west + 10_000)}]}
-
-
-@unittest.skipUnless(has_shapely(), "/usr/bin/python3 lacks python3-shapely")
-class Command(unittest.TestCase):
-    """The command: its options, its output and its statuses."""
-
-    def setUp(self) -> None:
-        folder = tempfile.TemporaryDirectory()
-        self.addCleanup(folder.cleanup)
-        self.folder = folder.name
-
-    def write(self, name: str, text: str) -> str:
-        """Writes a file; its path."""
-        with open(f"{self.folder}/{name}", "w", encoding="utf-8") as file:
-            file.write(text)
-        return f"{self.folder}/{name}"
-
-    def found(self, words: Sequence[str], given: str = "") -> Tuple[int, List[Dict[str, Any]]]:
-        """The status, and the findings of --json."""
-        status, out, said = run_check(["--json", *words], given)
-        self.assertEqual(said, "")
-        value = json.loads(out)
-        counts = {name: sum(one["severity"] == name for one in value["findings"]) for name in ("error", "warning", "note")}
-        self.assertEqual(value["counts"], counts)
-        return status, value["findings"]
-
-    def test_lines_for_people(self) -> None:
-        lines = desk_lines([one for one in grid(3, 3) if one["sourceId"] != "1.1"])
-        status, out, said = run_check(["-"], lines)
-        first, second, last = out.splitlines()
-        self.assertEqual((status, said, last), (3, "", "1 error, 0 warnings, 1 note"))
-        self.assertTrue(first.startswith(f"error: gap ({POLICE}): nobody serves 12,3"), first)
-        self.assertTrue(second.startswith(f"note: no-default ({POLICE}): "), second)
-        if lostd():
-            self.assertTrue(first.endswith(". At 0.0015,0.0015 findService answers notFound."), first)
-
-    def test_fail_on(self) -> None:
-        sliver = [mapping("A", square(0, 0, 90_000, 10_010)), mapping("B", square(0, 10_000, 90_000, 20_000))]
-        self.assertEqual(self.found(["--fail-on", "error"], desk_lines(sliver))[0], 0)
-        self.assertEqual(self.found(["--fail-on", "warning"], desk_lines(sliver))[0], 3)
-        self.assertEqual(self.found(["--fail-on", "warning"], desk_lines(grid(2, 2)))[0], 0)
-
-    def test_refused_lines_and_requests(self) -> None:
-        lines = desk_lines(grid(1, 2)).splitlines()
-        given = "\n".join([*lines, lines[0], "no line", '{"findService":{}}', '{"withdraw":{"source":"map.example","sourceId":"0.1","lastUpdated":"2026-01-02T00:00:00Z"}}'])
-        status, findings = self.found([], given)
-        self.assertEqual((status, [one["kind"] for one in findings]), (3, ["refused", "refused", "no-default"]))
-        self.assertIn("line 4: refused with code 13, IdentityHeld", findings[0]["text"])
-        self.assertIn("line 5: refused with code 1, BadLine", findings[1]["text"])
-
-    def test_long_rings_in_any_spelling(self) -> None:
-        ring = ring_of(*[(number * number, -number) for number in range(80)])
-        usual = json.dumps({"publish": mapping("A", ring)}, separators=(",", ":"))
-        first, second = "[[0,0],", "[1,-1],"
-        odd = [
-            (usual, 0), (usual.replace(second, "[ 1, -1 ] , "), 0), (usual.replace(second, '"0.0000001 -0.0000001",'), 0),
-            (usual.replace(second, "[1,-0],"), 9), (usual.replace(second, "[1.0,-1],"), 9), (usual.replace(second, "[true,-1],"), 9),
-            (usual.replace(second, "[900000001,-1],"), 9), (usual.replace(second, "[1,-1,0],"), 9), (usual.replace(second, "[99999999999999999999,-1],"), 9),
-            (usual.replace(second, "[01,-1],"), 1), (usual.replace(second, "[1,--1],"), 1), (usual.replace(second, "[1,],"), 1),
-            (usual.replace(first, "[[7,0],"), 9), (usual.replace('"geodetic-2d"', '"civic"'), 9), (usual.replace('"source":', '"polygon":[[1,1]],"source":'), 0),
-        ]  # fmt: skip
-        lines = [line.replace('"A"', f'"A{number}"').replace("key of A", f"key {number}") for number, (line, _) in enumerate(odd, 1)]
-        findings = self.found([], "\n".join(lines))[1]
-        refused = {one["text"].split("line ")[1].split(":")[0] for one in findings if one["kind"] == "refused"}
-        codes = [(number, one) for number, one in ((str(number), code) for number, (_, code) in enumerate(odd, 1)) if number in refused]
-        self.assertEqual({str(number) for number, (_, code) in enumerate(odd, 1) if code}, refused)
-        for number, code in codes:
-            self.assertTrue(any(f"line {number}: refused with code {code}," in one["text"] for one in findings), (number, code))
-
-    def test_accepted_findings(self) -> None:
-        mappings = [one for one in grid(3, 3) if one["sourceId"] != "1.1"]
-        status, findings = self.found([], desk_lines(mappings))
-        lines = [json.dumps({**one, "reason": "a lake", "date": "2026-11-30"}) for one in findings]
-        known = self.write("known.jsonl", "\n".join(lines) + "\n")
-        self.assertEqual(self.found(["--accept", known], desk_lines(mappings)), (0, []))
-        # Another gap is told of, and so is one that has grown by a fifth.
-        other = [one for one in grid(3, 4) if one["sourceId"] not in ("1.1", "1.2")]
-        for mappings in (other, [smaller(one) if one["sourceId"] == "0.1" else one for one in mappings]):
-            status, out, said = run_check(["--accept", known], desk_lines(mappings))
-            self.assertEqual((status, out.count("error: gap"), len(out.splitlines())), (3, 1, 2), out)
-            self.assertIn("known.jsonl, line 1: this accepts nothing that is found", said)
-        status, out, said = run_check(["--accept", known], desk_lines(grid(3, 3)))
-        self.assertEqual((status, out), (0, "0 errors, 0 warnings, 0 notes, 1 accepted\n"))
-        self.assertIn("known.jsonl, line 1: this accepts nothing that is found\n", said)
-
-    def test_a_bad_file_of_accepted_findings(self) -> None:
-        for text, cause in (("{", "not JSON"), ('{"kind":"gap","identities":[],"reason":"","date":"2026-11-30"}', "no reason"),
-                            ('{"kind":"gap","identities":[],"reason":"x"}', "no date"), ('{"kind":"hole"}', "not known")):  # fmt: skip
-            status, out, said = run_check(["--accept", self.write("known.jsonl", text)], desk_lines(grid(1, 1)))
-            self.assertEqual((status, out), (1, ""))
-            self.assertIn("known.jsonl, line 1: ", said)
-            self.assertIn(cause, said)
-
-    def test_the_outline(self) -> None:
-        corners = [[0, 0], [0.004, 0], [0.004, 0.003], [0, 0.003], [0, 0]]
-        outline = self.write("outline.geojson", json.dumps({"type": "Polygon", "coordinates": [corners]}))
-        over = [*grid(3, 3), mapping("over", square(30_000, 0, 31_000, 10_000))]
-        findings = self.found(["--outline", outline], desk_lines(over))[1]
-        self.assertEqual(kinds_of(findings), [("gap", "error", ("0.2", "1.2", "2.2")), ("overhang", "warning", ("over",))])
-
-    def test_geojson(self) -> None:
-        def feature(code: str, *corners: Sequence[float]) -> Dict[str, Any]:
-            return {"type": "Feature", "properties": {"code": code}, "geometry": {"type": "Polygon", "coordinates": [[*corners, corners[0]]]}}
-
-        features = [feature("A", [0, 0], [1, 0], [1, 1], [0, 1]), feature("B", [0.5, 0], [2, 0], [2, 1], [0.5, 1]), feature("C", [0, 95], [1, 95], [1, 96])]
-        path = self.write("map.geojson", json.dumps({"type": "FeatureCollection", "features": features}))
-        out = f"{self.folder}/out.geojson"
-        status, findings = self.found([path, "--geojson", out, "--", "--source-id", "{code}"])
-        self.assertEqual((status, kinds_of(findings)), (3, [("overlap", "error", ("A", "B")), ("refused", "error", ())]))
-        self.assertIn("feature 3", [one for one in findings if one["kind"] == "refused"][0]["text"])
-        with open(out, encoding="utf-8") as file:
-            (area,) = json.load(file)["features"]
-        corners = {tuple(corner) for corner in area["geometry"]["coordinates"][0]}
-        self.assertEqual((area["properties"]["kind"], corners), ("overlap", {(0.5, 0.0), (1.0, 0.0), (1.0, 1.0), (0.5, 1.0)}))
-
-    def test_mistakes_and_faults(self) -> None:
-        for words in (["--nothing"], ["--within", "30"], ["--tolerance", "-1"], ["--now", "today"], ["--fail-on", "note"], ["a", "b"]):
-            self.assertEqual(run_check(words)[0], 2, words)
-        for words in ([f"{self.folder}/none.jsonl"], ["--outline", f"{self.folder}/none"], ["--geojson", self.folder], ["-", "--", "--source-id", "x"]):
-            status, out, said = run_check(words, desk_lines(grid(1, 1)))
-            self.assertEqual((status, out, len(said.splitlines())), (1, "", 1), words)
-        self.assertEqual(run_check(["--help"])[0], 0)
-
-    def test_a_program_that_is_none(self) -> None:
-        status, out, said = run_check(["--lostd", os.devnull], desk_lines([one for one in grid(3, 3) if one["sourceId"] != "1.1"]), True)
-        self.assertEqual((status, said), (3, f"map-check: the program lostd was not asked: {os.devnull} is no program\n"))
-        self.assertIn(". At 0.0015,0.0015.\n", out)

@@ -3,6 +3,7 @@ from __future__ import annotations
 
 import http.client
 import json
+import signal
 import socket
 import tempfile
 import unittest
@@ -11,7 +12,7 @@ from typing import Dict, List, Tuple
 from maptools.addresses import Unix
 from maptools.connection import Broken
 from maptools.digest import map_digest, mapping_digest
-from maptools.server_map import told_by
+from maptools.server_map import digest_told, told_by
 from tests.running import TOP, lostd, run_tool, serve_has
 from tests.server import PATIENCE, READY, Server, ask, unix
 
@@ -144,8 +145,31 @@ class MapOverHttp(unittest.TestCase):
             self.skipTest(said)
         self.assertEqual((status, said), (0, ""))
         self.assertRegex(output, r"0 errors")
+        double = {**json.loads(self.lines[0])["publish"], "sourceId": "double", "key": "double-1"}
+        with unix(self.desk) as desk:
+            self.assertIn("staged", ask(desk, json.dumps({"publish": double}) + "\n"))
+            self.assertIn("committed", ask(desk, COMMIT))
+        status, output, said = run_tool("map-check", ["--server", address, "--lostd", str(lostd())])
+        self.assertEqual((status, said), (3, ""))
+        self.assertRegex(output, r"error: same-area .* findService answers map\.example \S+ and map\.example double\.\n")
         with self.assertRaises(Broken), told_by(Unix(f"{self.folder.name}/queries.sock"), 5):
             pass
+
+    def test_who_asks_for_the_digest_leaves_no_fault_behind(self) -> None:
+        """The server reports a peer that leaves in the middle of an answer; lost-client, which compares digests, reads it all."""
+        ring = [[number, number * number % 997] for number in range(1000)] + [[0, 0]]
+        regions = [{"profile": "geodetic-2d", "polygon": ring}] * 20
+        first = json.loads(self.lines[0])["publish"]
+        many = [{**first, "sourceId": f"large {number}", "key": f"large {number}", "serviceBoundary": regions} for number in range(20)]
+        with unix(self.desk) as desk:
+            for mapping in many:
+                self.assertIn("staged", ask(desk, json.dumps({"publish": mapping}) + "\n"))
+            self.assertIn("committed", ask(desk, COMMIT))
+        wanted = [json.loads(line)["publish"] for line in self.lines] + many
+        self.assertEqual(digest_told(Unix(self.desk), PATIENCE), map_digest(map(mapping_digest, wanted)))
+        self.assertEqual(self.get()[0], 200)
+        self.server.process.send_signal(signal.SIGTERM)
+        self.assertEqual(self.server.end()[1], [])
 
     def test_the_server_goes_on(self) -> None:
         """A peer that leaves in the middle of an answer, or of a request, keeps nobody out."""

@@ -3,58 +3,19 @@ from __future__ import annotations
 
 import base64
 import json
-import os
 import tempfile
 import time
 import unittest
-import urllib.error
-import urllib.request
-from typing import Any, Dict, List, Optional, Tuple
+from typing import Any, List
 
-from maptools.page import LEAFLET
-from tests.browser import Browser, browser
+from tests.browser import browser
 from tests.map_checking import has_shapely
-from tests.running import found_in, lostd, question, replay, run_tool, start_tool
-from tests.server import FREE, Server, ask, has_maps, unix
+from tests.map_page_browsing import (
+    FIRE, HIGH, MAP, MARKUP, POLICE, SOS, InBrowser, has_leaflet, mapping, published, square,
+)  # fmt: skip
+from tests.running import lostd, run_tool
+from tests.server import FREE
 
-POLICE, FIRE, SOS = "urn:service:sos.police", "urn:service:sos.fire", "urn:service:sos"
-COMMIT = '{"commit":{}}\n'
-LOW, HIGH = 0, 10_000_000
-PATIENCE = 60
-
-
-def square(south: int, west: int, north: int, east: int) -> List[List[int]]:
-    """A closed ring of four corners."""
-    return [[south, west], [south, east], [north, east], [north, west], [south, west]]
-
-
-def mapping(name: str, service: str, *rings: List[List[int]], **more: Any) -> Dict[str, Any]:
-    """A mapping; a default where it has no ring."""
-    regions = [{"profile": "geodetic-2d", "polygon": ring} for ring in rings]
-    boundary = {"serviceBoundary": regions, "key": f"{name}-1"} if regions else {"default": True}
-    return {
-        "source": "map.example", "sourceId": name, "lastUpdated": "2026-01-01T00:00:00Z", "expires": "NO-EXPIRATION",
-        "service": service, "uri": [f"sip:{name}@map.example"], **boundary, **more,
-    }  # fmt: skip
-
-
-def published(*mappings: Dict[str, Any]) -> str:
-    """Desk lines that publish mappings."""
-    return "".join(json.dumps({"publish": one}) + "\n" for one in mappings) + COMMIT
-
-
-# Two districts side by side, a third above both in an S, one that reaches the pole and the 180th meridian, one whose name would
-# be markup, another service, one that has expired, and a default.
-MARKUP = "<img src=x onerror=alert(1)></script>"
-MAP = published(
-    mapping("west", POLICE, square(0, 0, HIGH, HIGH), displayName=[{"lang": "en", "text": "West Side"}]),
-    mapping("east", POLICE, square(0, HIGH, HIGH, 2 * HIGH), displayName=[{"lang": "en", "text": MARKUP}], serviceNumber="110"),
-    mapping("crooked", POLICE, [[HIGH, 0], [HIGH, 2 * HIGH], [2 * HIGH, HIGH], [3 * HIGH, 2 * HIGH], [3 * HIGH, 0], [2 * HIGH, HIGH // 2], [HIGH, 0]]),
-    mapping("far", POLICE, square(880_000_000, 1_790_000_000, 900_000_000, 1_800_000_000), square(880_000_000, -1_800_000_000, 900_000_000, -1_790_000_000)),
-    mapping("fire", FIRE, square(0, 0, HIGH, 2 * HIGH)),
-    mapping("gone", FIRE, square(HIGH, 0, 2 * HIGH, HIGH), expires="2026-01-02T00:00:00Z"),
-    mapping("state", SOS),
-)
 FINDINGS = {
     "findings": [
         {"kind": "gap", "severity": "error", "service": POLICE, "identities": [{"source": "map.example", "sourceId": "west"}],
@@ -64,13 +25,6 @@ FINDINGS = {
     ],
     "counts": {"error": 1, "warning": 0, "note": 1},
 }  # fmt: skip
-
-has_leaflet = os.path.isdir(LEAFLET)
-
-
-def units(text: str) -> int:
-    """Degrees of the page in whole units."""
-    return round(float(text) * 1e7)
 
 
 @unittest.skipUnless(has_leaflet, "libjs-leaflet is not there")
@@ -109,73 +63,8 @@ class Command(unittest.TestCase):
     def test_mistakes(self) -> None:
         self.assertEqual(run_tool("map-page", ["--help"])[0], 0)
         self.assertEqual(run_tool("map-page", ["--no-findings", "/no/such/file"])[0], 1)
-        for words in ([], ["--serve", FREE, self.file], ["--lostd", FREE, self.file], ["--serve", "x", "--lostd", "127.0.0.1:1", self.file]):
+        for words in ([], ["--status", FREE, self.file], ["--serve", FREE, self.file], ["--lostd", FREE, self.file], ["--serve", "x", "--lostd", "127.0.0.1:1", self.file]):
             self.assertEqual(run_tool("map-page", words)[0], 2, words)
-
-
-class InBrowser(unittest.TestCase):
-    """A browser, and what its page shows."""
-
-    page: Browser
-    folder: Any
-
-    @classmethod
-    def setUpClass(cls) -> None:
-        cls.folder = tempfile.TemporaryDirectory()
-        cls.page = Browser()
-
-    @classmethod
-    def tearDownClass(cls) -> None:
-        cls.page.close()
-        cls.folder.cleanup()
-
-    def path(self, name: str, text: str) -> str:
-        """The path of a file with a text."""
-        path = f"{self.folder.name}/{name}"
-        with open(path, "w", encoding="utf-8") as file:
-            file.write(text)
-        return path
-
-    def open(self, lines: str = MAP, *words: str) -> None:
-        """Opens the page of a map."""
-        _, page, said = run_tool("map-page", [self.path("county.jsonl", lines), *(words or ["--no-findings"])])
-        self.assertEqual(said, "")
-        self.page.go(f"file://{self.path('county.html', page)}")
-
-    def asked(self) -> Tuple[int, int, str]:
-        """The point and the service that the page shows the answer to."""
-        text = self.page.text("#asked")
-        service, _, place = text.partition(" at ")
-        latitude, longitude = place.rstrip(". ").split(". ")[0].split(", ")
-        return units(latitude), units(longitude), service
-
-    def named(self) -> List[str]:
-        """The sourceIds of the mappings that the page names."""
-        rows = self.page.run("[...document.querySelectorAll('#answer dl')].map((rows) => [...rows.querySelectorAll('dt')]"
-                             ".find((word) => word.textContent === 'mapping').nextSibling.textContent)")  # fmt: skip
-        return [row.partition(" ")[2] for row in rows]
-
-    def look_at(self, seen: List[Any]) -> None:
-        """Keeps what the page asked and answered."""
-        seen.append((self.asked(), self.named(), self.page.text("#headline"), self.page.text("#answer")))
-
-    def compare(self, seen: List[Any], lines: str = MAP) -> None:
-        """What the page answered is what lostd answers."""
-        replies = replay(lines + "".join(question(*asked) for asked, *_ in seen))[-len(seen) :]
-        for (asked, names, headline, answer), reply in zip(seen, replies):
-            self.assertEqual(names, found_in(reply), asked)
-            error = reply.get("errors", {}).get("error", "answer")
-            self.assertIn(error, headline, asked)
-            for warning in reply.get("findServiceResponse", {}).get("warnings", []):
-                self.assertIn(warning, answer, asked)
-
-    def ask(self, point: str, service: Optional[str] = None) -> None:
-        """Asks for a typed point."""
-        for name, text in (("service", service), ("point", point)):
-            if text is not None:
-                self.page.run(f"document.getElementById('{name}').value = ''; document.getElementById('{name}').focus()")
-                self.page.type(text)
-        self.page.press("Enter")
 
 
 @unittest.skipUnless(has_leaflet, "libjs-leaflet is not there")
@@ -364,88 +253,3 @@ class Page(InBrowser):
         shown = "(id) => getComputedStyle(document.getElementById(id)).display !== 'none'"
         self.assertEqual([self.page.run(f"({shown})('{name}')") for name in ("print", "answer", "map", "ask")], [True, True, False, False])
         self.page.send("Emulation.setEmulatedMedia", media="")
-
-
-@unittest.skipUnless(has_leaflet, "libjs-leaflet is not there")
-@unittest.skipUnless(browser(), "Chromium is not there")
-@unittest.skipUnless(lostd(), "lostd is not built")
-class Served(InBrowser):
-    """The page beside a running server."""
-
-    def serve(self, lines: str) -> Tuple[str, str]:
-        """Serves the page of a map that a server holds, too: its address, and the path of the file. The server's desk is desk.sock."""
-        path = self.path("served.jsonl", lines)
-        for name in ("desk.sock", "ask.sock"):
-            if os.path.exists(f"{self.folder.name}/{name}"):
-                os.remove(f"{self.folder.name}/{name}")
-        words = ["--map", path, "--queries", f"unix:{self.folder.name}/ask.sock", "--desk", f"unix:{self.folder.name}/desk.sock"]
-        server = Server(words)
-        self.addCleanup(server.__exit__)
-        self.assertEqual(server.first_line(), b"ready\n")
-        port = self.free_port()
-        served = start_tool("map-page", ["--no-findings", path, "--serve", f"127.0.0.1:{port}", "--lostd", f"unix:{self.folder.name}/ask.sock"])
-        self.addCleanup(self.end, served)
-        self.assertEqual(served.stdout.readline(), f"ready http://127.0.0.1:{port}/\n".encode())
-        return f"http://127.0.0.1:{port}/", path
-
-    def free_port(self) -> int:
-        """A port that is free."""
-        import socket
-
-        with socket.create_server(("127.0.0.1", 0)) as listener:
-            return int(listener.getsockname()[1])
-
-    def end(self, process: Any) -> None:
-        """Ends the tool, whose pipes are closed then."""
-        process.kill()
-        process.wait(PATIENCE)
-        for pipe in (process.stdin, process.stdout, process.stderr):
-            pipe.close()
-
-    @unittest.skipUnless(has_maps(), "lostd takes no map")
-    def test_each_click_asks_the_server_and_a_changed_map_is_shown(self) -> None:
-        before = published(mapping("west", POLICE, square(0, 0, HIGH, HIGH)))
-        address, path = self.serve(before)
-        self.page.go(address)
-        self.ask("0.5, 0.5", POLICE)
-        self.page.wait_for(lambda: self.page.text("#headline") == "west answers.")
-        self.assertIn("From the server, edition 1.", self.page.text("#asked"))
-        seen: List[Any] = []
-        for x, y in ((400, 420), (20, 700), (600, 300)):
-            shown = self.page.text("#asked")
-            self.page.click(x, y)
-            self.page.wait_for(lambda: self.page.text("#asked") != shown)
-            self.look_at(seen)
-        self.compare(seen, before)
-
-        # the server's map changes first: the page says that the file has another one; then the file does
-        self.ask("0.5, 0.5", POLICE)
-        self.page.wait_for(lambda: self.page.text("#headline") == "west answers.")
-        newer = mapping("west", POLICE, square(0, 0, HIGH, HIGH // 4), key="west-2", lastUpdated="2026-02-01T00:00:00Z")
-        edits = [json.dumps({"replace": newer}), json.dumps({"publish": mapping("new", POLICE, square(0, HIGH // 4, HIGH, HIGH))})]
-        with unix(f"{self.folder.name}/desk.sock") as desk:
-            for line in (*edits, COMMIT.strip()):
-                ask(desk, line + "\n")
-        self.page.wait_for(lambda: self.page.text("#headline") == "new answers.")
-        self.assertIn("The server's map is not that of the file", self.page.text("#answer"))
-        self.page.wait_for(lambda: self.page.text("#edition").endswith("edition 3"))
-        with open(path, "a", encoding="utf-8") as file:
-            file.write("\n".join(edits) + "\n" + COMMIT)
-        self.page.wait_for(lambda: "2 mappings" in self.page.text("#about"))
-        self.page.wait_for(lambda: "The point is inside the boundary of new" in self.page.text("#answer"))
-        self.assertEqual(self.page.faults(), [])
-
-    def test_what_the_page_is_refused(self) -> None:
-        address, _ = self.serve(published(mapping("west", POLICE, square(0, 0, HIGH, HIGH))))
-        for path, status in (("nothing", 404), ("answer?latitude=x", 400), ("answer?latitude=900000001&longitude=0&service=x", 400)):
-            with self.assertRaises(urllib.error.HTTPError) as caught:
-                urllib.request.urlopen(address + path, timeout=PATIENCE)
-            self.assertEqual(caught.exception.code, status)
-        strange = urllib.request.Request(address, headers={"Host": "elsewhere.example"})
-        with self.assertRaises(urllib.error.HTTPError) as caught:
-            urllib.request.urlopen(strange, timeout=PATIENCE)
-        self.assertEqual(caught.exception.code, 403)
-
-
-if __name__ == "__main__":
-    unittest.main()

@@ -147,7 +147,7 @@ class Package(Checkout):
         self.write(f"{self.top}/{MANIFEST}", manifest._replace(trees=trees).text())
 
     def test_make(self) -> None:
-        for check in ("tools/test", "checks/faults/run", "checks/oracle/run"):
+        for check in ("tools/test", "checks/oracle/run"):
             self.write(f"{self.top}/{check}", "#!/bin/sh\ntest -x crates/lostd/out/lostd && echo ran\n")
             os.chmod(f"{self.top}/{check}", 0o755)
         os.remove(f"{self.top}/{FILE}")
@@ -155,7 +155,7 @@ class Package(Checkout):
         self.assertIn("release/make: the checkout has changes that are not committed", self.said("release/make", 1))
         self.commit()
         said = self.said("release/make")
-        self.assertEqual(said.count("\nran\n"), 3, said)
+        self.assertEqual(said.count("\nran\n"), 2, said)
         self.assertEqual(self.git("status", "--porcelain").split(), ["??", MANIFEST, "??", FILE])
         self.assertFalse(os.path.exists(f"{self.top}/.git/lostd-release"))
         self.commit()

@@ -28,7 +28,8 @@ class NoAnswer(Exception):
 
 def question_of(finding: Finding) -> Optional[bytes]:
     """The request that asks at the place of a finding; None where it has none."""
-    if finding.service is None:
+    service = finding.asked or finding.service
+    if service is None:
         return None
     if finding.point is not None:
         place: Dict[str, Any] = {"profile": GEODETIC, "pos": list(finding.point)}
@@ -38,7 +39,7 @@ def question_of(finding: Finding) -> Optional[bytes]:
         place = {"profile": TOKEN, "token": finding.token}
     else:
         return None
-    return line_of({"findService": {"service": finding.service, "location": [{"id": "p", **place}]}}).encode()
+    return line_of({"findService": {"service": service, "location": [{"id": "p", **place}]}}).encode()
 
 
 def answer_of(reply: bytes) -> Answer:

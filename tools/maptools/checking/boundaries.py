@@ -62,6 +62,7 @@ class Boundaries:
     def __init__(self, layer: Layer, outline: Any, tolerance: float, progress: Progress) -> None:
         self.layer, self.outline, self.tolerance, self.progress = layer, outline, tolerance, progress
         self.narrow = 0
+        self.areas: Dict[int, float] = {}
 
     def identities(self, owners: Sequence[int]) -> Tuple[Any, ...]:
         """The identities of some mappings."""
@@ -82,14 +83,14 @@ class Boundaries:
         """What the outline has and no area, and the other way round."""
         held = unary_union(coverage.held)
         yield from self.open(list(polygons_in(self.outline.difference(held))))
-        for spot in self.measured(list(polygons_in(held.difference(self.outline))), lambda owners: len(owners) > 0):
+        for spot in self.measured(list(polygons_in(held.difference(self.outline))), lambda holders: len(holders) > 0):
             yield self.finding(OVERHANG, self.layer.owners_at(spot.point), [spot])
 
-    def measured(self, parts: List[Any], is_wanted: Callable[[Tuple[int, ...]], bool]) -> Iterator[Spot]:
-        """The parts with a point whose holders are as wanted, but for those within the tolerance."""
+    def measured(self, parts: List[Any], is_wanted: Callable[[List[int]], bool]) -> Iterator[Spot]:
+        """The parts with a point where the mappings of the pieces that hold it are as wanted, but for those within the tolerance."""
         for number, part in enumerate(parts):
             self.progress.tell(f"{self.layer.service}: gaps and overlaps", number, len(parts))
-            for spot in spots_in([part], lambda point: is_wanted(self.layer.owners_at(point))):
+            for spot in spots_in([part], lambda point: is_wanted(self.layer.holders_at(point))):
                 if spot.width > self.tolerance:
                     yield spot
                 else:
@@ -97,12 +98,12 @@ class Boundaries:
 
     def open(self, parts: List[Any]) -> Iterator[Finding]:
         """Gaps; narrow ones between the same mappings as one."""
-        groups: Dict[Any, List[Spot]] = {}
-        for number, spot in enumerate(self.measured(parts, lambda owners: not owners)):
+        groups: Dict[Tuple[Any, ...], List[Spot]] = {}
+        for number, spot in enumerate(self.measured(parts, lambda holders: not holders)):
             beside = owners_beside(self.layer, spot.polygon)
-            groups.setdefault((beside, spot.form) if spot.form else number, []).append(spot)
-        for spots in groups.values():
-            yield self.finding(OPEN, owners_beside(self.layer, spots[0].polygon), spots)
+            groups.setdefault((beside, spot.form or number), []).append(spot)
+        for (beside, _), spots in groups.items():
+            yield self.finding(OPEN, beside, spots)
 
     def shared(self, owners: Owners, parts: List[Any]) -> Iterator[Finding]:
         """Overlaps of the same mappings; narrow ones as one."""
@@ -121,7 +122,7 @@ class Boundaries:
 
     def own(self, owners: Owners, parts: List[Any]) -> Iterator[Finding]:
         """What two polygons of one mapping both hold."""
-        for spot in self.measured(parts, lambda holders: owners <= set(holders)):
+        for spot in self.measured(parts, lambda holders: sum(holder in owners for holder in holders) > 1):
             names = names_of(self.identities(sorted(owners)))
             text = f"two polygons of {names} both hold {extent(spot)}: they add up, so a hole must be in the ring around it"
             yield Finding("own-overlap", WARNING, self.layer.service, self.identities(sorted(owners)), text, spot.point, None, spot.area,
@@ -129,9 +130,13 @@ class Boundaries:
 
     def are_same(self, owners: Owners, area: float) -> bool:
         """Whether mappings that have an area in common have hardly any other."""
-        pieces = [piece for piece in self.layer.pieces if piece.owner in owners and not piece.area.is_empty]
-        areas = [sum(area_of(piece.area) for piece in pieces if piece.owner == owner) for owner in owners]
-        return area >= SAME * max(areas)
+        return area >= SAME * max(map(self.area_of_owner, owners))
+
+    def area_of_owner(self, owner: int) -> float:
+        """The area of all polygons of a mapping."""
+        if owner not in self.areas:
+            self.areas[owner] = sum(area_of(piece.area) for piece in self.layer.of_owner[owner] if not piece.area.is_empty)
+        return self.areas[owner]
 
     def finding(self, what: str, owners: Sequence[int], spots: List[Spot]) -> Finding:
         """What is wrong at some spots of one form."""

@@ -13,6 +13,7 @@ from maptools.checking.layers import Layer, Piece
 from maptools.checking.maps import Checked, map_of
 from maptools.checking.options import Options
 from maptools.checking.patterns import pattern_findings, token_findings
+from maptools.checking.placing import placed
 from maptools.checking.rings import all_ring_findings
 from maptools.checking.rule import holds, whole_point
 from maptools.checking.subjects import Subject, by_service, subjects_of
@@ -81,7 +82,8 @@ def findings_of(checked: Checked, options: Options, now: Moment) -> Tuple[List[F
     """All findings, without answers."""
     live = [subject for subject in checked.subjects if is_live(subject, now)]
     within = datetime.timedelta(days=options.within_days)
-    findings = [*checked.refused, *value_findings(checked.subjects, live, now, within)]
+    held = {subject.identity: subject for subject in checked.subjects}
+    findings = [*checked.refused, *placed(value_findings(checked.subjects, live, now, within), held)]
     narrow = 0
     for service, subjects in by_service(live):
         found, count = layer_findings(service, subjects, options.outline, options)

@@ -10,7 +10,9 @@ from collections import defaultdict
 from typing import Any, Dict, FrozenSet, Iterator, List, NamedTuple, Set, Tuple
 
 import numpy
+from shapely.geometry import LineString
 from shapely.ops import unary_union
+from shapely.prepared import prep
 
 from maptools.checking.areas import faces_of, lines_between, polygons_in, rings_in
 from maptools.checking.edges import leftover
@@ -18,6 +20,8 @@ from maptools.checking.layers import Layer
 
 # How near an edge is to a face for it to be beside it, and how long it is there, in units.
 BESIDE, LEAST_EDGE = 0.01, 0.5
+# How many edges of a place are looked at together.
+STRETCH = 32
 
 Owners = FrozenSet[int]
 
@@ -92,8 +96,21 @@ def parts_of(faces: List[Any]) -> List[Any]:
     return list(polygons_in(unary_union(faces))) if faces else []
 
 
+def stretches_of(place: Any) -> Iterator[Any]:
+    """The boundary of a place, in stretches of some edges: the box around a long one would be near to all areas of a map."""
+    for line in getattr(place.boundary, "geoms", [place.boundary]):
+        positions = list(line.coords)
+        for begin in range(0, len(positions) - 1, STRETCH):
+            yield LineString(positions[begin : begin + STRETCH + 1])
+
+
 def owners_beside(layer: Layer, place: Any) -> Tuple[int, ...]:
     """The mappings whose areas have an edge with a place, and more than a corner."""
-    strip = place.boundary.buffer(BESIDE, resolution=1)
-    near = {number: layer.pieces[number] for number in layer.near(strip)}
-    return tuple(sorted({piece.owner for piece in near.values() if strip.intersection(piece.area.boundary).length > LEAST_EDGE}))
+    lengths: Dict[int, float] = defaultdict(float)
+    for stretch in stretches_of(place):
+        strip = stretch.buffer(BESIDE, resolution=1)
+        is_near = prep(strip).intersects
+        for number in layer.near(strip):
+            if lengths[number] <= LEAST_EDGE and is_near(layer.pieces[number].area):
+                lengths[number] += strip.intersection(layer.pieces[number].area.boundary).length
+    return tuple(sorted({layer.pieces[number].owner for number, length in lengths.items() if length > LEAST_EDGE}))

@@ -63,7 +63,7 @@ def far_findings(layer: Layer) -> Iterator[Finding]:
             continue
         is_swapped = home.meets(extent.swapped())
         question = ": are latitude and longitude swapped? Then it is among them" if is_swapped else ""
-        parts = [piece.area for piece in layer.pieces if piece.owner == owner and piece.area.geom_type == "Polygon"]
+        parts = [piece.area for piece in layer.of_owner[owner] if piece.area.geom_type == "Polygon"]
         shown = parts or [box(extent.low[1], extent.low[0], extent.high[1], extent.high[0])]
         point = whole_point(shown[0], lambda place: owner in layer.owners_at(place))
         text = f"{subject.name} is far from all others{question}"

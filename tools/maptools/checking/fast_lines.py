@@ -9,7 +9,8 @@ from typing import Any, List, NamedTuple, Optional
 
 import numpy
 
-from maptools.desk_rules import GEODETIC, GREATEST_LATITUDE, GREATEST_LONGITUDE, MOST_POSITIONS
+from maptools.desk_rules import GEODETIC
+from maptools.rings import GREATEST_LATITUDE, GREATEST_LONGITUDE, MOST_POSITIONS
 
 RING = b'"polygon":[['
 # A ring that takes the place of one that was taken out: the number of it is its first latitude.

@@ -47,7 +47,8 @@ class Finding(NamedTuple):
     """One mistake, or what may be one.
 
     `kind` is a word of KINDS. `identities` are the mappings that it is about, for a gap those around it. `point`, in whole
-    units, `address` or `token` is a place to ask for, and `answer` what findService of `service` answers there. `geometry` is
+    units, `address` or `token` is a place to ask for, and `answer` what findService of `asked` answers there, or of `service`
+    where that is the one to ask for. `geometry` is
     the faulty area or point as a GeoJSON geometry, in degrees. `area_m2` is the area in square metres, and `width_m` the
     diameter of the greatest circle in it in metres.
     """
@@ -64,10 +65,12 @@ class Finding(NamedTuple):
     geometry: Optional[Dict[str, Any]] = None
     address: Optional[Dict[str, str]] = None
     token: Optional[str] = None
+    asked: Optional[str] = None
 
     def as_object(self) -> Dict[str, Any]:
         """The finding as --json prints it, without its geometry."""
-        places = {name: place for name, place in (("address", self.address), ("token", self.token)) if place is not None}
+        more = (("address", self.address), ("token", self.token), ("asked", self.asked))
+        places = {name: value for name, value in more if value is not None}
         return {
             "kind": self.kind,
             "severity": self.severity,

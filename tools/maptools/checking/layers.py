@@ -68,6 +68,9 @@ class Layer:
         for begin in range(0, len(rings), BATCH):
             self.pieces.extend(pieces_of(rings[begin : begin + BATCH]))
             progress.tell(f"{service}: polygons", len(self.pieces), len(rings))
+        self.of_owner: Dict[int, List[Piece]] = {}
+        for piece in self.pieces:
+            self.of_owner.setdefault(piece.owner, []).append(piece)
         self.of_area: Dict[int, int] = {id(piece.area): place for place, piece in enumerate(self.pieces)}
         self.tree = STRtree([piece.area for piece in self.pieces if not piece.area.is_empty])
 
@@ -79,9 +82,12 @@ class Layer:
         """The pieces that hold a place which is on no edge, as a geometry."""
         return [number for number in self.near(place) if self.pieces[number].area.contains(place)]
 
-    def owners_at(self, point: Point) -> Tuple[int, ...]:
-        """The mappings that hold a whole point, exactly."""
+    def holders_at(self, point: Point) -> List[int]:
+        """The mapping of each piece that holds a whole point, exactly."""
         latitude, longitude = point
         around = box(longitude - 1, latitude - 1, longitude + 1, latitude + 1)
-        owners = {self.pieces[number].owner for number in self.near(around) if holds(self.pieces[number].ring, point)}
-        return tuple(sorted(owners))
+        return [self.pieces[number].owner for number in self.near(around) if holds(self.pieces[number].ring, point)]
+
+    def owners_at(self, point: Point) -> Tuple[int, ...]:
+        """The mappings that hold a whole point, exactly."""
+        return tuple(sorted(set(self.holders_at(point))))

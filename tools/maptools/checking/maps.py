@@ -5,18 +5,18 @@ import os
 import re
 import subprocess
 import sys
-import tempfile
 from typing import Any, BinaryIO, Dict, Iterable, List, NamedTuple, Optional, Tuple
 
 from maptools.checking.fast_lines import rings_of, shortened
 from maptools.checking.findings import ERROR, Finding
 from maptools.checking.progress import Progress
-from maptools.checking.subjects import Subject, entry_of, ring_of, subject_of
+from maptools.checking.subjects import Subject, entry_of, names_of, ring_of, subject_of
 from maptools.desk_map import COMMIT, NAME_OF_LINE, fault_text
 from maptools.desk_rules import (
     EDITS, GEODETIC, Fault, Identity, apply_edit, book_fault, contents_of, empty_book, identity_of, mapping_fault, withdrawal_fault,
 )  # fmt: skip
 from maptools.lines import LONGEST_LINE, line_of, read_line
+from maptools.texts import is_id, is_source
 
 TOOL = f"{os.path.dirname(os.path.dirname(os.path.dirname(os.path.realpath(__file__))))}/geojson-to-desk"
 REQUESTS = ("findService", "listServices", "listServicesByLocation", "getServiceBoundary")
@@ -66,6 +66,13 @@ def read_mapping(line: bytes) -> Tuple[str, Any, Optional[List[Any]]]:
     return ("", None, None) if member is None else (*member, rings)
 
 
+def identities_in(value: Any) -> Tuple[Identity, ...]:
+    """The identity that an edit names, if it is one."""
+    source, source_id = (value.get("source"), value.get("sourceId")) if isinstance(value, dict) else (None, None)
+    has_texts = isinstance(source, str) and isinstance(source_id, str)
+    return (identity_of(value),) if has_texts and is_source(source) and is_id(source_id) else ()
+
+
 class MapReader:
     """Takes the lines of a map one after another, as a server does."""
 
@@ -74,10 +81,11 @@ class MapReader:
         self.subjects: Dict[Identity, Subject] = {}
         self.refused: List[Finding] = []
 
-    def refuse(self, number: int, fault: Fault, identity: Optional[Identity] = None) -> None:
-        """Takes note of a line that changes nothing."""
-        text = f"{self.path}, line {number}: {fault_text(fault)}"
-        self.refused.append(Finding("refused", ERROR, None, (identity,) if identity else (), text))
+    def refuse(self, number: int, fault: Fault, value: Any = None) -> None:
+        """Takes note of a line that changes nothing; the value is that of its edit."""
+        identities = identities_in(value)
+        whose = f"{names_of(identities)}: " if identities else ""
+        self.refused.append(Finding("refused", ERROR, None, identities, f"{self.path}, line {number}: {whose}{fault_text(fault)}"))
 
     def take(self, number: int, line: bytes) -> None:
         """Does what a line says."""
@@ -95,7 +103,7 @@ class MapReader:
         """Takes a mapping away."""
         fault = withdrawal_fault(value) or book_fault(self.book, "withdraw", value)
         if fault:
-            self.refuse(number, fault)
+            self.refuse(number, fault, value)
             return
         apply_edit(self.book, "withdraw", value)
         del self.subjects[identity_of(value)]
@@ -104,13 +112,13 @@ class MapReader:
         """Adds a mapping, or puts it in the place of another."""
         fault = mapping_fault(value)
         if fault:
-            self.refuse(number, fault)
+            self.refuse(number, fault, value)
             return
         subject = subject_of(value, rings if rings is not None else list(map(ring_of, contents_of(value, GEODETIC))))
         entry = entry_of(subject)
         fault = book_fault(self.book, kind, entry)
         if fault:
-            self.refuse(number, fault, subject.identity)
+            self.refuse(number, fault, value)
             return
         apply_edit(self.book, kind, entry)
         self.subjects[subject.identity] = subject

@@ -15,6 +15,8 @@ RADIANS = math.pi / 180 / 1e7
 METRES = RADIUS * RADIANS
 # How far the bounds of a width may be apart, as a ratio.
 CLOSE = 1.01
+# A polygon of more positions is measured without those that change its width by less than this share, at each step.
+MANY, SHARE = 1000, 0.0005
 # Metres: what is narrower is a sliver, if it is so many times as long.
 SLIVER, SLENDER = 10.0, 10.0
 
@@ -39,7 +41,7 @@ def in_metres(geometry: Any) -> Any:
 
 
 def greatest_width(polygon: Any) -> float:
-    """The diameter in metres of the greatest circle in a polygon, within one percent.
+    """The diameter in metres of the greatest circle in a polygon, within some one percent.
 
     Its radius is at least the area by the length of the boundary, and the circle has no more area than the polygon.
     """
@@ -53,6 +55,7 @@ def greatest_width(polygon: Any) -> float:
             high = middle
         else:
             low = middle
+            flat = flat.simplify(low * SHARE) if len(flat.exterior.coords) > MANY else flat
     return 2 * low
 
 

@@ -39,12 +39,13 @@ def service_findings(subjects: Sequence[Subject]) -> Iterator[Finding]:
     for service, having in sorted(groups.items()):
         meant = next((known for known in sorted(REGISTERED) if is_one_off(service, known)), None)
         if meant and service not in REGISTERED:
-            yield about("service-spelling", ERROR, having, f"{names_of_all(having)}: is {service} a misspelt {meant}?")
+            text = f"{names_of_all(having)}: is {service} a misspelt {meant}?"
+            yield about("service-spelling", ERROR, having, text)._replace(asked=meant)
     own = [service for service in groups if service not in REGISTERED and not any(is_one_off(service, known) for known in REGISTERED)]
     for one, other in one_off_pairs(own):
         rare, usual = sorted((one, other), key=lambda service: (len(groups[service]), service))
         text = f"{names_of_all(groups[rare])}: is {rare} a misspelt {usual}? They are one letter apart"
-        yield about("service-spelling", WARNING, groups[rare], text)
+        yield about("service-spelling", WARNING, groups[rare], text)._replace(asked=usual)
 
 
 def names_of_all(subjects: Iterable[Subject]) -> str:

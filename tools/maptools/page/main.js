@@ -32,6 +32,7 @@ class Page {
     this.view = { map, narrowing, services: new Set(), isShown: (number) => this.view.services.has(this.view.map.mappings[number].service) };
     this.asked = null;
     this.edition = null;
+    this.digest = null;
     this.turn = 0;
     this.leaflet = this.newLeaflet(plane, boundsOf(box));
     this.boundaries = new Boundaries(this.view).addTo(this.leaflet);
@@ -68,7 +69,8 @@ class Page {
   takeMap(map) {
     this.view.map = map;
     const rings = `${counted(map.rings, "polygon")}, ${counted(map.starts[map.rings], "position")}`;
-    byId("about").textContent = `${map.file}: ${counted(map.mappings.length, "mapping")}, ${rings}. ${map.notes.join(". ")}`;
+    const parts = [`${map.file}: ${counted(map.mappings.length, "mapping")}, ${rings}`, ...map.notes, `Digest ${map.digest}`];
+    byId("about").textContent = `${parts.join(". ")}.`;
     showServices(this);
     showFindings(this);
     showResults(this, byId("search").value);
@@ -213,9 +215,10 @@ class Page {
 
   /** Goes to a finding, and asks there. */
   visit(finding) {
-    if (finding.service && serviceOf(finding.service)) {
-      byId("service").value = finding.service;
-      this.draw(finding.service, true);
+    const service = finding.asked || finding.service;
+    if (service && serviceOf(service)) {
+      byId("service").value = service;
+      this.draw(service, true);
       showServices(this);
     }
     if (!finding.point) {
@@ -250,10 +253,13 @@ class Page {
     byId("print").replaceChildren(canvas);
   }
 
-  /** Shows which edition the server answered from. */
-  showEdition(edition) {
+  /** Shows which edition the server answered from, and the digest of its map where that is known. */
+  showEdition(edition, digest) {
+    this.digest = digest ?? (edition === this.edition ? this.digest : null);
     this.edition = edition;
-    byId("edition").textContent = `Server ${this.view.map.server}, edition ${edition ?? "unknown"}`;
+    const { server, digest: own } = this.view.map;
+    const tail = this.digest ? `, digest ${this.digest}${this.digest === own ? "" : ": not the map of this page"}` : "";
+    byId("edition").textContent = `Server ${server}, edition ${edition ?? "unknown"}${tail}`;
   }
 
   /** Looks again and again whether the file or the server's map has changed. */
@@ -272,14 +278,15 @@ class Page {
   async lookAgain() {
     const state = await (await fetched("state")).json();
     const isOtherFile = state.version !== this.view.map.version;
-    const isOtherEdition = state.edition !== null && this.edition !== null && state.edition !== this.edition;
+    const isOtherMap = state.edition !== this.edition || (this.digest !== null && state.digest !== this.digest);
+    const isOtherEdition = state.edition !== null && this.edition !== null && isOtherMap;
     if (isOtherFile) {
       this.takeMap(unpacked(await unzipped(new Uint8Array(await (await fetched("map")).arrayBuffer()))));
     }
     if (state.edition === null) {
       byId("edition").textContent = `Server ${this.view.map.server}: ${state.fault}`;
     } else {
-      this.showEdition(state.edition);
+      this.showEdition(state.edition, state.digest);
     }
     if ((isOtherFile || isOtherEdition) && this.asked) {
       await this.ask(this.asked);
