@@ -18,7 +18,10 @@ UNEXPECTED = [
     ("map-page", ["--findngs", "found.json"], "--findngs", "--findings"),
     ("lost-client find", ["--sevice", "urn:service:sos"], "--sevice", "--service"),
     ("lost-client desk", ["--dryrun", "map.jsonl"], "--dryrun", "--dry-run"),
+    ("lost-feed publish", ["--log", "x", "--eech", "map.jsonl"], "--eech", "--each"),
+    ("lost-feed follow", ["--log", "x", "--most-behnd", "5"], "--most-behnd", "--most-behind"),
     ("lost-gateway", ["--lisen", "127.0.0.1:8080"], "--lisen", "--listen"),
+    ("postgis-to-desk", ["districts", "--folow", "districts"], "--folow", "--follow"),
     ("map-page", ["--nothing-like-it"], "--nothing-like-it", ""),
     ("desk-to-geojson", ["a.jsonl", "b.jsonl"], "b.jsonl", ""),
 ]

@@ -73,8 +73,8 @@ class DeskServer:
     """A server that serves desks one after another, by the rules that the tools have. What a desk did not commit is dropped.
 
     `heard` has the lines of each connection. A line that `interrupt` names ends the connection without a reply. Over HTTP it tells
-    its map, and how often; if `lies` says something, that is the digest. What `meanwhile` has becomes its book once it has told it. `before_lines` is done once, before the next
-    desk's first line.
+    its map, and how often; if `lies` says something, that is the digest. What `meanwhile` has becomes its book once it has told it.
+    `before_lines` is done once, before the next desk's first line.
     """
 
     def __init__(self, path: str) -> None:

@@ -99,9 +99,21 @@ class Publishing(unittest.TestCase):
         self.assertEqual([one[:31] for one in told], ["file, line 3: refused with code", "file, line 6: refused with code", "nothing was published"])
         self.assertEqual(self.rows(), [])
 
+    def test_of_many_refused_lines_20_are_named(self) -> None:
+        with self.assertRaises(Stopped) as stopped:
+            self.publish(publish_all, *["faulty"] * 300, COMMIT)
+        told = str(stopped.exception).splitlines()
+        self.assertEqual([one.partition(":")[0] for one in told[:20]], [f"file, line {number}" for number in range(1, 21)])
+        self.assertEqual(told[20:], ["280 more lines with like faults, the last of them file, line 300", "nothing was published"])
+
     def test_a_file_that_does_not_end_with_a_commit(self) -> None:
-        with self.assertRaisesRegex(Stopped, "file: its last line is not a commit"):
+        with self.assertRaisesRegex(Stopped, "file: its last line is not a commit; add one, to show that the file is whole$"):
             self.publish(publish_all, "a", COMMIT, "b")
+        self.assertEqual(self.rows(), [])
+
+    def test_geojson_is_told_from_a_file_without_a_commit(self) -> None:
+        with self.assertRaisesRegex(Stopped, "is not a commit; .*: if this is GeoJSON, geojson-to-desk makes desk lines of it$"):
+            self.publish(publish_all, "{", '"type": "FeatureCollection",', '"features": []}')
         self.assertEqual(self.rows(), [])
 
     def test_two_publishers_from_one_edition(self) -> None:
@@ -143,7 +155,7 @@ class Publishing(unittest.TestCase):
                 Judge(lostd(), file.name)
 
     def test_no_judge(self) -> None:
-        with self.assertRaisesRegex(Broken, "--lostd: /nothing is no program"):
+        with self.assertRaisesRegex(Broken, "--lostd: /nothing is not a program"):
             Judge("/nothing", "map")
         self.assertRaisesRegex(Broken, "did not begin: it says nothing", Judge, "/bin/true", "map")
 

@@ -36,7 +36,7 @@ class Judge:
         if program is None:
             raise Broken(NO_PROGRAM)
         if not os.access(program, os.X_OK) or os.path.isdir(program):
-            raise Broken(f"--lostd: {program} is no program")
+            raise Broken(f"--lostd: {program} is not a program")
         self.folder = tempfile.TemporaryDirectory(prefix="lost-feed-")
         self.desk, self.status, queries = (Unix(f"{self.folder.name}/{name}") for name in ("desk", "status", "queries"))
         self.talk: Optional[Talk] = None

@@ -1,4 +1,4 @@
-"""How far a server is, for whoever asks: the balancer, Prometheus, and the follower itself."""
+"""How far a server is, for all who ask: the balancer, Prometheus, and the follower itself."""
 from __future__ import annotations
 
 import time

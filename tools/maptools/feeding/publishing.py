@@ -7,8 +7,10 @@ import sys
 import time
 from typing import Any, BinaryIO, Callable, Iterator, List, NamedTuple, Tuple
 
+from maptools.alike import say_lines
 from maptools.connection import Broken
 from maptools.desk_map import COMMIT, NAME_OF_LINE
+from maptools.desk_reading import geojson_hint
 from maptools.feeding.database import first_line, psycopg2
 from maptools.feeding.judge import Judge
 from maptools.feeding.log import Commit, Log, Taken
@@ -59,7 +61,8 @@ def groups_of(file: BinaryIO, name: str) -> Iterator[Group]:
         yield Group(first, lines)
         first, lines = number + 1, []
     if lines:
-        raise Stopped(f"{name}: its last line is not a commit; add one, to show that the file is whole")
+        hint = geojson_hint(b"".join(lines))
+        raise Stopped(f"{name}: its last line is not a commit; add one, to show that the file is whole{hint}")
 
 
 class Judging:
@@ -86,7 +89,9 @@ class Judging:
     def need_clean(self) -> None:
         """Stopped where lines were refused."""
         if self.complaints:
-            raise Stopped("\n".join([*self.complaints, NOTHING]))
+            said: List[str] = []
+            say_lines(self.complaints, said.append)
+            raise Stopped("\n".join([*said, NOTHING]))
 
 
 class Publisher:

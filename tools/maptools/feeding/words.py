@@ -6,10 +6,10 @@ from typing import Any, List, Tuple
 
 from maptools.addresses import address, server_of, tcp_of
 from maptools.client_words import number_argument, seconds_argument
+from maptools.command_line import CommandLine
 from maptools.feeding.schema import FOLLOWER, PUBLISHER
 from maptools.installed import add_version
 
-RAW = argparse.RawDescriptionHelpFormatter
 MOST_BEHIND = 10.0
 URL = "the database of the log: postgresql://USER@HOST/DATABASE, or several hosts with commas between them"
 EXAMPLES = """examples:
@@ -19,13 +19,14 @@ EXAMPLES = """examples:
   lost-feed status --log postgresql://localhost/lost
   lost-feed snapshot --log postgresql://localhost/lost > log.jsonl
 """
-INIT = f"""Makes the tables of the log in a database of PostgreSQL, and the roles {PUBLISHER} and {FOLLOWER}. Whoever is in the
-first may add commits, whoever is in the second may read them and write down how far a server is. Nobody may change or remove
-a commit. If the log is there already, nothing changes.
+INIT = f"""Makes the tables of the log in a database of PostgreSQL, and the roles {PUBLISHER} and {FOLLOWER}. Members of
+the first may add commits; members of the second may read them, and write down how far a server is. Nobody may change or
+remove a commit. If the log is there already, nothing changes.
 """
 PUBLISH = """Publishes the desk lines of FILE: each commit becomes a row of the log, all of them or none. A lostd of its own, which
 holds what the log says, judges every line first, and says the edition and the digest that each commit makes. Standard error
-names each refused line; then nothing is published, and the status is 3. So it is where somebody else published meanwhile.
+names each refused line; of many with like faults it names 20, and counts the rest. Then nothing is published, and the status
+is 3. So it is where somebody else published meanwhile.
 
 With --state the log's lines are kept in FOLDER between calls, so that the next one reads only what is new. With --each every
 commit is published as soon as it comes, and a line on standard output says so: FILE may be a pipe that stays open.
@@ -58,9 +59,9 @@ def listen_argument(text: str) -> Any:
     return tcp_of(text if host else f"0.0.0.0:{port}")
 
 
-def add_command(commands: Any, name: str, about: str, description: str) -> argparse.ArgumentParser:
+def add_command(commands: Any, name: str, about: str, description: str) -> CommandLine:
     """A subcommand, which takes the log."""
-    words = commands.add_parser(name, help=about, description=description, formatter_class=RAW)
+    words = commands.add_parser(name, help=about, description=description)
     words.add_argument("--log", required=True, metavar="URL", help=URL)
     return words
 
@@ -84,9 +85,9 @@ def add_follow(commands: Any) -> None:
     words.add_argument("--most-apart", help="/health fails if the log cannot be reached for longer; without it, never", **seconds)
 
 
-def parser(description: str) -> argparse.ArgumentParser:
+def parser(description: str) -> CommandLine:
     """The command line."""
-    words = argparse.ArgumentParser(prog="lost-feed", description=description, epilog=EXAMPLES, formatter_class=RAW)
+    words = CommandLine(prog="lost-feed", description=description, epilog=EXAMPLES)
     commands = words.add_subparsers(dest="command", required=True, metavar="COMMAND")
     add_command(commands, "init", "make the log in a database", INIT)
     publish = add_command(commands, "publish", "add the commits of a file of desk lines to the log", PUBLISH)
