@@ -37,7 +37,7 @@ def as_owner():
 
 
 def owned_folder():
-    """A new folder that belongs to who runs the server."""
+    """A new folder that belongs to the user who runs the server."""
     folder = tempfile.mkdtemp(prefix="check-replicas-")
     if os.geteuid() == 0:
         owner = pwd.getpwnam(OWNER)

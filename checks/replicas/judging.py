@@ -8,7 +8,7 @@ MOST_SHOWN = 5
 def lost_commits(told, rows):
     """The commits that the publisher was told of and the log has not."""
     held = {row[0]: tuple(row) for row in rows}
-    return [f"edition {one.edition} was told, and the log has it not" for one in told if held.get(one.edition) != (one.edition, one.map, one.lines)]
+    return [f"edition {one.edition} was told, and the log does not have it" for one in told if held.get(one.edition) != (one.edition, one.map, one.lines)]
 
 
 def is_odd(odd, edition, *moments, name=None):

@@ -98,7 +98,7 @@ def measure_commits(program, folder, count):
 
 
 def map_file(folder):
-    """A file with a map, and one with questions and their replies, as load.c reads them."""
+    """The path of a file with a map."""
     history, path = History(1), f"{folder}/map.jsonl"
     with open(path, "wb") as file:
         file.write(b"".join(history.edit().encode() + b"\n" for _ in range(EDITS)) + COMMIT + b"\n")
@@ -147,8 +147,8 @@ def measure(program):
     for count in FOLLOWERS:
         with tempfile.TemporaryDirectory(prefix="check-replicas-") as folder:
             found = measure_commits(program, folder, count)
-        print(f"{count} followers: half of {SINGLES} commits are everywhere within {1000 * found.wait:.0f} ms; {COMMITS:,} commits one behind the "
-              f"other: {found.published:.0f} a second are published, {found.arrived:.0f} a second are everywhere; a commit of "
+        print(f"{count} followers: half of {SINGLES} commits are everywhere within {1000 * found.wait:.0f} ms; {COMMITS:,} commits one after "
+              f"another: {found.published:.0f} a second are published, {found.arrived:.0f} a second are everywhere; a commit of "
               f"{found.size} bytes sends {found.sent:.0f} bytes to a standby", flush=True)
     with tempfile.TemporaryDirectory(prefix="check-replicas-") as folder:
         one, four = measure_questions(program, folder)

@@ -105,7 +105,7 @@ class Following(Feeding):
         follower.catch_up(log)
         follower.is_verified = False
         self.assertEqual(health_of(follower.level)[0], 200)
-        with self.assertRaisesRegex(Stopped, f"from edition 3 on|edition 2, if not before: it holds edition 2, .* edition 2 with map {digest(A, C)}"):
+        with self.assertRaisesRegex(Stopped, f"at edition 2, if not before: it holds edition 2, .* edition 2 with map {digest(A, C)}"):
             follower.look(MemoryLog(commits_of(A, C)))
 
     def test_a_line_that_is_refused(self) -> None:
