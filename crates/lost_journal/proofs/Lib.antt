@@ -1,0 +1,5 @@
+pub mod BodyLemmas
+pub mod FrontLemmas
+pub mod OutcomeLemmas
+pub mod ReadingLemmas
+pub mod SettledLemmas
