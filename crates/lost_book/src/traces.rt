@@ -1,5 +1,5 @@
 //! The remembered stamps of withdrawn identities.
-ghost use Rattle.std.specs.Prelude.{◌≡◌, [], length, IfOk, OnOk, OnErr};
+ghost use Rattle.std.specs.Prelude.{◌≡◌, ◌<◌, [], length, slice_get, Some, IfOk, OnOk, OnErr};
 ghost use Rattle.std.specs.Option.{option_copied};
 ghost use Rattle.lost_spec.specs.Book.{stamp_of_trace, with_trace, without_trace};
 
@@ -48,6 +48,17 @@ impl Traces {
         ensures { option_copied result ≡ stamp_of_trace self.now identity.now }
     {
         self.stamps.get(identity)
+    }
+
+    /// The identity and the stamp at a position, which is below `len`. It takes no memory.
+    pub fn at(&self, position: usize) -> (&Identity, &Stamp)
+        requires { position < length self.now }
+        ensures { slice_get self.now position ≡ Some (result.0.now, result.1.now) }
+    {
+        match self.stamps.get_index(position) {
+            Some(trace) => trace,
+            None => unreachable!(),
+        }
     }
 
     /// Remembers a withdrawal. If memory is refused, nothing changes.

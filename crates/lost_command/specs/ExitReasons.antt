@@ -4,9 +4,9 @@ use Rattle.lost_spec.specs.Text.{Text, first_fault}
 use Rattle.lost_spec.specs.Mapping.{is_source}
 use Rattle.lost_spec.specs.Moment.{is_stamp}
 use Rattle.lost_command.specs.declared.exit_reason.ExitReason.{ExitReason}
-use Rattle.lost_command.specs.declared.exit_reason.ExitReason.TheVariants.{Words, CommandLine, Name, Now, Address, Run, Workers, Accept, Found, NoEdits, File, MapRefused}
+use Rattle.lost_command.specs.declared.exit_reason.ExitReason.TheVariants.{Words, CommandLine, Name, Now, Address, Run, Workers, Accept, Found, NoEdits, File, MapRefused, Damaged}
 
--- 1 for a fault of the run, 2 for a mistake on the command line, 3 for what a check found, or what is wrong with a map (own)
+-- 1 for a fault of the run, 2 for a mistake on the command line, 3 for what a check found, or what is wrong with a map or a journal (own)
 abbrev pub reason_status : ExitReason → ℕ
 reason_status Words = 2
 reason_status CommandLine = 2
@@ -20,6 +20,7 @@ reason_status Found = 3
 reason_status NoEdits = 2
 reason_status File = 1
 reason_status MapRefused = 3
+reason_status Damaged = 3
 
 -- 0 where all went well (own)
 abbrev pub status_of : Result (Unit {0}) ExitReason → ℕ

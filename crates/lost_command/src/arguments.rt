@@ -6,7 +6,7 @@ const HELP: &str =
     "Examples:\n  lostd replay --name lost.example --now 2026-01-01T00:00:00Z < examples/one-mapping.jsonl\n  \
 lostd check examples/one-mapping.jsonl\n  \
 lostd serve --name lost.example --queries 127.0.0.1:5222 --desk 127.0.0.1:5223 --workers 4 --connections 1000\n\n\
-`lostd replay --help`, `lostd check --help` and `lostd serve --help` explain the arguments and the exit status.";
+`lostd COMMAND --help` explains the arguments and the exit status.";
 
 const REPLAY_HELP: &str =
     "Each line of standard input is one JSON object. Desk lines (`publish`, `replace`, `withdraw`, `commit`) change \
@@ -28,10 +28,49 @@ edition=E`: how many lines it read, how many of them would be refused or answere
 check because memory ran out, and how many edits would be published. Of several files each is checked by itself, \
 behind a line with its name. If standard error is a terminal, it shows its \
 progress there, every 100,000 lines.\n\n\
+With --journal FILE it reads a server's journal as the server does at its start, and changes nothing; the server may \
+run meanwhile. It prints `done lines=L edition=E mappings=M map=D dropped=B`: how many lines are kept, how many edits are \
+published and how many mappings held by them, the digest of that map, and how many bytes, which a crash left behind \
+the last commit, the server would drop. If the journal is damaged, standard error gives the line, its offset in bytes \
+and the cause.\n\n\
 Example:\n  lostd check examples/one-mapping.jsonl\n\n\
 Exit status: 0 if all lines are good; 1 if a file cannot be read, standard input or output fails, the input has more lines than --lines \
 allows, or memory runs out at the start; 2 for a mistake on the command line; 3 if a line would be refused or answered \
-`badRequest`, or could not be checked.";
+`badRequest`, or could not be checked, and if a journal is damaged.";
+
+const COMPACT_HELP: &str =
+    "It reads a server's journal as `lostd check --journal` does, and writes to standard output a journal that keeps the \
+same map and the same withdrawals in one commit. Its map has the same digest; its edition begins again, at two for each \
+withdrawal and one for each mapping. Standard error gives both editions and digests.\n\n\
+Stop the server first: what it commits meanwhile is not in the new journal. Then put the new file in the place of the \
+old one, and start the server.\n\n\
+Example:\n  lostd compact --journal lost.journal > new.journal\n\n\
+Exit status: 0 if the new journal is whole; 1 if the journal cannot be read, standard output fails, a line would be \
+longer than a line may be, or memory runs out; 2 for a mistake on the command line; 3 if the journal is damaged.";
+
+const AUDIT_HELP: &str =
+    "It reads a log of answers (`lostd serve --log`) from standard input, and the server's journal beside it. Each question \
+is answered again from the book of the edition that its line names, at its moment. A line on standard output names each \
+reply that is another one, with the right reply, and each line that cannot be judged. At the end it prints `done lines=L \
+differ=D unjudged=U internalError=I leftOut=O edition=E`: the lines of the log, the replies that differ, the lines that \
+were not judged, the replies that were internalError, which nothing can judge, the answers that the log itself says it \
+left out, and the last edition that was reached.\n\n\
+The lines of a log are in order of time, and nearly so of editions: 65,536 lines wait to be judged in order. A line that \
+comes later than that is not judged; sort such a log first:\n  \
+sort -s -t, -k2.11,2n answers.log | lostd audit --journal lost.journal --name lost.example\n\n\
+With digests of replies in the log the right reply is told, and of the one that was given its digest.\n\n\
+Example:\n  lostd audit --journal lost.journal --name lost.example < answers.log\n\n\
+Exit status: 0 if each reply is right; 1 if the journal cannot be read, standard input or output fails, or memory runs \
+out; 2 for a mistake on the command line; 3 if a reply differs or a line was not judged, or the journal is damaged.";
+
+const EXPLAIN_HELP: &str =
+    "It reads a server's journal up to the commit that made the edition, and answers the request lines of standard input \
+from the book of that edition at the time of --now, as the server of this name would have. Without --edition it is the \
+edition that was published at that time, by the times in the journal's commits. Each line gets one line of reply.\n\n\
+Example:\n  \
+echo '{\"listServices\":{}}' | lostd explain --journal lost.journal --name lost.example --now 2026-01-01T00:00:00Z\n\n\
+Exit status: 0 at the end of the input; 1 if the journal cannot be read or has no such edition, standard input or output \
+fails, or memory runs out; 2 for a mistake on the command line; 3 if the journal is damaged.";
 
 const SERVE_HELP: &str =
     "The server reads its map, if it has one, then listens and prints `ready`. Query connections send requests \
@@ -39,8 +78,18 @@ const SERVE_HELP: &str =
 (`publish`, `replace`, `withdraw`, `commit`). Each line is one JSON object and gets one line of reply.\n\n\
 The map is a file of desk lines; `-` is standard input. For each refused line, standard error gives the number, the \
 code and the cause, as `lostd check` does. If a line is refused, or no commit follows the last edit, the server ends \
-with status 3 before it listens. With --keep-going it starts with the edits that were accepted and committed. The \
-server saves nothing: give it its map at each start.\n\n\
+with status 3 before it listens. With --keep-going it starts with the edits that were accepted and committed. \
+Without --journal the server saves nothing: give it its map at each start.\n\n\
+--journal FILE keeps what desks commit: each commit is on the disk before its desk reads `committed` and before any \
+reply goes by it, and at the next start the server publishes what the file keeps before it listens. With --map it \
+begins a new journal with that map; beside a journal that keeps edits, a map is not read, and the server ends with \
+status 2. At least one of --desk, --map and --journal must be given. The journal is a file of desk lines, which `lostd \
+check` and --map read too. Bytes that a crash left behind the last commit are dropped; anything else wrong is damage, \
+which ends the server with status 3, and the file stays as it is.\n\n\
+--log FILE adds a line for each request line that is answered, with the moment and the edition that the answer went by, \
+so that `lostd audit` can judge the answer again years later. One thread writes it, and no answer waits for it: where \
+the file takes too few lines, the others are left out, and a line says how many and between which times. Rotate it by copying and cutting it. It holds locations of callers: only \
+its owner may read it.\n\n\
 Without --connections the server runs until a signal ends it. Desks are served one after another: a second desk waits \
 until the first has ended. A desk is disconnected if it sends no whole line in the first 10 seconds of its turn; if, \
 while another waits, it sends no whole line or takes no reply for 10 seconds; or if it speaks TLS. Edits \
@@ -64,9 +113,9 @@ GET /status gives one JSON object.\n\n\
 Example, with a query from another shell:\n  \
 lostd serve --name lost.example --map examples/maps/two-districts.jsonl --queries 127.0.0.1:5222 --workers 4\n  \
 echo '{\"listServices\":{}}' | nc -N 127.0.0.1 5222\n\n\
-Exit status: 0 when all connections have ended; 1 if the map cannot be read, an address cannot be used, no connection \
+Exit status: 0 when all connections have ended; 1 if the map cannot be read, the journal cannot be opened or is in use, an address cannot be used, no connection \
 can be accepted, standard output fails, or memory runs out outside the connections; 2 for a mistake on the command \
-line; 3 if a line of the map is refused or not committed. SIGINT, SIGTERM and SIGHUP end the server at once.";
+line, or a map beside a journal that keeps edits; 3 if a line of the map is refused or not committed, or the journal is damaged. SIGINT, SIGTERM and SIGHUP end the server at once.";
 
 /// The whole command line, of the program of this version.
 pub(crate) fn command<'a>(alloc: Global, version: &'static str) -> Result<Command<'a>, Error> {
@@ -79,7 +128,10 @@ pub(crate) fn command<'a>(alloc: Global, version: &'static str) -> Result<Comman
         .subcommand_required(true)
         .subcommand(replay_command(alloc)?)?
         .subcommand(check_command(alloc)?)?
-        .subcommand(serve_command(alloc)?)?;
+        .subcommand(serve_command(alloc)?)?
+        .subcommand(compact_command(alloc)?)?
+        .subcommand(audit_command(alloc)?)?
+        .subcommand(explain_command(alloc)?)?;
     Ok(command)
 }
 
@@ -124,7 +176,54 @@ fn check_command<'a>(alloc: Global) -> Result<Command<'a>, Error> {
             alloc,
             "quiet",
             "Prints only the counts, without the lines that would be refused",
-        ))?;
+        ))?
+        .arg(journal_argument(
+            alloc,
+            "Checks the journal of a server in place of desk lines and requests",
+        )
+        .conflicts_with("files")?)?;
+    Ok(command)
+}
+
+/// `lostd audit`.
+fn audit_command<'a>(alloc: Global) -> Result<Command<'a>, Error> {
+    let command = Command::new(alloc, "audit")
+        .about("Judges the answers of a log again, from the journal of the server that gave them")
+        .after_help(AUDIT_HELP)
+        .arg(journal_argument(alloc, "The journal of the server").required(true))?
+        .arg(name_argument(alloc))?;
+    Ok(command)
+}
+
+/// `lostd explain`.
+fn explain_command<'a>(alloc: Global) -> Result<Command<'a>, Error> {
+    let command = Command::new(alloc, "explain")
+        .about("Answers the requests on standard input as of an edition of a server's journal")
+        .after_help(EXPLAIN_HELP)
+        .arg(journal_argument(alloc, "The journal of the server").required(true))?
+        .arg(number_argument(alloc, "edition", "The edition: 0 to 4294967295").value_parser(
+            value_parser!(u32).range(0..),
+        ))?
+        .arg(name_argument(alloc))?
+        .arg(now_argument(alloc))?;
+    Ok(command)
+}
+
+/// `lostd compact`.
+fn compact_command<'a>(alloc: Global) -> Result<Command<'a>, Error> {
+    let command = Command::new(alloc, "compact")
+        .about("Writes a server's journal anew, with the map that it keeps in one commit")
+        .after_help(COMPACT_HELP)
+        .arg(journal_argument(alloc, "The journal to read").required(true))?
+        .arg(
+            Arg::new(alloc, "drop-expired")
+                .long("drop-expired")
+                .value_name("TIME")
+                .action(ArgAction::Set)
+                .help(
+                    "Leaves out mappings that have expired at this time, in UTC, such as 2026-01-01T00:00:00Z",
+                ),
+        )?;
     Ok(command)
 }
 
@@ -135,6 +234,12 @@ fn serve_command<'a>(alloc: Global) -> Result<Command<'a>, Error> {
         .after_help(SERVE_HELP)
         .arg(name_argument(alloc))?
         .arg(map_argument(alloc))?
+        .arg(journal_argument(
+            alloc,
+            "The file that keeps the edits of desks: each commit is on the disk before the desk is told; a file that is not there is made",
+        ))?
+        .arg(log_argument(alloc))?
+        .arg(log_replies_argument(alloc))?
         .arg(flag_argument(
             alloc,
             "keep-going",
@@ -144,7 +249,7 @@ fn serve_command<'a>(alloc: Global) -> Result<Command<'a>, Error> {
         .arg(address_argument(
             alloc,
             "desk",
-            "The address for desk lines, from one desk at a time; with --map you may leave it out",
+            "The address for desk lines, from one desk at a time; with --map or --journal you may leave it out",
         ))?
         .arg(address_argument(
             alloc,
@@ -214,6 +319,34 @@ fn map_argument<'a>(alloc: Global) -> Arg<'a> {
         .help(
             "The file of desk lines that the server reads before it listens, of any length; - is standard input",
         )
+}
+
+fn journal_argument<'a>(alloc: Global, help: &'static str) -> Arg<'a> {
+    Arg::new(alloc, "journal")
+        .long("journal")
+        .value_name("FILE")
+        .action(ArgAction::Set)
+        .help(help)
+}
+
+fn log_argument<'a>(alloc: Global) -> Arg<'a> {
+    Arg::new(alloc, "log")
+        .long("log")
+        .value_name("FILE")
+        .action(ArgAction::Set)
+        .help(
+            "The file that gets a line for each request line that is answered; see `lostd audit --help`",
+        )
+}
+
+fn log_replies_argument<'a>(alloc: Global) -> Arg<'a> {
+    Arg::new(alloc, "log-replies")
+        .long("log-replies")
+        .value_name("WHAT")
+        .action(ArgAction::Set)
+        .value_parser(["whole", "digest", "none"].as_slice())
+        .default_value("digest")
+        .help("What the log keeps of replies: their texts, digests of them, or nothing")
 }
 
 fn queries_argument<'a>(alloc: Global) -> Arg<'a> {

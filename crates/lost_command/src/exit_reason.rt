@@ -15,7 +15,7 @@ const RUN_FAULT: u8 = 1;
 /// The status of a mistake on the command line.
 const COMMAND_LINE: u8 = 2;
 
-/// The status of a check that reported a line, and of a server whose map has such a line.
+/// The status of a check that reported a line, and of a server whose map has such a line or whose journal is damaged.
 const FOUND: u8 = 3;
 
 /// Why the program ends early (own rule).
@@ -39,12 +39,14 @@ pub enum ExitReason {
     Accept,
     /// A check found lines that would be refused or not answered, which was reported already.
     Found,
-    /// A server is given neither a desk nor a map.
+    /// A server is given no desk, no map and no journal.
     NoEdits,
-    /// A file could not be read, which was reported already.
+    /// A file could not be read or written, which was reported already.
     File,
     /// Lines of a map were refused or not committed, which was reported already.
     MapRefused,
+    /// A journal is damaged, which was reported already.
+    Damaged,
 }
 
 impl ExitReason {
@@ -71,7 +73,8 @@ impl ExitReason {
             | ExitReason::Address
             | ExitReason::Found
             | ExitReason::File
-            | ExitReason::MapRefused => "",
+            | ExitReason::MapRefused
+            | ExitReason::Damaged => "",
             ExitReason::Name => {
                 "is not a server name: it must have 1 to 253 characters, in labels of letters, digits and hyphens joined by single dots, such as lost.example"
             }
@@ -87,13 +90,13 @@ impl ExitReason {
             ExitReason::Workers => "there must be 1 to 64 workers",
             ExitReason::Accept => "no more connections could be accepted",
             ExitReason::NoEdits => {
-                "--desk and --map are both missing: a server gets its boundaries from a desk, a map or both; see `lostd serve --help`"
+                "--desk, --map and --journal are all missing: a server gets its boundaries from a desk, a map or a journal; see `lostd serve --help`"
             }
         }
     }
 
-    /// The exit status: 1 for a fault of the run, 2 for a mistake on the command line, 3 for what a check found or a
-    /// fault in a map's lines (own rule).
+    /// The exit status: 1 for a fault of the run, 2 for a mistake on the command line, 3 for what a check found, a
+    /// fault in a map's lines or a damaged journal (own rule).
     pub fn status(self) -> u8
         ensures { result ≡ reason_status self }
     {
@@ -103,7 +106,7 @@ impl ExitReason {
             | ExitReason::Workers
             | ExitReason::Accept
             | ExitReason::File => RUN_FAULT,
-            ExitReason::Found | ExitReason::MapRefused => FOUND,
+            ExitReason::Found | ExitReason::MapRefused | ExitReason::Damaged => FOUND,
             _ => COMMAND_LINE,
         }
     }

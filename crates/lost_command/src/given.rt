@@ -44,8 +44,8 @@ pub fn server_name(alloc: Global, text: &str) -> Result<Source, ExitReason>
     }
 }
 
-/// The moment of every answer.
-fn moment_of(alloc: Global, text: &str) -> Result<Moment, ExitReason>
+/// The moment that a text says.
+pub(crate) fn moment_of(alloc: Global, text: &str) -> Result<Moment, ExitReason>
     ensures value { IfOk result (λ moment. option_map (λ stamp. stamp.moment) (read_stamp text.now) ≡ Some moment) }
     ensures bad { (result ≡ Err ExitReason.Now) ↔ (is_stamp text.now ≡ false) }
     ensures refused { IfErr result (λ reason. reason ≢ ExitReason.Now → reason ≡ ExitReason.Run ServeError.Memory) }

@@ -1,5 +1,5 @@
 //! The command line of `lostd` (own rules): its words are read and judged, `replay` and `check` run over standard input,
-//! output and files, and `serve` is ordered. An early end is one line on standard error, and the exit status.
+//! output and files, and what needs a server or a journal is ordered. An early end is one line on standard error, and the exit status.
 #![tactic(auto)]
 
 mod arguments;
@@ -18,6 +18,6 @@ mod summary;
 pub use exit_reason::ExitReason;
 pub use given::{begin, server_name};
 pub use opening::opening_failed;
-pub use order::ServeOrder;
+pub use order::{AuditOrder, ExplainOrder, LogReplies, Order, ServeOrder};
 pub use outcome::{check_outcome, end, replay_outcome};
 pub use running::run;

@@ -1,10 +1,66 @@
-//! `lostd serve`: a server's settings.
+//! What the command line orders of the caller: a server's settings, or what to do with a journal.
 use crate::exit_reason::ExitReason;
-use crate::given::server_name;
-use crate::replaying::said_of;
+use crate::given::{moment_of, server_name};
+use crate::replaying::{begun, said_of, said_of_time};
 use clap::ArgMatches;
-use lost_mapping::Source;
+use lost_mapping::{Moment, Source};
 use lost_sockets::{Addresses, mode_of};
+
+/// What the command line orders of the caller (own rule).
+#[derive(Drop)]
+pub enum Order<'a> {
+    /// To serve connections.
+    Serve(ServeOrder<'a>),
+    /// To check the journal at this path, as it was given.
+    CheckJournal(&'a str),
+    /// To write the journal at this path anew, without the mappings that have expired at a moment, if there is one.
+    Compact(&'a str, Option<Moment>),
+    /// To audit the log of answers on standard input.
+    Audit(AuditOrder<'a>),
+    /// To answer the requests on standard input as of an edition of a journal.
+    Explain(ExplainOrder<'a>),
+}
+
+/// What the log of answers keeps of replies (own rule).
+#[derive(Clone, Copy, PartialEq, Eq, Debug)]
+pub enum LogReplies {
+    /// Their texts.
+    Whole,
+    /// Digests of their texts.
+    Digest,
+    Nothing,
+}
+
+/// What the arguments say the log keeps of replies.
+fn log_replies_of(given: &ArgMatches<'_>) -> LogReplies {
+    match given.get_str("log-replies") {
+        Some("whole") => LogReplies::Whole,
+        Some("none") => LogReplies::Nothing,
+        _ => LogReplies::Digest,
+    }
+}
+
+/// A log to be audited (own rule).
+#[derive(Drop)]
+pub struct AuditOrder<'a> {
+    /// The file of the journal, as it was given.
+    pub journal: &'a str,
+    /// The name of the server that answered.
+    pub name: Source,
+}
+
+/// Requests to be answered as of an edition of a journal (own rule).
+#[derive(Drop)]
+pub struct ExplainOrder<'a> {
+    /// The file of the journal, as it was given.
+    pub journal: &'a str,
+    /// The edition; `None` for the one that was published at the moment.
+    pub edition: Option<u32>,
+    /// The server's name.
+    pub name: Source,
+    /// The moment of every answer.
+    pub moment: Moment,
+}
 
 /// A server's settings (own rule).
 #[derive(Drop)]
@@ -13,9 +69,15 @@ pub struct ServeOrder<'a> {
     pub name: Source,
     /// The file of desk lines that is read before the server listens, as it was given; `-` is standard input.
     pub map: Option<&'a str>,
+    /// The file in which the edits of desks are kept, as it was given.
+    pub journal: Option<&'a str>,
+    /// The file of the log of answers, as it was given.
+    pub log: Option<&'a str>,
+    /// What the log keeps of replies.
+    pub log_replies: LogReplies,
     /// Whether the server starts even if lines of its map were refused or are not committed.
     pub keeps_going: bool,
-    /// The addresses, as they were given. If there is none of the desk, there is a map.
+    /// The addresses, as they were given. If there is none of the desk, there is a map or a journal.
     pub addresses: Addresses<'a>,
     /// How many threads answer requests: 1 to 64.
     pub workers: u32,
@@ -37,7 +99,50 @@ pub struct ServeOrder<'a> {
     pub is_quiet: bool,
 }
 
-/// The order in the arguments. Mistakes in them are reported.
+/// The moment of `--drop-expired` in the arguments, if it is there. A mistake in it is reported.
+pub(crate) fn expired_at_of<R: Eprint + AllocGlobal>(
+    rt: &R,
+    given: &ArgMatches<'_>,
+) -> Result<Option<Moment>, ExitReason> {
+    let Some(time) = given.get_str("drop-expired") else {
+        return Ok(None);
+    };
+    match moment_of(rt.alloc(), time) {
+        Ok(moment) => Ok(Some(moment)),
+        Err(reason) => Err(said_of_time(rt, reason, "drop-expired", time)),
+    }
+}
+
+/// The order of an audit in the arguments. Mistakes in them are reported.
+pub(crate) fn audit_order_of<'a, R: Eprint + AllocGlobal>(
+    rt: &R,
+    given: &ArgMatches<'a>,
+) -> Result<AuditOrder<'a>, ExitReason> {
+    let name = given.get_str("name").unwrap_or("");
+    match server_name(rt.alloc(), name) {
+        Ok(server) => Ok(AuditOrder {
+            journal: given.get_str("journal").unwrap_or(""),
+            name: server,
+        }),
+        Err(reason) => Err(said_of(rt, reason, name, "")),
+    }
+}
+
+/// The order of an explanation in the arguments. Mistakes in them are reported.
+pub(crate) fn explain_order_of<'a, R: Eprint + AllocGlobal>(
+    rt: &R,
+    given: &ArgMatches<'a>,
+) -> Result<ExplainOrder<'a>, ExitReason> {
+    let (name, moment) = begun(rt, given)?;
+    Ok(ExplainOrder {
+        journal: given.get_str("journal").unwrap_or(""),
+        edition: given.get_one::<u32>("edition"),
+        name,
+        moment,
+    })
+}
+
+/// The order of a server in the arguments. Mistakes in them are reported.
 pub(crate) fn order_of<'a, R: Eprint + AllocGlobal>(
     rt: &R,
     given: &ArgMatches<'a>,
@@ -48,12 +153,18 @@ pub(crate) fn order_of<'a, R: Eprint + AllocGlobal>(
         Err(reason) => return Err(said_of(rt, reason, name, "")),
     };
     let socket_mode = socket_mode_of(rt, given)?;
-    if given.get_str("desk").is_none() && given.get_str("map").is_none() {
+    if ["desk", "map", "journal"]
+        .iter()
+        .all(|name| given.get_str(name).is_none())
+    {
         return Err(ExitReason::NoEdits);
     }
     Ok(ServeOrder {
         name,
         map: given.get_str("map"),
+        journal: given.get_str("journal"),
+        log: given.get_str("log"),
+        log_replies: log_replies_of(given),
         keeps_going: given.get_flag("keep-going"),
         addresses: Addresses {
             queries: given.get_str("queries").unwrap_or(""),

@@ -68,12 +68,27 @@ pub(crate) fn turns_of(given: &ArgMatches<'_>) -> Turns {
 /// Reports a bad name or a bad moment with its word, and gives the reason of a mistake that was reported already; any
 /// other reason is given unchanged.
 pub(crate) fn said_of<R: Eprint>(rt: &R, reason: ExitReason, name: &str, now: &str) -> ExitReason {
+    if reason == ExitReason::Name {
+        let text = reason.text();
+        // If standard error fails, the exit status still tells.
+        let _said = eprintln!(rt; "lostd: --name '{name}' {text}");
+        return ExitReason::CommandLine;
+    }
+    said_of_time(rt, reason, "now", now)
+}
+
+/// Reports a bad moment with its option and its word, as [`said_of`] does.
+pub(crate) fn said_of_time<R: Eprint>(
+    rt: &R,
+    reason: ExitReason,
+    option: &str,
+    time: &str,
+) -> ExitReason {
+    if reason != ExitReason::Now {
+        return reason;
+    }
     let text = reason.text();
     // If standard error fails, the exit status still tells.
-    let _said = match reason {
-        ExitReason::Name => eprintln!(rt; "lostd: --name '{name}' {text}"),
-        ExitReason::Now => eprintln!(rt; "lostd: --now '{now}' {text}"),
-        _ => return reason,
-    };
+    let _said = eprintln!(rt; "lostd: --{option} '{time}' {text}");
     ExitReason::CommandLine
 }

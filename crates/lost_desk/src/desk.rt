@@ -172,6 +172,13 @@ impl Desk {
         self.digest
     }
 
+    /// The digest of the mappings of all edits, published and pending.
+    pub fn staged_digest(&self) -> MapDigest
+        ensures { result ≡ map_digest (staged_book self.now).mappings }
+    {
+        self.ahead.digest()
+    }
+
     /// Tells the published list, for one reader to learn.
     pub fn tell(&mut self) -> Told
         ensures told { result ≡ beginning self.old.opening self.old.published }

@@ -4,3 +4,4 @@ pub mod MapPieces
 pub mod Protocol
 pub mod Turns
 pub mod Counting
+pub mod Kept

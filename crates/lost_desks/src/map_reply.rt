@@ -4,7 +4,7 @@ ghost use Rattle.lost_desks.specs.MapPieces.{IsPiece};
 
 use crate::map_request::{MapAsked, MapRequest};
 use lost_desk::Desk;
-use lost_export::{COMMIT_LINE, publish_line};
+use lost_export::{COMMIT_LINE, publish_line, trace_lines};
 use lost_routing::Routing;
 use std::alloc::{AllocError, Global};
 use std::io;
@@ -25,7 +25,15 @@ pub(crate) fn answer<O: Write>(
     desk: &Desk,
 ) -> io::Result<()> {
     match request.asked {
-        MapAsked::Map => write_map(alloc, output, request.reads_chunks, desk),
+        MapAsked::Map => {
+            output.write_all(map_head(alloc, request.reads_chunks, desk)?.as_bytes())?;
+            write_map(alloc, output, request.reads_chunks, desk.published())
+        }
+        MapAsked::MapWithTraces => {
+            output.write_all(map_head(alloc, request.reads_chunks, desk)?.as_bytes())?;
+            write_traces(alloc, output, request.reads_chunks, desk.published())?;
+            write_map(alloc, output, request.reads_chunks, desk.published())
+        }
         asked => output.write_all(refusal_text(asked).as_bytes()),
     }
 }
@@ -39,21 +47,34 @@ fn refusal_text(asked: MapAsked) -> &'static str {
         MapAsked::OtherMethod => {
             "HTTP/1.1 405 Method Not Allowed\r\nAllow: GET\r\nContent-Type: text/plain\r\nContent-Length: 4\r\nConnection: close\r\n\r\nGET\n"
         }
-        MapAsked::Map | MapAsked::OtherPath => {
+        MapAsked::Map | MapAsked::MapWithTraces | MapAsked::OtherPath => {
             "HTTP/1.1 404 Not Found\r\nContent-Type: text/plain\r\nContent-Length: 5\r\nConnection: close\r\n\r\n/map\n"
         }
     }
 }
 
-/// Writes the map that is published: a publish for each mapping, in order, and one commit.
+/// Writes what is remembered of withdrawals: for each a publish of a placeholder, and its withdrawal.
+fn write_traces<O: Write>(
+    alloc: Global,
+    output: &mut O,
+    in_chunks: bool,
+    book: &Routing,
+) -> io::Result<()> {
+    for position in 0..book.traces() {
+        let (identity, stamp) = book.trace(position);
+        let lines = trace_lines(alloc, identity, stamp)?;
+        write_piece(alloc, output, in_chunks, lines.as_slice())?;
+    }
+    Ok(())
+}
+
+/// Writes a map: a publish for each mapping, in order, and one commit.
 fn write_map<O: Write>(
     alloc: Global,
     output: &mut O,
     in_chunks: bool,
-    desk: &Desk,
+    book: &Routing,
 ) -> io::Result<()> {
-    let book = desk.published();
-    output.write_all(map_head(alloc, in_chunks, desk)?.as_bytes())?;
     let mut from = 0;
     while from < book.len() {
         let piece = piece_from(alloc, book, from)?;

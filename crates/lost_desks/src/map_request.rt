@@ -1,6 +1,6 @@
 //! A request of HTTP at the desk's address (RFC 9110, RFC 9112): the map that is published may be read back.
 ghost use Rattle.std.specs.Prelude.{◌≡◌};
-ghost use Rattle.lost_desks.specs.MapAsked.{asked_code, map_asked};
+ghost use Rattle.lost_desks.specs.MapAsked.{asked_code, by_get, map_asked};
 
 use httparse::Status;
 use httparse::spans::{EMPTY_HEADER_SPAN, HeaderSpan, RequestSpans, parse_request};
@@ -21,6 +21,8 @@ const CHUNK: usize = 1_024;
 pub enum MapAsked {
     /// The map that is published.
     Map,
+    /// The map, and before it what is remembered of withdrawals.
+    MapWithTraces,
     /// Anything, for a page in a browser: its request has an `Origin`.
     FromBrowser,
     /// What is not there.
@@ -35,7 +37,7 @@ impl MapAsked {
         ensures { result ≡ asked_code self }
     {
         match self {
-            MapAsked::Map => 200,
+            MapAsked::Map | MapAsked::MapWithTraces => 200,
             MapAsked::FromBrowser => 403,
             MapAsked::OtherPath => 404,
             MapAsked::OtherMethod => 405,
@@ -50,11 +52,21 @@ pub fn asked_by(method: &[u8], target: &[u8], has_origin: bool) -> MapAsked
     if has_origin {
         return MapAsked::FromBrowser;
     }
-    if target != b"/map".as_slice() {
-        return MapAsked::OtherPath;
+    if target == b"/map".as_slice() {
+        return by_get(method, MapAsked::Map);
     }
+    if target == b"/map?traces".as_slice() {
+        return by_get(method, MapAsked::MapWithTraces);
+    }
+    MapAsked::OtherPath
+}
+
+/// What is asked for by GET, unless the method is another one.
+fn by_get(method: &[u8], asked: MapAsked) -> MapAsked
+    ensures { result ≡ by_get method.now asked }
+{
     if method == b"GET".as_slice() {
-        MapAsked::Map
+        asked
     } else {
         MapAsked::OtherMethod
     }

@@ -2,6 +2,8 @@
 ghost use Rattle.std.specs.Prelude.{◌≡◌, [], IsFalse};
 ghost use Rattle.lost_lines.specs.Calls.{AreFresh};
 ghost use Rattle.lost_worker.specs.Desking.{IsSameDesk};
+ghost use Rattle.lost_desk.specs.Seen.{DeskSeen};
+ghost use Rattle.lost_desks.specs.Kept.{StaysKept};
 
 use crate::counting::{DeskCounting, tell_book};
 use crate::desk_input::DeskInput;
@@ -12,11 +14,14 @@ use crate::map_reply::answer;
 use crate::map_request::{MapAsked, read_request};
 use crate::turn_end::TurnEnd;
 use lost_desk::Desk;
+use lost_journal::NotKept;
+use lost_keeping::{Keeper, serve_desk_kept};
 use lost_lines::{Counts, ServeError, Turns, Watched};
 use lost_log::ConnectionLog;
 use lost_sockets::{Listener, Peer, Stream, accept};
 use lost_status::{DeskCounter, DeskEvent};
 use lost_worker::serve_desk_with;
+use sqlite_disk::Disk;
 use std::alloc::Global;
 use std::io::{Eprint, Read, Write};
 use std::sync::Wait;
@@ -45,63 +50,71 @@ pub enum Left {
 }
 
 /// Serves one connection of a desk, and says whether one came. Counts its lines, and what the desk holds after each.
-/// Afterwards nothing is pending, unless memory is refused.
-pub fn serve_one_desk<R: Wait + Clock + Eprint>(
+/// `keeper` keeps its edits, if there is one. Afterwards nothing is pending, unless memory is refused.
+pub fn serve_one_desk<R: Wait + Clock + Eprint, D: Disk>(
     service: &DeskService<'_, R>,
     listener: &Listener,
     desk: &mut Desk,
+    keeper: &mut Option<Keeper<D>>,
     counter: &mut DeskCounter<'_>,
 ) -> bool
-    ensures { IsSameDesk desk.old desk.new }
+    ensures kept { StaysKept keeper.old desk.old keeper.new desk.new }
+    ensures same { IsSameDesk desk.old desk.new }
 {
     let Some((stream, peer)) = accept(service.rt, listener) else {
         service.log.report_listener();
         return false;
     };
-    let _left = service.serve(None, &stream, &peer, desk, counter);
+    let _left = service.serve(None, &stream, &peer, desk, keeper, counter);
     true
 }
 
 /// Serves the connections of desks in turn, until the server is over. Counts their lines, and what the desk holds after
-/// each. The listener must not wait. The edits that a desk left pending are dropped before the next one is served.
-pub fn serve_desks<R: Wait + Clock + Eprint>(
+/// each. `keeper` keeps their edits, if there is one. The listener must not wait. The edits that a desk left pending are
+/// dropped before the next one is served.
+pub fn serve_desks<R: Wait + Clock + Eprint, D: Disk>(
     service: &DeskService<'_, R>,
     listener: &Listener,
     desk: &mut Desk,
+    keeper: &mut Option<Keeper<D>>,
     counter: &mut DeskCounter<'_>,
 )
-    ensures { IsSameDesk desk.old desk.new }
+    ensures kept { StaysKept keeper.old desk.old keeper.new desk.new }
+    ensures same { IsSameDesk desk.old desk.new }
 {
     let queue = DeskQueue::new(listener);
     for _turn in service.rt.forever() {
         let Some((stream, peer)) = queue.next(service.rt, service.is_over) else {
             return;
         };
-        let _left = service.serve(Some(&queue), &stream, &peer, desk, counter);
+        let _left = service.serve(Some(&queue), &stream, &peer, desk, keeper, counter);
     }
 }
 
 impl<R: Wait + Clock + Eprint> DeskService<'_, R> {
     /// Serves a desk's connection during its turn, and drops the edits that it leaves pending. Reports a fault, and if
-    /// edits could not be dropped.
-    fn serve(
+    /// edits could not be kept or dropped.
+    fn serve<D: Disk>(
         &self,
         queue: Option<&DeskQueue<'_>>,
         stream: &Stream,
         peer: &Peer,
         desk: &mut Desk,
+        keeper: &mut Option<Keeper<D>>,
         counter: &mut DeskCounter<'_>,
     ) -> Left
         ensures nothing_pending { result ≡ Left.Nothing → desk.new.pending ≡ [] }
+        ensures kept { StaysKept keeper.old desk.old keeper.new desk.new }
         ensures same { IsSameDesk desk.old desk.new }
         ensures left { IsFalse counter.new.is_open }
     {
         counter.count(DeskEvent::Connected);
-        if let Some(cause) = self.serve_turn(queue, stream, peer, desk, counter) {
+        if let Some(cause) = self.serve_turn(queue, stream, peer, desk, keeper, counter) {
             self.log.report_desk(peer, cause);
         }
+        self.tell_of_keeper(keeper, counter);
         counter.count(DeskEvent::Left);
-        let left = drop_pending(desk);
+        let left = drop_pending(desk, keeper);
         if left == Left::Pending {
             self.log.report_pending();
         }
@@ -110,15 +123,17 @@ impl<R: Wait + Clock + Eprint> DeskService<'_, R> {
     }
 
     /// Answers the lines of a desk's connection during its turn. Gives the cause if it ended in a fault.
-    fn serve_turn(
+    fn serve_turn<D: Disk>(
         &self,
         queue: Option<&DeskQueue<'_>>,
         stream: &Stream,
         peer: &Peer,
         desk: &mut Desk,
+        keeper: &mut Option<Keeper<D>>,
         counter: &mut DeskCounter<'_>,
     ) -> Option<&'static str>
-        ensures { IsSameDesk desk.old desk.new }
+        ensures kept { StaysKept keeper.old desk.old keeper.new desk.new }
+        ensures same { IsSameDesk desk.old desk.new }
     {
         let turn = DeskTurn {
             rt: self.rt,
@@ -131,7 +146,8 @@ impl<R: Wait + Clock + Eprint> DeskService<'_, R> {
         }
         let mut input = Watched::new(DeskInput::new(self.alloc, &turn));
         let mut output = Watched::new(DeskOutput::new(&turn));
-        let Err(fault) = self.answer_lines(&mut input, &mut output, peer, desk, counter) else {
+        let answered = self.answer_lines(&mut input, &mut output, peer, desk, keeper, counter);
+        let Err(fault) = answered else {
             return None;
         };
         if input.inner().end() == Some(TurnEnd::SpeaksHttp) {
@@ -159,7 +175,7 @@ impl<R: Wait + Clock + Eprint> DeskService<'_, R> {
             Err(error) => Err(error),
         };
         match answered {
-            Ok(MapAsked::Map) => None,
+            Ok(MapAsked::Map | MapAsked::MapWithTraces) => None,
             Ok(_) => Some("it asked over HTTP for something else than GET /map"),
             Err(_) => match input.end().or(output.end()) {
                 Some(end) => Some(end.text()),
@@ -168,17 +184,19 @@ impl<R: Wait + Clock + Eprint> DeskService<'_, R> {
         }
     }
 
-    /// Answers a desk's lines, and counts their outcomes.
-    fn answer_lines<I: Read, O: Write>(
+    /// Answers a desk's lines, keeps its edits, and counts their outcomes.
+    fn answer_lines<I: Read, O: Write, D: Disk>(
         &self,
         input: &mut Watched<I>,
         output: &mut Watched<O>,
         peer: &Peer,
         desk: &mut Desk,
+        keeper: &mut Option<Keeper<D>>,
         counter: &mut DeskCounter<'_>,
     ) -> Result<Counts, ServeError>
         requires fresh { AreFresh input.old output.old }
-        ensures { IsSameDesk desk.old desk.new }
+        ensures kept { StaysKept keeper.old desk.old keeper.new desk.new }
+        ensures same { IsSameDesk desk.old desk.new }
     {
         let mut counting = DeskCounting {
             rt: self.rt,
@@ -188,25 +206,57 @@ impl<R: Wait + Clock + Eprint> DeskService<'_, R> {
             edition: desk.edition(),
             counter,
         };
-        serve_desk_with(
-            self.rt,
-            self.alloc,
-            input,
-            output,
-            desk,
-            &mut counting,
-            Turns::USUAL,
-        )
+        match keeper {
+            Some(keeper) => serve_desk_kept(
+                self.rt,
+                self.alloc,
+                input,
+                output,
+                desk,
+                keeper,
+                &mut counting,
+                Turns::USUAL,
+            ),
+            None => serve_desk_with(
+                self.rt,
+                self.alloc,
+                input,
+                output,
+                desk,
+                &mut counting,
+                Turns::USUAL,
+            ),
+        }
+    }
+
+    /// Reports why edits were not kept, if any were not, and counts if nothing more can be.
+    fn tell_of_keeper<D: Disk>(&self, keeper: &mut Option<Keeper<D>>, counter: &mut DeskCounter<'_>)
+        ensures { (desk : DeskSeen) → StaysKept keeper.old desk keeper.new desk }
+    {
+        let Some(keeper) = keeper else {
+            return;
+        };
+        if let Some(fault) = keeper.take_fault() {
+            self.log.report_journal(&fault);
+            if let NotKept::Spent = fault {
+                counter.count(DeskEvent::JournalFailed);
+            }
+        }
     }
 }
 
 /// Drops what a desk left pending, unless memory is refused.
-fn drop_pending(desk: &mut Desk) -> Left
+fn drop_pending<D: Disk>(desk: &mut Desk, keeper: &mut Option<Keeper<D>>) -> Left
     ensures dropped { result ≡ Left.Nothing → desk.new.pending ≡ [] }
     ensures published { desk.new.published ≡ desk.old.published }
+    ensures kept { StaysKept keeper.old desk.old keeper.new desk.new }
     ensures same { IsSameDesk desk.old desk.new }
 {
-    match desk.drop_pending() {
+    let dropped = match keeper {
+        Some(keeper) => keeper.drop_pending(desk),
+        None => desk.drop_pending(),
+    };
+    match dropped {
         Ok(()) => Left::Nothing,
         Err(_) => Left::Pending,
     }

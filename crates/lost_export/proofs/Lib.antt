@@ -12,3 +12,6 @@ pub mod TreeLemmas
 pub mod ReadLemmas
 pub mod OrderLemmas
 pub mod SaidLemmas
+pub mod WithdrawLemmas
+pub mod PlaceholderLemmas
+pub mod AcceptedLemmas

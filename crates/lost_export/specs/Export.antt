@@ -5,7 +5,9 @@ use Rattle.serde_json.specs.Written.{compact_text}
 use Rattle.lost_spec.specs.Text.{Text}
 use Rattle.lost_spec.specs.Service.{service_text}
 use Rattle.lost_spec.specs.Place.{Regions}
+use Rattle.lost_spec.specs.Moment.{Stamp}
 use Rattle.lost_spec.specs.Mapping.{Mapping}
+use Rattle.lost_spec.specs.Book.{Identity}
 pub use Rattle.lost_writing.specs.Replies.{one_member, line_of, member_if, list_data, texts_data, position_data, polygon_data, put_pairs, pattern_data, token_set_data, regions_data, expires_text, display_name_data, display_names_data}
 
 -- the mark of a default, left out where there is none (own)
@@ -48,6 +50,22 @@ publish_json m = compact_text (publish_data m)
 -- the line of a publish, with its byte 10
 abbrev pub publish_text : Mapping → Text
 publish_text m = publish_json m ++ 10 ∷ []
+
+-- a desk line that withdraws an identity at a stamp (RFC 5222, section 5.1; members own, in ascending order of their names)
+abbrev pub withdraw_data : Identity → Stamp → Data
+withdraw_data identity stamp =
+    one_member (codes "withdraw") (object
+    (member (codes "lastUpdated") (string stamp.text)
+    (member (codes "source") (string identity.source)
+    (member (codes "sourceId") (string identity.source_id) no_members))))
+
+-- the text of that line, without the byte 10 at its end
+unfoldable pub withdraw_json : Identity → Stamp → Text
+withdraw_json identity stamp = compact_text (withdraw_data identity stamp)
+
+-- the line of a withdrawal, with its byte 10
+abbrev pub withdraw_text : Identity → Stamp → Text
+withdraw_text identity stamp = withdraw_json identity stamp ++ 10 ∷ []
 
 -- a desk line that commits, and that line with its byte 10
 abbrev pub commit_json : Text

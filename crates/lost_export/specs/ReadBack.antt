@@ -7,9 +7,10 @@ use Rattle.std.specs.Cmp.Lexicographic.{slice_cmp}
 use Rattle.lost_spec.specs.Text.{Text}
 use Rattle.lost_spec.specs.Civic.{Pairs, names_of}
 use Rattle.lost_spec.specs.Mapping.{Parts, Mapping, parts_fault, mapping_of}
-use Rattle.lost_spec.specs.Book.{Publish, Replace}
+use Rattle.lost_spec.specs.Moment.{Stamp}
+use Rattle.lost_spec.specs.Book.{Identity, Publish, Replace, Withdraw}
 use Rattle.lost_reading.specs.Desk.{Stage, desk_line}
-use Rattle.lost_export.specs.Export.{publish_json}
+use Rattle.lost_export.specs.Export.{publish_json, withdraw_json}
 
 -- each name of the pairs comes before the next by its bytes, as in each object that is read
 abbrev pub HasAscendingNames : Pairs → Type 0
@@ -25,6 +26,10 @@ pub record IsBuilt (m : Mapping) : Type 0 where
 -- the line of the mapping says to publish it
 abbrev pub ReadsBack : Mapping → Type 0
 ReadsBack m = desk_line (publish_json m) ≡ Some (Ok (Stage (Publish m)))
+
+-- the line of a withdrawal says to withdraw this identity at this stamp
+abbrev pub WithdrawalReadsBack : Identity → Stamp → Type 0
+WithdrawalReadsBack identity stamp = desk_line (withdraw_json identity stamp) ≡ Some (Ok (Stage (Withdraw identity stamp)))
 
 -- each mapping that a desk line publishes, or replaces another by, is built
 abbrev pub PublishedAreBuilt : Type 0

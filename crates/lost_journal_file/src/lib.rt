@@ -20,7 +20,7 @@ mod settled;
 pub use begin::begin_journal;
 pub use fault::OpenFault;
 pub use file_calls::FileCalls;
-pub use open::open_journal;
+pub use open::{look_at_journal, open_journal};
 pub use place::place_journal;
 use sqlite_disk::{Modelled, Unknown};
 

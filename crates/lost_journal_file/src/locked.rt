@@ -23,6 +23,19 @@ pub(crate) fn open_locked<R: Files<File = File>>(
     Ok(Some(locked(rt, file, path)?))
 }
 
+/// Opens the regular file that a path leads to, for reading alone. None if it leads nowhere.
+pub(crate) fn open_unlocked<R: Files<File = File>>(
+    rt: &R,
+    path: &str,
+) -> Result<Option<File>, OpenFault> {
+    match fs::metadata(rt, path) {
+        Ok(found) if found.is_file() => Ok(Some(File::open(rt, path)?)),
+        Ok(_) => Err(OpenFault::NotRegular),
+        Err(error) if error.kind() == ErrorKind::NotFound => Ok(None),
+        Err(error) => Err(OpenFault::Io(error)),
+    }
+}
+
 /// Makes a file, which only its owner may read and write, and locks it.
 pub(crate) fn make_locked<R: Files<File = File>>(rt: &R, path: &str) -> Result<File, OpenFault> {
     let made = OpenOptions::new()

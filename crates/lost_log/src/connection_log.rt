@@ -2,6 +2,7 @@
 use crate::log_writer::LogSender;
 use lost_sockets::Peer;
 use std::alloc::{AllocError, Global};
+use std::fmt::Display;
 use std::io::Eprint;
 use std::sync::Wait;
 use std::sync::atomic::{AtomicU64, Ordering};
@@ -84,6 +85,11 @@ impl<'r, R: Wait + Clock + Eprint> ConnectionLog<'r, R> {
         self.write(format!(in self.alloc;
             "lostd: memory ran out: the last desk's pending edits could not be dropped, and the next desk's commit publishes them\n"
         ));
+    }
+
+    /// Reports why the journal did not keep an edit or a commit.
+    pub fn report_journal<F: Display>(&self, fault: &F) {
+        self.write(format!(in self.alloc; "lostd: --journal: {fault}\n"));
     }
 
     /// Reports that a listener was given up.

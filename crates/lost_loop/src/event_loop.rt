@@ -20,7 +20,7 @@ use lost_connections::{Client, ClientFault, Clients, Progress};
 use lost_lines::{Counts, Gate};
 use lost_sockets::Stream;
 use lost_status::{ConnectionCounter, ConnectionEvent};
-use lost_worker::{Moments, Replier};
+use lost_worker::{Moments, SharedReplier};
 use mio::unix::SourceFd;
 use mio::{Events, Interest, Token};
 use std::alloc::{AllocError, Global};
@@ -112,7 +112,7 @@ impl<'s> EventLoop<'s> {
 
     /// Serves connections until no more come and all have ended. Gives the sum of their counts: a connection that ends
     /// in a fault adds one to `faults` and nothing else.
-    pub fn run<R: Wait + Clock + Eprint, P: Replier, M: Moments, G: Gate>(
+    pub fn run<R: Wait + Clock + Eprint, P: SharedReplier, M: Moments, G: Gate>(
         &mut self,
         service: &Service<'_, R, G>,
         replier: &mut P,
@@ -125,6 +125,7 @@ impl<'s> EventLoop<'s> {
             self.wait(service);
             self.counter.count(ConnectionEvent::Busy);
             self.serve_queued(service, replier, moments);
+            replier.rest();
             self.counter.count(ConnectionEvent::Idle);
             self.sweep(service);
             if self.is_closing && self.clients.is_empty() {
@@ -275,7 +276,7 @@ impl<'s> EventLoop<'s> {
     }
 
     /// Serves a burst of each queued connection.
-    fn serve_queued<R: Wait + Clock + Eprint, P: Replier, M: Moments, G: Gate>(
+    fn serve_queued<R: Wait + Clock + Eprint, P: SharedReplier, M: Moments, G: Gate>(
         &mut self,
         service: &Service<'_, R, G>,
         replier: &mut P,
@@ -289,7 +290,7 @@ impl<'s> EventLoop<'s> {
     }
 
     /// Serves a burst of the connection that is next in the queue.
-    fn serve_next<R: Wait + Clock + Eprint, P: Replier, M: Moments, G: Gate>(
+    fn serve_next<R: Wait + Clock + Eprint, P: SharedReplier, M: Moments, G: Gate>(
         &mut self,
         service: &Service<'_, R, G>,
         replier: &mut P,
@@ -298,12 +299,22 @@ impl<'s> EventLoop<'s> {
         ensures seen { HasSeenMore (P.reader replier.old) (P.reader replier.new) }
     {
         if let Some(key) = self.queue.pop() {
+            self.tell_turn(key, replier);
             self.serve(service, key, replier, moments);
         }
     }
 
+    /// Tells the replier whose lines come next.
+    fn tell_turn<P: SharedReplier>(&self, key: usize, replier: &mut P)
+        ensures same { P.reader replier.new ≡ P.reader replier.old }
+    {
+        if let Some(connected) = self.clients.get(key) {
+            replier.turn_to(connected.state.number);
+        }
+    }
+
     /// Serves a burst of a connection, and does what its outcome asks for.
-    fn serve<R: Wait + Clock + Eprint, P: Replier, M: Moments, G: Gate>(
+    fn serve<R: Wait + Clock + Eprint, P: SharedReplier, M: Moments, G: Gate>(
         &mut self,
         service: &Service<'_, R, G>,
         key: usize,
@@ -325,7 +336,7 @@ impl<'s> EventLoop<'s> {
 
     /// Serves a burst of a connection; of one that has no line left, sends the rest of its replies. Nothing if there is
     /// none.
-    fn burst<R: Wait + Clock + Eprint, P: Replier, M: Moments, G: Gate>(
+    fn burst<R: Wait + Clock + Eprint, P: SharedReplier, M: Moments, G: Gate>(
         &mut self,
         service: &Service<'_, R, G>,
         key: usize,

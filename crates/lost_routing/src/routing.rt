@@ -7,7 +7,7 @@ ghost use Rattle.lost_location.specs.Place.{place_of};
 use crate::store::Store;
 use lost_book::{Limits, Traces};
 use lost_location::Place;
-use lost_mapping::Mapping;
+use lost_mapping::{Identity, Mapping, Stamp};
 use std::alloc::{AllocError, Global};
 use std::marker::Model;
 
@@ -78,6 +78,21 @@ impl Routing {
         ensures { slice_get self.now.mappings position ≡ Some result.now }
     {
         self.store.mapping(position)
+    }
+
+    /// How many withdrawals are remembered.
+    pub fn traces(&self) -> usize
+        ensures { result ≡ length self.now.traces }
+    {
+        self.traces.len()
+    }
+
+    /// The identity and the stamp of the withdrawal at a position, which is below `traces`.
+    pub fn trace(&self, position: usize) -> (&Identity, &Stamp)
+        requires { position < length self.now.traces }
+        ensures { slice_get self.now.traces position ≡ Some (result.0.now, result.1.now) }
+    {
+        self.traces.at(position)
     }
 
     /// The set of a place: the mappings that hold it, live or not, in rising positions (own rule).

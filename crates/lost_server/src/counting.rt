@@ -5,7 +5,7 @@ ghost use Rattle.lost_server.specs.Counting.{CountsReplied};
 use lost_json::internal_error;
 use lost_mapping::{Moment, Source};
 use lost_status::ReplyCounter;
-use lost_worker::{CachedReader, Replied, Replier};
+use lost_worker::{CachedReader, Replied, Replier, SharedReplier};
 use std::alloc::Global;
 use std::hash::BuildHasher;
 
@@ -34,6 +34,20 @@ impl<S: BuildHasher + Drop> Replier for Counting<'_, '_, S> {
         count(&mut self.counter, &replied);
         self.counter.set_cache_hits(self.reader.hits());
         replied
+    }
+
+    fn edition(&self) -> u64 {
+        self.reader.edition()
+    }
+}
+
+impl<S: BuildHasher + Drop> SharedReplier for Counting<'_, '_, S> {
+    fn turn_to(&mut self, connection: u64) {
+        self.reader.turn_to(connection);
+    }
+
+    fn rest(&mut self) {
+        self.reader.rest();
     }
 }
 

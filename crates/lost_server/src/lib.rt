@@ -4,9 +4,11 @@
 
 mod clock;
 mod counting;
+mod journal;
 mod listeners;
 mod loading;
 mod map;
+mod map_kept;
 mod order;
 mod run;
 mod run_fault;
@@ -19,6 +21,7 @@ mod threads;
 mod workers;
 
 pub use listeners::{Listeners, Ready};
+pub use lost_answer_log::{KeptReply, LogFault};
 pub use lost_connections::ConnectionLimits;
 pub use lost_lines::{Counts, Gate, NoGate, ServeError, Turns, Watched};
 pub use lost_replay::{Replayer, replay};
@@ -27,6 +30,6 @@ pub use map::{MapFound, load_map};
 pub use order::{ConnectionSettings, OnRefusal, Progress, ServerOrder};
 pub use run_fault::RunFault;
 pub use running::serve;
-pub use server_fault::{MapFault, ServerFault};
+pub use server_fault::{JournalFault, MapFault, ServerFault};
 pub use starting::run_server;
 pub use system::{Machine, System};

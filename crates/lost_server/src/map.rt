@@ -21,7 +21,7 @@ use std::sync::Wait;
 const STEP: u64 = 100_000;
 
 /// No limit on the lines of a map.
-const TURNS: Turns = Turns {
+pub(crate) const TURNS: Turns = Turns {
     lines: u64::MAX,
     reads: u64::MAX,
 };
@@ -123,11 +123,11 @@ fn read_map<T: Wait + Eprint, I: Read + Drop>(
 
 /// The witness of a map's lines.
 #[derive(Drop)]
-struct MapReading<'r, R: Eprint> {
-    rt: &'r R,
-    alloc: Global,
-    found: MapFound,
-    progress: Progress,
+pub(crate) struct MapReading<'r, R: Eprint> {
+    pub(crate) rt: &'r R,
+    pub(crate) alloc: Global,
+    pub(crate) found: MapFound,
+    pub(crate) progress: Progress,
 }
 
 impl<R: Eprint> DeskWitness for MapReading<'_, R> {
@@ -154,7 +154,7 @@ impl<R: Eprint> DeskWitness for MapReading<'_, R> {
 }
 
 /// Writes a line in one piece, or nothing if memory is refused. If standard error fails, it is lost.
-fn say<R: Eprint>(rt: &R, line: Result<String, AllocError>) {
+pub(crate) fn say<R: Eprint>(rt: &R, line: Result<String, AllocError>) {
     if let Ok(line) = line {
         let _said = rt.eprint(line.as_str());
     }

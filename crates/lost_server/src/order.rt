@@ -1,4 +1,5 @@
 //! A server's settings.
+use lost_answer_log::KeptReply;
 use lost_connections::ConnectionLimits;
 use lost_mapping::Source;
 use lost_sockets::Addresses;
@@ -43,6 +44,11 @@ pub struct ServerOrder<'a> {
     pub addresses: Addresses<'a>,
     /// The file of desk lines that is read before the server listens; `-` for standard input.
     pub map: Option<&'a str>,
+    /// The file in which the edits of desks are kept: those that it keeps are published before the server listens. A map
+    /// is read only if it keeps none.
+    pub journal: Option<&'a str>,
+    /// The file of its log of answers, and what that keeps of replies.
+    pub answers: Option<(&'a str, KeptReply)>,
     /// What happens if lines of its map are refused or not committed.
     pub on_refusal: OnRefusal,
     /// Whether the progress through a long map is reported.

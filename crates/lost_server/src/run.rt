@@ -6,9 +6,12 @@ use crate::order::ConnectionSettings;
 use crate::run_fault::RunFault;
 use crate::threads::{Task, run_threads};
 use crate::workers::{cached_readers, workers_of};
+use lost_answer_log::AnswerLog;
 use lost_connections::{ConnectionLimits, TimeLimits};
 use lost_desk::{Desk, Readers};
 use lost_desks::{DeskService, serve_desks, serve_one_desk};
+use lost_journal_file::JournalDisk;
+use lost_keeping::Keeper;
 use lost_lines::{Counts, Gate, Turns};
 use lost_log::ConnectionLog;
 use lost_loop::{Acceptor, Service, SharedAdmission, WhenFull};
@@ -32,6 +35,8 @@ pub(crate) struct Run<'s, R, G> {
     pub(crate) name: &'s Source,
     pub(crate) gate: &'s G,
     pub(crate) log: &'s ConnectionLog<'s, R>,
+    /// Where its workers log their answers, if they do.
+    pub(crate) answers: Option<AnswerLog>,
     pub(crate) status: &'s Status,
     /// Whether replies are counted in the status, as when somebody may ask for it.
     pub(crate) counts_replies: bool,
@@ -61,11 +66,12 @@ where
     G: Gate + Sync,
 {
     /// Answers all connections, with one worker for each reader. Each worker begins with what the desk has published.
-    /// What happens at the desk is counted by `counter`.
+    /// `keeper` keeps the desk's edits, if there is one. What happens at the desk is counted by `counter`.
     pub(crate) fn answer(
         &self,
         listeners: &Listeners,
         desk: &mut Desk,
+        keeper: Option<Keeper<JournalDisk>>,
         readers: Readers,
         counter: DeskCounter<'_>,
     ) -> Result<Counts, RunFault>
@@ -81,6 +87,7 @@ where
             self.rt,
             &service,
             self.counts_replies,
+            self.answers.as_ref(),
             readers,
             &mut handles,
         )?;
@@ -89,6 +96,7 @@ where
             listener: listeners.desk.as_ref(),
             is_only_one: self.connections.is_some(),
             desk,
+            keeper,
             counter,
         };
         let acceptor = self.acceptor(&service, &listeners.queries);
@@ -152,6 +160,7 @@ struct DeskTask<'s, R> {
     /// Whether only one desk is served.
     is_only_one: bool,
     desk: &'s mut Desk,
+    keeper: Option<Keeper<JournalDisk>>,
     counter: DeskCounter<'s>,
 }
 
@@ -165,15 +174,16 @@ impl<R: Wait + Clock + Eprint> Task for DeskTask<'_, R> {
             listener,
             is_only_one,
             desk,
+            mut keeper,
             mut counter,
         } = self;
         let Some(listener) = listener else {
             return true;
         };
         if is_only_one {
-            return serve_one_desk(&service, listener, desk, &mut counter);
+            return serve_one_desk(&service, listener, desk, &mut keeper, &mut counter);
         }
-        serve_desks(&service, listener, desk, &mut counter);
+        serve_desks(&service, listener, desk, &mut keeper, &mut counter);
         true
     }
 }

@@ -102,6 +102,7 @@ where
             name: self.name,
             gate: self.gate,
             log: &log,
+            answers: None,
             status: &status,
             counts_replies: false,
             settings: self.settings,
@@ -110,7 +111,7 @@ where
             connections: Some(self.connections),
             is_over: &is_over,
         };
-        run.answer(&listeners, desk, readers, status.desk())
+        run.answer(&listeners, desk, None, readers, status.desk())
     }
 }
 

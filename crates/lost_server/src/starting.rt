@@ -1,18 +1,23 @@
-//! Runs a server as ordered: reads its map, listens, and answers connections.
-ghost use Rattle.std.specs.Prelude.{◌≡◌};
-ghost use Rattle.lost_worker.specs.Desking.{IsSameDesk};
+//! Runs a server as ordered: reads its journal and its map, listens, and answers connections.
+ghost use Rattle.std.specs.Prelude.{◌≡◌, [], IfOk, IfSome};
+ghost use Rattle.lost_worker.specs.Desking.{IsSameDesk, lists_of};
+ghost use Rattle.lost_keeping.specs.Kept.{all_published};
+ghost use Rattle.lost_keeping.specs.Keepers.{IsCleanKeeper, IsKept};
 
 use crate::listeners::{Listeners, Ready, listen_at, open_listeners, remove_sockets};
-use crate::loading::load_from;
+use crate::loading::{load_from, load_kept};
 use crate::order::ServerOrder;
 use crate::run::{Run, limits_of_given};
 use crate::run_fault::{RunFault, fault_of_opening};
 use crate::server_fault::ServerFault;
 use crate::status_port::answer_status;
 use crate::system::System;
+use lost_answer_log::{AnswerLog, AnswerLogWriter, LogFault, open_log, start_answer_log};
 use lost_book::Limits;
 use lost_desk::{Desk, Readers, open_desk};
 use lost_desks::tell_book;
+use lost_journal_file::JournalDisk;
+use lost_keeping::Keeper;
 use lost_lines::{Counts, NoGate};
 use lost_log::{ConnectionLog, LogSender, start_log};
 use lost_sockets::{Address, Listener, remove_socket};
@@ -23,14 +28,14 @@ use std::sync::atomic::{AtomicBool, Ordering};
 use std::thread;
 use std::time::{Clock, Duration};
 
-/// Runs a server as ordered: it reads its map, listens, tells `ready`, and answers connections. With a number of
+/// Runs a server as ordered: it reads its journal and its map, listens, tells `ready`, and answers connections. With a number of
 /// connections it ends when all of them have ended. Without one it ends once `is_over` is set, one more connection
 /// comes, and all connections have ended. Its status is answered from the beginning. Gives the sums of the query
 /// connections' counts, as [`crate::serve`] does.
 ///
 /// # Errors
 ///
-/// [`ServerFault::Map`] if the map was not loaded, before it listens; [`ServerFault::Address`] if an address cannot be
+/// [`ServerFault::Journal`] and [`ServerFault::Map`] if the journal is not used or the map was not loaded, before it listens; [`ServerFault::Address`] if an address cannot be
 /// listened on; [`ServerFault::Ready`] if `ready` fails; [`ServerFault::Run`] as [`crate::serve`] says.
 pub fn run_server<
     R: System + Net<Listener = TcpListener, Stream = TcpStream> + Send + Sync,
@@ -88,7 +93,8 @@ where
 {
     /// Runs the server over an open desk, and meanwhile answers for its status, if that is ordered.
     fn run(&self, desk: &mut Desk, readers: Readers) -> Ran
-        requires { readers.each.opening ≡ desk.old.opening }
+        requires opening { readers.each.opening ≡ desk.old.opening }
+        requires nothing { lists_of desk.old ≡ all_published [] }
     {
         let addresses = self.order.addresses;
         let Some(address) = addresses.status else {
@@ -102,7 +108,8 @@ where
 
     /// Runs the server while a thread answers for its status at this listener.
     fn start_beside(&self, listener: &Listener, desk: &mut Desk, readers: Readers) -> Ran
-        requires { readers.each.opening ≡ desk.old.opening }
+        requires opening { readers.each.opening ≡ desk.old.opening }
+        requires nothing { lists_of desk.old ≡ all_published [] }
     {
         if listener.set_nonblocking(true).is_err() {
             return Err(ServerFault::Run(RunFault::Accept));
@@ -114,7 +121,8 @@ where
             thread::scope_env(),
             rt,
             |scope| -> Ran
-                requires { readers.each.opening ≡ desk.now.opening }
+                requires opening { readers.each.opening ≡ desk.now.opening }
+                requires nothing { lists_of desk.now ≡ all_published [] }
             {
                 let Ok(answering) = scope.spawn(move || answer_status(
                     rt,
@@ -134,30 +142,74 @@ where
         )
     }
 
-    /// Reads the map, listens, and answers connections.
+    /// Reads the journal and the map, listens, and answers connections.
     fn start(&self, desk: &mut Desk, readers: Readers) -> Ran
-        requires { readers.each.opening ≡ desk.old.opening }
+        requires opening { readers.each.opening ≡ desk.old.opening }
+        requires nothing { lists_of desk.old ≡ all_published [] }
     {
         let mut counter = self.status.desk();
-        self.load(desk, &mut counter)?;
+        let keeper = self.load(desk, &mut counter)?;
         tell_book(&mut counter, desk);
+        let (answers, writer) = self.begin_answer_log()?;
         let listeners = open_listeners(self.rt, &self.order.addresses)?;
-        let result = self.answer(&listeners, desk, readers, counter);
+        let result = self.answer(&listeners, desk, keeper, answers, readers, counter);
         remove_sockets(self.rt, &self.order.addresses);
+        if let Some(writer) = writer {
+            writer.finish(self.rt);
+        }
         result
     }
 
-    /// Reads the map, if there is one, and counts its end as a commit.
-    fn load(&self, desk: &mut Desk, counter: &mut DeskCounter<'_>) -> Result<(), ServerFault>
-        ensures { IsSameDesk desk.old desk.new }
-    {
-        if let Some(path) = self.order.map {
-            load_from(self.rt, path, self.order, desk)?;
-            if let Ok(since) = self.rt.since_1970() {
-                counter.count(DeskEvent::Committed(since.as_secs()));
-            }
+    /// Begins the log of answers, if it is ordered.
+    fn begin_answer_log(
+        &self,
+    ) -> Result<(Option<AnswerLog>, Option<AnswerLogWriter>), ServerFault> {
+        let Some((path, kept)) = self.order.answers else {
+            return Ok((None, None));
+        };
+        let Ok(counts) = self.status.log() else {
+            return Err(ServerFault::Log(LogFault::Memory));
+        };
+        let file = match open_log(self.rt, path) {
+            Ok(file) => file,
+            Err(error) => return Err(ServerFault::Log(LogFault::Unopened(error))),
+        };
+        match start_answer_log(self.rt, self.rt.alloc(), file, kept, counts) {
+            Ok((log, writer)) => Ok((Some(log), Some(writer))),
+            Err(AllocError) => Err(ServerFault::Log(LogFault::Memory)),
         }
-        Ok(())
+    }
+
+    /// Reads the journal and the map, if there are such, and counts the end of the map, or of a journal that keeps edits,
+    /// as a commit. Gives what keeps further edits.
+    fn load(
+        &self,
+        desk: &mut Desk,
+        counter: &mut DeskCounter<'_>,
+    ) -> Result<Option<Keeper<JournalDisk>>, ServerFault>
+        requires nothing { lists_of desk.old ≡ all_published [] }
+        ensures kept { IfOk result (λ keeper. IfSome keeper (λ k. IsCleanKeeper k → IsKept k desk.new)) }
+        ensures same { IsSameDesk desk.old desk.new }
+    {
+        let keeper = match (self.order.journal, self.order.map) {
+            (Some(path), _) => Some(load_kept(self.rt, path, self.order, desk)?),
+            (None, Some(path)) => {
+                load_from(self.rt, path, self.order, desk)?;
+                None
+            }
+            (None, None) => None,
+        };
+        if self.order.map.is_some() || desk.edition() > 0 {
+            self.count_end(counter);
+        }
+        Ok(keeper)
+    }
+
+    /// Counts the end of what was read as a commit.
+    fn count_end(&self, counter: &mut DeskCounter<'_>) {
+        if let Ok(since) = self.rt.since_1970() {
+            counter.count(DeskEvent::Committed(since.as_secs()));
+        }
     }
 
     /// Tells that it is ready, and answers connections. Meanwhile a thread writes what is said about them.
@@ -165,6 +217,8 @@ where
         &self,
         listeners: &Listeners,
         desk: &mut Desk,
+        keeper: Option<Keeper<JournalDisk>>,
+        answers: Option<AnswerLog>,
         readers: Readers,
         counter: DeskCounter<'_>,
     ) -> Ran
@@ -179,7 +233,7 @@ where
         let Ok((sender, writer)) = start_log(self.rt, self.rt.alloc()) else {
             return Err(ServerFault::Run(RunFault::Memory));
         };
-        let result = self.answer_logged(sender, listeners, desk, readers, counter);
+        let result = self.answer_logged(sender, listeners, desk, keeper, answers, readers, counter);
         writer.finish(self.rt);
         result
     }
@@ -190,6 +244,8 @@ where
         sender: LogSender,
         listeners: &Listeners,
         desk: &mut Desk,
+        keeper: Option<Keeper<JournalDisk>>,
+        answers: Option<AnswerLog>,
         readers: Readers,
         counter: DeskCounter<'_>,
     ) -> Ran
@@ -203,6 +259,7 @@ where
             name: order.name,
             gate: &NoGate,
             log: &log,
+            answers,
             status: self.status,
             counts_replies: order.addresses.status.is_some(),
             settings: order.settings,
@@ -218,7 +275,7 @@ where
         if self.ready.ready(listeners).is_err() {
             return Err(ServerFault::Ready);
         }
-        run.answer(listeners, desk, readers, counter)
+        run.answer(listeners, desk, keeper, readers, counter)
             .map_err(ServerFault::Run)
     }
 }

@@ -1,5 +1,5 @@
 //! What a server runs on.
-use std::fs::Files;
+use std::fs::{File, Files};
 use std::io::{Eprint, Input};
 use std::random::RandomSource;
 use std::sync::Wait;
@@ -13,6 +13,6 @@ impl<R: Threads + Wait + Clock + RandomSource + Clone + 'static> Machine for R {
 
 /// What a server runs on, beside the network: a machine with standard input and error, files and memory. Each type that
 /// has all these is one.
-pub trait System: Machine + Eprint + Input + Files + AllocGlobal {}
+pub trait System: Machine + Eprint + Input + Files<File = File> + AllocGlobal {}
 
-impl<R: Machine + Eprint + Input + Files + AllocGlobal> System for R {}
+impl<R: Machine + Eprint + Input + Files<File = File> + AllocGlobal> System for R {}

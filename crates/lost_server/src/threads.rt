@@ -1,4 +1,4 @@
-//! The threads of a server: one for each worker, one for desks, and the one that accepts connections.
+//! The threads of a server: one for each worker, one that accepts connections, and this one, which serves desks.
 ghost use Rattle.std.specs.Prelude.{◌≡◌, ◌≢◌, Err};
 
 use crate::run_fault::RunFault;
@@ -21,8 +21,8 @@ pub(crate) trait Task {
     fn run(self) -> Self::Output;
 }
 
-/// Runs each worker in a thread of its own, and desks in one more. Accepts connections in this thread until the server
-/// is over, and waits for all threads. Gives the sum of all counts. `handles` wake the workers, so they outlive them.
+/// Runs each worker in a thread of its own, and accepts connections in one more until the server is over. Serves desks
+/// in this thread, since what keeps their edits is never sent to another one, and waits for all threads. Gives the sum of all counts. `handles` wake the workers, so they outlive them.
 ///
 /// # Errors
 ///
@@ -32,7 +32,7 @@ pub(crate) fn run_threads<
     R: Threads + Wait + Clock + Eprint + Sync,
     G: Sync,
     W: Task<Output = Counts> + Send + Drop,
-    D: Task<Output = bool> + Send + Drop,
+    D: Task<Output = bool> + Drop,
 >(
     rt: &R,
     alloc: Global,
@@ -58,45 +58,66 @@ pub(crate) fn run_threads<
                     Err(_) => is_short = true,
                 }
             }
-            let desks = if is_short {
-                drop(desks);
-                None
-            } else {
-                scope.spawn(move || desks.run()).ok()
-            };
-            let accepted = if desks.is_none() {
+            let accepted = if is_short {
                 Err(RunFault::Memory)
             } else {
-                accept_all(acceptor, handles.as_slice())
+                serve_desks_beside(rt, desks, acceptor, handles.as_slice())
             };
-            acceptor.is_over.store(true, Ordering::SeqCst);
             for handle in handles.iter_mut() {
                 handle.close();
             }
-            join_all(rt, threads, desks, accepted)
+            join_all(rt, threads, accepted)
         },
     )
 }
 
-/// Accepts connections until the server is over. Counts a fault for each that no worker could take.
-fn accept_all<R: Wait + Clock + Eprint, G>(
+/// Serves desks in this thread while another one accepts connections, until the server is over.
+fn serve_desks_beside<
+    R: Threads + Wait + Clock + Eprint + Sync,
+    G: Sync,
+    D: Task<Output = bool> + Drop,
+>(
+    rt: &R,
+    desks: D,
     acceptor: &Acceptor<'_, R, G>,
     handles: &[WorkerHandle],
 ) -> Result<Counts, RunFault>
     ensures { result ≢ Err RunFault.Workers }
 {
-    match acceptor.accept_all(handles) {
-        Some(counts) => Ok(counts),
-        None => Err(RunFault::Accept),
-    }
+    thread::scope(
+        thread::scope_env(),
+        rt,
+        |scope| -> Result<Counts, RunFault>
+            ensures { result ≢ Err RunFault.Workers }
+        {
+            let Ok(accepting) = scope.spawn(move || accept_all(acceptor, handles)) else {
+                return Err(RunFault::Memory);
+            };
+            let has_served = desks.run();
+            match accepting.join(rt) {
+                Some(counts) if has_served => Ok(counts),
+                _ => Err(RunFault::Accept),
+            }
+        },
+    )
 }
 
-/// Waits for the threads of all workers and of desks. Gives the sum of all counts, if no desk was missed and all
-/// connections were accepted.
+/// Accepts connections until the server is over, and then says that it is. Counts a fault for each that no worker could
+/// take; nothing if the listener was given up.
+fn accept_all<R: Wait + Clock + Eprint, G>(
+    acceptor: &Acceptor<'_, R, G>,
+    handles: &[WorkerHandle],
+) -> Option<Counts> {
+    let accepted = acceptor.accept_all(handles);
+    acceptor.is_over.store(true, Ordering::SeqCst);
+    accepted
+}
+
+/// Waits for the threads of all workers. Gives the sum of all counts, if no desk was missed and all connections were
+/// accepted.
 fn join_all<R: Threads + Wait>(
     rt: &R,
     threads: Vec<JoinHandle<Counts>>,
-    desks: Option<JoinHandle<bool>>,
     accepted: Result<Counts, RunFault>,
 ) -> Result<Counts, RunFault>
     requires { accepted ≢ Err RunFault.Workers }
@@ -105,11 +126,6 @@ fn join_all<R: Threads + Wait>(
     let mut sum = Counts::default();
     for thread in threads {
         sum = sum.plus(thread.join(rt));
-    }
-    if let Some(desks) = desks
-        && !desks.join(rt)
-    {
-        return Err(RunFault::Accept);
     }
     Ok(sum.plus(accepted?))
 }

@@ -5,11 +5,12 @@ ghost use Rattle.lost_spec.specs.Laws.{BeginsWith};
 use crate::clock::MachineClock;
 use crate::counting::Counting;
 use crate::threads::Task;
+use lost_answer_log::{AnswerLog, Logging};
 use lost_desk::{Desk, Reader, Readers};
 use lost_lines::{Counts, Gate};
 use lost_loop::{EventLoop, Service, WorkerHandle, open_worker};
 use lost_status::{ReplyCounter, WorkerCounters};
-use lost_worker::CachedReader;
+use lost_worker::{CachedReader, SharedReplier};
 use std::alloc::{AllocError, Global};
 use std::hash::RandomState;
 use std::io::Eprint;
@@ -30,6 +31,8 @@ pub(crate) struct Worker<'s, R, G> {
     service: &'s Service<'s, R, G>,
     /// Whether its replies are counted, as when somebody may ask for the counts.
     counts_replies: bool,
+    /// Where its answers are logged, if they are.
+    answers: Option<AnswerLog>,
     reader: KeyedReader,
     replies: ReplyCounter<'s>,
     event_loop: EventLoop<'s>,
@@ -40,6 +43,7 @@ pub(crate) fn workers_of<'s, R: Net, G>(
     rt: &R,
     service: &'s Service<'s, R, G>,
     counts_replies: bool,
+    answers: Option<&AnswerLog>,
     readers: Vec<KeyedReader>,
     handles: &mut Vec<WorkerHandle>,
 ) -> Result<Vec<Worker<'s, R, G>>, AllocError> {
@@ -57,6 +61,7 @@ pub(crate) fn workers_of<'s, R: Net, G>(
         workers.push(Worker {
             service,
             counts_replies,
+            answers: own_log(answers)?,
             reader,
             replies,
             event_loop: EventLoop::new(service.alloc, arrivals, connections)?,
@@ -73,6 +78,7 @@ impl<R: Wait + Clock + Eprint, G: Gate> Task for Worker<'_, R, G> {
         let Worker {
             service,
             counts_replies,
+            answers,
             mut reader,
             replies,
             mut event_loop,
@@ -80,11 +86,36 @@ impl<R: Wait + Clock + Eprint, G: Gate> Task for Worker<'_, R, G> {
         let mut clock = MachineClock::new(service.rt);
         if counts_replies {
             let mut counting = Counting::of(&mut reader, replies);
-            event_loop.run(service, &mut counting, &mut clock)
+            run_logged(service, &mut event_loop, &mut counting, answers, &mut clock)
         } else {
-            event_loop.run(service, &mut reader, &mut clock)
+            run_logged(service, &mut event_loop, &mut reader, answers, &mut clock)
         }
     }
+}
+
+/// A worker's own handle of the log, if there is one.
+fn own_log(answers: Option<&AnswerLog>) -> Result<Option<AnswerLog>, AllocError> {
+    match answers {
+        Some(answers) => Ok(Some(answers.for_another()?)),
+        None => Ok(None),
+    }
+}
+
+/// Serves connections until no more come, and logs the answers, if they are to be.
+fn run_logged<R: Wait + Clock + Eprint, G: Gate, P: SharedReplier>(
+    service: &Service<'_, R, G>,
+    event_loop: &mut EventLoop<'_>,
+    replier: &mut P,
+    answers: Option<AnswerLog>,
+    clock: &mut MachineClock<'_, R>,
+) -> Counts {
+    let Some(answers) = answers else {
+        return event_loop.run(service, replier, clock);
+    };
+    let mut logging = Logging::of(service.rt, service.alloc, replier, answers);
+    let counts = event_loop.run(service, &mut logging, clock);
+    logging.finish();
+    counts
 }
 
 /// The readers of this many workers, each with a cache. Each begins with what the desk has published, and keeps places by

@@ -7,7 +7,7 @@ use Rattle.lost_status.specs.declared.reply_counter.ReplyEvent.{ReplyEvent}
 use Rattle.lost_status.specs.declared.reply_counter.ReplyEvent.TheVariants.{Given, Hits}
 use Rattle.lost_status.specs.declared.reply_counter.ReplyFigures.{ReplyFigures}
 use Rattle.lost_status.specs.declared.desk_event.DeskEvent.{DeskEvent}
-use Rattle.lost_status.specs.declared.desk_event.DeskEvent.TheVariants.{Refused, Committed, Holds, Connected, Left}
+use Rattle.lost_status.specs.declared.desk_event.DeskEvent.TheVariants.{Refused, Committed, Holds, Connected, Left, JournalFailed}
 use Rattle.lost_status.specs.declared.desk_event.DeskFigures.{DeskFigures}
 use Rattle.lost_status.specs.ReplyKind.{kind_place}
 
@@ -62,11 +62,11 @@ pub record IsRepliesPlus (f more sum : ReplyFigures) : Type 0 where
   pub cache_hits : sum.cache_hits ≡ plus f.cache_hits more.cache_hits
 
 abbrev pub no_desk : DeskFigures
-no_desk = record { edition = 0; mappings = 0; pending = 0; digest = 0; last_commit = 0; is_open = false; refusals = replicate 22 0 }
+no_desk = record { edition = 0; mappings = 0; pending = 0; digest = 0; last_commit = 0; is_open = false; journal_failed = false; refusals = replicate 23 0 }
 
--- A refused line adds one to the count of its code alone, which is one from 1 to 22.
+-- A refused line adds one to the count of its code alone, which is one from 1 to 23.
 abbrev pub refusal_counted : (counts : List ℕ) (code : ℕ) → List ℕ
-refusal_counted counts code = if nat_le 1 code && nat_le code 22 then counted_at counts (code - 1) else counts
+refusal_counted counts code = if nat_le 1 code && nat_le code 23 then counted_at counts (code - 1) else counts
 
 -- Any other event at the desk sets what it says.
 abbrev pub desk_counted : DeskFigures → DeskEvent → DeskFigures
@@ -75,3 +75,4 @@ desk_counted f (Committed second) = record f { last_commit = second }
 desk_counted f (Holds edition mappings pending digest) = record f { edition = edition; mappings = mappings; pending = pending; digest = digest }
 desk_counted f Connected = record f { is_open = true }
 desk_counted f Left = record f { is_open = false }
+desk_counted f JournalFailed = record f { journal_failed = true }

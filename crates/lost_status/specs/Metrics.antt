@@ -4,6 +4,7 @@ use Rattle.lost_spec.specs.Text.{Text}
 use Rattle.lost_status.specs.declared.exposition.MetricType.TheVariants.{Counter, Gauge}
 use Rattle.lost_status.specs.declared.connection_event.ConnectionFigures.{ConnectionFigures}
 use Rattle.lost_status.specs.declared.desk_event.DeskFigures.{DeskFigures}
+use Rattle.lost_status.specs.declared.log_counts.LogFigures.{LogFigures}
 use Rattle.lost_status.specs.declared.snapshot.Snapshot.{Snapshot}
 use Rattle.lost_status.specs.declared.reply_kind.ReplyKind.{ReplyKind}
 use Rattle.lost_writing.specs.DeskReplies.{refusal_name}
@@ -33,7 +34,7 @@ abbrev pub code_metric : List ℕ → ℕ → Text
 code_metric refusals code =
     labelled (codes "lostd_refusals_total") (label (codes "code") (decimal code) (44 ∷ label (codes "name") (refusal_name code) (counted (slice_index refusals (code - 1)))))
 
--- what the desk holds, and when it last committed
+-- what the desk holds, when it last committed, whether one is connected, and whether the journal can keep nothing more
 abbrev pub desk_metrics : DeskFigures → Text
 desk_metrics desk =
     metric Gauge (codes "lostd_edition") (codes "The edition that is published: how many edits were accepted in all.") desk.edition
@@ -41,6 +42,7 @@ desk_metrics desk =
     ++ metric Gauge (codes "lostd_pending") (codes "How many edits are staged and not committed.") desk.pending
     ++ metric Gauge (codes "lostd_last_commit_timestamp_seconds") (codes "When the desk last committed, in seconds since 1970; 0 before its first commit.") desk.last_commit
     ++ metric Gauge (codes "lostd_desk_connected") (codes "Whether a desk is connected: 1 or 0.") (flag desk.is_open)
+    ++ metric Gauge (codes "lostd_journal_failed") (codes "Whether the journal can keep nothing more until a restart: 1 or 0.") (flag desk.journal_failed)
 
 -- the counts of query connections, of which so many are open, and so many wait
 unfoldable pub connection_counts : ConnectionFigures → (opened waiting : ℕ) → Text
@@ -61,3 +63,9 @@ worker_metrics now =
     metric Gauge (codes "lostd_workers") (codes "How many workers there are.") now.workers
     ++ metric Gauge (codes "lostd_workers_busy") (codes "How many workers serve a connection.") now.connections.busy
     ++ metric Counter (codes "lostd_cache_hits_total") (codes "How often a worker found the place of a request in its cache.") now.replies.cache_hits
+
+-- the log of answers
+abbrev pub log_metrics : LogFigures → Text
+log_metrics log =
+    metric Counter (codes "lostd_log_lines_total") (codes "Lines of the log of answers that were written.") log.written
+    ++ metric Counter (codes "lostd_log_left_out_total") (codes "Lines of the log of answers that were left out, since its file took none in time.") log.left_out

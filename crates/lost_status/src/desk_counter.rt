@@ -14,6 +14,7 @@ pub(crate) struct DeskBlock {
     held: HeldBlock,
     last_commit: AtomicU64,
     is_open: AtomicBool,
+    journal_failed: AtomicBool,
     refusals: [AtomicU64; CODES],
 }
 
@@ -24,6 +25,7 @@ impl DeskBlock {
             held: HeldBlock::new(),
             last_commit: AtomicU64::new(0),
             is_open: AtomicBool::new(false),
+            journal_failed: AtomicBool::new(false),
             refusals: array::from_fn(|_| AtomicU64::new(0)),
         }
     }
@@ -40,6 +42,9 @@ impl DeskBlock {
             DeskEvent::Connected | DeskEvent::Left => {
                 self.is_open.store(figures.is_open, Ordering::SeqCst);
             }
+            DeskEvent::JournalFailed => self
+                .journal_failed
+                .store(figures.journal_failed, Ordering::SeqCst),
         }
     }
 
@@ -64,6 +69,7 @@ impl DeskBlock {
             digest: held.digest,
             last_commit: self.last_commit.load(Ordering::SeqCst),
             is_open: self.is_open.load(Ordering::SeqCst),
+            journal_failed: self.journal_failed.load(Ordering::SeqCst),
             refusals: array::from_fn(|place| match self.refusals.as_slice().get(place) {
                 Some(count) => count.load(Ordering::SeqCst),
                 None => 0,

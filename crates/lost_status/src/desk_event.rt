@@ -5,15 +5,15 @@ ghost use Rattle.lost_status.specs.Figures.{desk_counted, no_desk, refusal_count
 use crate::numbers::count_at;
 
 /// The greatest refusal code. Codes begin at 1.
-pub(crate) const LAST_CODE: u8 = 22;
+pub(crate) const LAST_CODE: u8 = 23;
 
 /// How many refusal codes there are.
-pub(crate) const CODES: usize = 22;
+pub(crate) const CODES: usize = 23;
 
 /// What happens at the desk.
 #[derive(Clone, Copy, PartialEq, Eq, Debug)]
 pub enum DeskEvent {
-    /// A line was refused with this code. A code that is not from 1 to 22 is not counted.
+    /// A line was refused with this code. A code that is not from 1 to 23 is not counted.
     Refused(u8),
     /// The desk committed at this second since 1970. Second 0 counts as none.
     Committed(u64),
@@ -32,6 +32,8 @@ pub enum DeskEvent {
     Connected,
     /// The desk's connection has ended.
     Left,
+    /// The journal can keep nothing more until the server is started again.
+    JournalFailed,
 }
 
 /// What the desk holds, when it last committed, and which lines it refused.
@@ -49,6 +51,8 @@ pub(crate) struct DeskFigures {
     pub(crate) last_commit: u64,
     /// Whether a desk is connected.
     pub(crate) is_open: bool,
+    /// Whether the journal can keep nothing more until the server is started again.
+    pub(crate) journal_failed: bool,
     /// How many lines were refused, by code, from code 1 on. A count that reaches 2^64 begins at 0 again.
     pub(crate) refusals: [u64; CODES],
 }
@@ -65,6 +69,7 @@ impl DeskFigures {
             digest: 0,
             last_commit: 0,
             is_open: false,
+            journal_failed: false,
             refusals: [0; CODES],
         }
     }
@@ -89,6 +94,7 @@ impl DeskFigures {
             }
             DeskEvent::Connected => self.is_open = true,
             DeskEvent::Left => self.is_open = false,
+            DeskEvent::JournalFailed => self.journal_failed = true,
         }
     }
 }

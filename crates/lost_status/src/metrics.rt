@@ -2,12 +2,13 @@
 ghost use Rattle.std.specs.Prelude.{◌≡◌, ◌++◌, OnOk, codes, string_bytes};
 ghost use Rattle.lost_writing.specs.DeskReplies.{IsCode};
 ghost use Rattle.lost_status.specs.Exposition.{counted, label, labelled, metric};
-ghost use Rattle.lost_status.specs.Metrics.{code_metric, connection_counts, connection_metrics, desk_metrics, flag, kind_metric, kind_sample, state_metrics, worker_metrics};
+ghost use Rattle.lost_status.specs.Metrics.{code_metric, connection_counts, connection_metrics, desk_metrics, flag, kind_metric, kind_sample, log_metrics, state_metrics, worker_metrics};
 
 use crate::connection_event::ConnectionFigures;
 use crate::desk_event::{CODES, DeskFigures, LAST_CODE};
 use crate::exposition::MetricType::{Counter, Gauge};
 use crate::exposition::{MetricType, describe, write_metric};
+use crate::log_counts::LogFigures;
 use crate::reply_kind::{KINDS, ReplyKind};
 use crate::snapshot::Snapshot;
 use crate::status::VERSION;
@@ -31,6 +32,7 @@ pub(crate) fn metrics_text(alloc: Global, now: &Snapshot) -> Result<String, Allo
     write_refusals(&mut text, &now.desk.refusals)?;
     write_connections(&mut text, &now.connections)?;
     write_workers(&mut text, now)?;
+    write_log(&mut text, now.log)?;
     Ok(text)
 }
 
@@ -92,7 +94,7 @@ fn write_digest(text: &mut String, digest: &str, value: u64) -> Result<(), Alloc
     write!(text, "lostd_map_info{{digest=\"{digest}\"}} {value}\n")
 }
 
-/// Writes what the desk holds, and when it last committed.
+/// Writes what the desk holds, when it last committed, and whether it is connected and its journal keeps.
 fn write_desk(text: &mut String, desk: &DeskFigures) -> Result<(), AllocError>
     ensures { OnOk result (string_bytes text.new ≡ string_bytes text.old ++ desk_metrics desk.now) }
 {
@@ -129,6 +131,12 @@ fn write_desk(text: &mut String, desk: &DeskFigures) -> Result<(), AllocError>
         "lostd_desk_connected",
         "Whether a desk is connected: 1 or 0.",
         desk.is_open,
+    )?;
+    write_flag(
+        text,
+        "lostd_journal_failed",
+        "Whether the journal can keep nothing more until a restart: 1 or 0.",
+        desk.journal_failed,
     )?;
     Ok(())
 }
@@ -268,6 +276,27 @@ fn write_workers(text: &mut String, now: &Snapshot) -> Result<(), AllocError>
         "lostd_cache_hits_total",
         "How often a worker found the place of a request in its cache.",
         now.replies.cache_hits,
+    )?;
+    Ok(())
+}
+
+/// Writes the counts of the log of answers.
+fn write_log(text: &mut String, log: LogFigures) -> Result<(), AllocError>
+    ensures { OnOk result (string_bytes text.new ≡ string_bytes text.old ++ log_metrics log) }
+{
+    write_metric(
+        text,
+        Counter,
+        "lostd_log_lines_total",
+        "Lines of the log of answers that were written.",
+        log.written,
+    )?;
+    write_metric(
+        text,
+        Counter,
+        "lostd_log_left_out_total",
+        "Lines of the log of answers that were left out, since its file took none in time.",
+        log.left_out,
     )?;
     Ok(())
 }

@@ -55,6 +55,8 @@ fn add_states(
     put(report, alloc, "map", Value::String(digest))?;
     put(report, alloc, "ready", Value::Bool(now.is_ready))?;
     put(report, alloc, "desk", Value::Bool(now.desk.is_open))?;
+    let journal_failed = Value::Bool(now.desk.journal_failed);
+    put(report, alloc, "journalFailed", journal_failed)?;
     let last_commit = last_commit_of(alloc, now.desk.last_commit)?;
     put(report, alloc, "lastCommit", last_commit)
 }
@@ -72,6 +74,11 @@ fn add_counts(
         &[("busy", now.connections.busy), ("count", now.workers)],
     )?;
     put(report, alloc, "workers", Value::Object(workers))?;
+    let log = numbers(
+        alloc,
+        &[("leftOut", now.log.left_out), ("written", now.log.written)],
+    )?;
+    put(report, alloc, "log", Value::Object(log))?;
     let refusals = refusals_of(alloc, &now.desk)?;
     put(report, alloc, "refusals", refusals)?;
     let replies = replies_of(alloc, &now.replies.replies)?;

@@ -1,6 +1,7 @@
 //! The numbers of a server at one moment.
 use crate::connection_event::ConnectionFigures;
 use crate::desk_event::DeskFigures;
+use crate::log_counts::LogFigures;
 use crate::metrics::metrics_text;
 use crate::reply_counter::ReplyFigures;
 use crate::report::report_text;
@@ -21,6 +22,8 @@ pub struct Snapshot {
     pub(crate) workers: u64,
     /// What all workers have counted of their replies.
     pub(crate) replies: ReplyFigures,
+    /// What was counted of the log of answers.
+    pub(crate) log: LogFigures,
 }
 
 impl Snapshot {

@@ -7,11 +7,13 @@ ghost use Rattle.lost_status.specs.Status.{started_of, uptime_of, worker_count};
 use crate::connection_counter::{ConnectionBlock, ConnectionCounter};
 use crate::connection_event::ConnectionFigures;
 use crate::desk_counter::{DeskBlock, DeskCounter};
+use crate::log_counts::LogCounts;
 use crate::reply_counter::ReplyFigures;
 use crate::snapshot::Snapshot;
 use crate::worker_block::{WorkerBlock, WorkerCounters};
 use crossbeam_utils::CachePadded;
 use std::alloc::{AllocError, Global};
+use std::sync::Arc;
 use std::sync::atomic::{AtomicBool, Ordering};
 use std::time::Duration;
 
@@ -26,6 +28,7 @@ pub struct Status {
     workers: Vec<CachePadded<WorkerBlock>>,
     acceptor: CachePadded<ConnectionBlock>,
     desk: CachePadded<DeskBlock>,
+    log: Arc<LogCounts>,
     is_ready: AtomicBool,
     started: Duration,
 }
@@ -41,10 +44,14 @@ impl Status {
         for _number in 0..workers {
             blocks.push(CachePadded::new(WorkerBlock::new()))?;
         }
+        let Ok(log) = Arc::new(alloc, LogCounts::new()) else {
+            return Err(AllocError);
+        };
         Ok(Status {
             workers: blocks,
             acceptor: CachePadded::new(ConnectionBlock::new()),
             desk: CachePadded::new(DeskBlock::new()),
+            log,
             is_ready: AtomicBool::new(false),
             started,
         })
@@ -78,6 +85,11 @@ impl Status {
         DeskCounter::new(&self.desk)
     }
 
+    /// What is counted of the log of answers, for the threads that write it.
+    pub fn log(&self) -> Result<Arc<LogCounts>, AllocError> {
+        Arc::try_clone(&self.log)
+    }
+
     /// Says that the server answers from its map, from now on. No contract can say what an atomic holds: the rows of
     /// `status.rows` compare it.
     pub fn set_ready(&self) {
@@ -96,6 +108,7 @@ impl Status {
             connections: self.connections(),
             workers: self.workers.len() as u64,
             replies: self.replies(),
+            log: self.log.load(),
         }
     }
 

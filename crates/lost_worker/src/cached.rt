@@ -128,6 +128,10 @@ impl<S: BuildHasher + Drop> Replier for CachedReader<S> {
         self.reader
             .reply_line_over(alloc, &mut self.sets, name, time, line)
     }
+
+    fn edition(&self) -> u64 {
+        self.reader.edition()
+    }
 }
 
 /// `capacity` as a number of places, if it is from 1 to 65,536.

@@ -1,5 +1,5 @@
 //! Answers a request line.
-ghost use Rattle.std.specs.Prelude.{◌≡◌, ◌+◌, IsTrue, IfOk, OnOk};
+ghost use Rattle.std.specs.Prelude.{◌≡◌, ◌+◌, length, IsTrue, IfOk, OnOk};
 ghost use Rattle.lost_spec.specs.Book.{is_accepted};
 ghost use Rattle.lost_spec.specs.Laws.{BeginsWith};
 ghost use Rattle.lost_desk.specs.Seen.{ReaderSeen, seen_book};
@@ -28,6 +28,11 @@ pub trait Replier {
         ensures one_list { OnOk result (IsTrue (is_accepted (reader self.new).limits (reader self.new).seen)) }
         ensures same { ((reader self.new).opening ≡ (reader self.old).opening)
             × ((reader self.new).limits ≡ (reader self.old).limits) };
+
+    /// The number of edits of the list that it has seen or was told: after a reply, that of the list that it was
+    /// answered from.
+    fn edition(&self) -> u64
+        ensures { result ≡ length (reader self.now).seen };
 }
 
 impl Replier for Reader {
@@ -35,5 +40,9 @@ impl Replier for Reader {
 
     fn reply_line(&mut self, alloc: Global, name: &Source, time: &Moment, line: &[u8]) -> Replied {
         Reader::reply_line(self, alloc, name, time, line)
+    }
+
+    fn edition(&self) -> u64 {
+        Reader::edition(self)
     }
 }

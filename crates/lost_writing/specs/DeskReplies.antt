@@ -14,7 +14,7 @@ refusal_names =
     ∷ codes "BadService" ∷ codes "BadUri" ∷ codes "BadNumber" ∷ codes "BadRegion" ∷ codes "RegionMissing"
     ∷ codes "TooLarge" ∷ codes "BadKey" ∷ codes "IdentityHeld" ∷ codes "IdentityUnknown" ∷ codes "NotNewer"
     ∷ codes "KeyHeld" ∷ codes "KeyUnchanged" ∷ codes "Full" ∷ codes "EditsSpent" ∷ codes "Memory"
-    ∷ codes "Withdrawn" ∷ codes "TracesFull" ∷ []
+    ∷ codes "Withdrawn" ∷ codes "TracesFull" ∷ codes "NotKept" ∷ []
 
 -- a number of the table of refusals: each name there has one
 pub record IsCode (code : ℕ) : Type 0 where

@@ -17,7 +17,7 @@ pub enum DeskReply {
 }
 
 /// The greatest code of the table of refusals.
-const LAST_CODE: u8 = 22;
+const LAST_CODE: u8 = 23;
 
 /// Whether a number is a code of the table of refusals.
 pub fn is_code(code: u8) -> bool
@@ -55,7 +55,8 @@ pub fn refusal_name(code: u8) -> &'static str
         19 => "EditsSpent",
         20 => "Memory",
         21 => "Withdrawn",
-        _ => "TracesFull",
+        22 => "TracesFull",
+        _ => "NotKept",
     }
 }
 

@@ -1,11 +1,12 @@
 //! `lostd serve` runs a server as ordered.
 ghost use Rattle.std.specs.Prelude.{◌≡◌};
-ghost use Rattle.lostd.specs.ExitReasons.{serve_reason, map_reason};
+ghost use Rattle.lostd.specs.ExitReasons.{journal_reason, log_reason, serve_reason, map_reason};
 
-use lost_command::{ExitReason, ServeOrder, opening_failed};
+use crate::journal_reasons::{recovery_reason, say_of_stop};
+use lost_command::{ExitReason, LogReplies, ServeOrder, opening_failed};
 use lost_server::{
-    ConnectionLimits, ConnectionSettings, Listeners, MapFault, OnRefusal, Progress, Ready,
-    RunFault, ServeError, ServerFault, ServerOrder, System, run_server,
+    ConnectionLimits, ConnectionSettings, JournalFault, KeptReply, Listeners, LogFault, MapFault,
+    OnRefusal, Progress, Ready, RunFault, ServeError, ServerFault, ServerOrder, System, run_server,
 };
 use lost_sockets::{Addresses, ListenError, Listener};
 use std::io;
@@ -22,6 +23,8 @@ pub(crate) fn serve_as_ordered<
     let ordered = ServerOrder {
         name: &order.name,
         map: order.map,
+        journal: order.journal,
+        answers: answers_of(order),
         on_refusal: if order.keeps_going {
             OnRefusal::GoOn
         } else {
@@ -61,6 +64,23 @@ impl<R: Print> Ready for ReadyLine<'_, R> {
 
     fn ready(&self, _listeners: &Listeners) -> io::Result<()> {
         println!(self.rt; "ready")
+    }
+}
+
+/// The order's log of answers, if there is one, and what it keeps of replies.
+fn answers_of<'a>(order: &ServeOrder<'a>) -> Option<(&'a str, KeptReply)> {
+    match order.log {
+        Some(path) => Some((path, kept_of(order.log_replies))),
+        None => None,
+    }
+}
+
+/// What the log of answers keeps of replies.
+fn kept_of(replies: LogReplies) -> KeptReply {
+    match replies {
+        LogReplies::Whole => KeptReply::Whole,
+        LogReplies::Digest => KeptReply::Digest,
+        LogReplies::Nothing => KeptReply::Nothing,
     }
 }
 
@@ -107,6 +127,14 @@ fn reason_of<R: Eprint>(rt: &R, order: &ServeOrder<'_>, fault: ServerFault) -> E
             say_of_map(rt, order.map.unwrap_or(""), fault);
             map_reason(fault)
         }
+        ServerFault::Log(fault) => {
+            say_of_log(rt, order.log.unwrap_or(""), fault);
+            log_reason(fault)
+        }
+        ServerFault::Journal(fault) => {
+            say_of_journal(rt, order, fault);
+            journal_reason(fault)
+        }
     }
 }
 
@@ -130,6 +158,37 @@ fn map_reason(fault: MapFault) -> ExitReason
         MapFault::Refused { .. } => ExitReason::MapRefused,
         MapFault::Memory => ExitReason::MEMORY,
     }
+}
+
+/// The reason why a journal's fault ends the program.
+fn journal_reason(fault: JournalFault) -> ExitReason
+    ensures { result ≡ journal_reason fault }
+{
+    match fault {
+        JournalFault::NoPath | JournalFault::Holds(_) => ExitReason::CommandLine,
+        JournalFault::NotRecovered(stopped) => recovery_reason(stopped.fault),
+        JournalFault::Unopened(_) | JournalFault::NotKept(_) => ExitReason::File,
+        JournalFault::Memory => ExitReason::MEMORY,
+    }
+}
+
+/// The reason why a log's fault ends the program.
+fn log_reason(fault: LogFault) -> ExitReason
+    ensures { result ≡ log_reason fault }
+{
+    match fault {
+        LogFault::Unopened(_) => ExitReason::File,
+        LogFault::Memory => ExitReason::MEMORY,
+    }
+}
+
+/// Reports why a log was not begun; a refusal of memory is reported at the end.
+fn say_of_log<R: Eprint>(rt: &R, path: &str, fault: LogFault) {
+    // If standard error fails, the exit status still tells.
+    let _said = match fault {
+        LogFault::Unopened(error) => eprintln!(rt; "lostd: --log: {path}: {error}"),
+        LogFault::Memory => Ok(()),
+    };
 }
 
 /// Reports why an address cannot be listened on.
@@ -160,5 +219,24 @@ fn say_of_map<R: Eprint>(rt: &R, path: &str, fault: MapFault) {
             )
         }
         MapFault::Memory => Ok(()),
+    };
+}
+
+/// Reports why a journal is not used; a refusal of memory before it was opened is reported at the end.
+fn say_of_journal<R: Eprint>(rt: &R, order: &ServeOrder<'_>, fault: JournalFault) {
+    let path = order.journal.unwrap_or("");
+    let map = order.map.unwrap_or("");
+    // If standard error fails, the exit status still tells.
+    let _said = match fault {
+        JournalFault::NoPath => eprintln!(rt; "lostd: --journal is empty: it must name a file"),
+        JournalFault::Unopened(fault) => eprintln!(rt; "lostd: --journal: {path}: {fault}"),
+        JournalFault::NotRecovered(stopped) => say_of_stop(rt, path, stopped),
+        JournalFault::Holds(edits) => {
+            eprintln!(rt;
+                "lostd: --journal: {path} holds {edits} edits, so --map {map} is not read: compare both by \"lostd check\" and the map digest, and leave out one of them"
+            )
+        }
+        JournalFault::NotKept(fault) => eprintln!(rt; "lostd: --journal: {path}: {fault}"),
+        JournalFault::Memory => Ok(()),
     };
 }

@@ -46,6 +46,8 @@ pub(crate) fn ended<R: System + Net<Listener = TcpListener, Stream = TcpStream> 
             socket_mode: 0o600,
         },
         map: None,
+        journal: None,
+        answers: None,
         on_refusal: OnRefusal::Stop,
         progress: Progress::Hidden,
         workers: 2,

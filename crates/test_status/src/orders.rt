@@ -1,6 +1,7 @@
 //! The orders that command lines give a server, and the exit reasons.
-use lost_command::{ExitReason, ServeOrder, run as run_command};
+use lost_command::{ExitReason, ExplainOrder, Order, ServeOrder, run as run_command};
 use lost_lines::ServeError;
+use lost_mapping::Moment;
 use lost_status::VERSION;
 use std::alloc::{AllocError, Global};
 use std::rt::Files;
@@ -10,7 +11,7 @@ use std::{fs, io};
 const TABLE: &str = "orders.rows";
 
 /// The exit reasons. Their texts are behind a word of the command line, or stand alone.
-const REASONS: [ExitReason; 8] = [
+const REASONS: [ExitReason; 9] = [
     ExitReason::Words,
     ExitReason::CommandLine,
     ExitReason::Run(ServeError::TurnsSpent),
@@ -19,6 +20,7 @@ const REASONS: [ExitReason; 8] = [
     ExitReason::Accept,
     ExitReason::File,
     ExitReason::MapRefused,
+    ExitReason::Damaged,
 ];
 
 /// Prints the order of each command line of the table, and then the status and the text of each exit reason.
@@ -39,10 +41,41 @@ fn print_answer<R: Files + Print + Eprint + Input + AllocGlobal>(
     let words = words_of(rt.alloc(), line)?;
     let answer = run_command(rt, words.as_slice(), VERSION, false);
     match answer {
-        Ok(Some(order)) => print_order(rt, &order),
+        Ok(Some(Order::Serve(order))) => print_order(rt, &order),
+        Ok(Some(Order::CheckJournal(journal))) => println!(rt; "check journal={journal}"),
+        Ok(Some(Order::Compact(journal, expired_at))) => print_compact(rt, journal, expired_at),
+        Ok(Some(Order::Audit(order))) => {
+            println!(rt;
+                "audit journal={} name={}",
+                order.journal,
+                order.name.text()
+            )
+        }
+        Ok(Some(Order::Explain(order))) => print_explain(rt, &order),
         Ok(None) => println!(rt; "no order"),
         Err(reason) => println!(rt; "{reason:?}"),
     }
+}
+
+/// Prints an order to write a journal anew, with a hyphen for each missing part.
+fn print_compact<R: Print>(rt: &R, journal: &str, expired_at: Option<Moment>) -> io::Result<()> {
+    print!(rt; "compact journal={journal} drop-expired=")?;
+    match expired_at {
+        Some(moment) => { println!(rt; "day {} nanosecond {}", moment.day(), moment.nanosecond()) }
+        None => println!(rt; "-"),
+    }
+}
+
+/// Prints an order to answer as of an edition, with a hyphen for each missing part.
+fn print_explain<R: Print>(rt: &R, order: &ExplainOrder<'_>) -> io::Result<()> {
+    print!(rt;
+        "explain journal={} name={} edition=",
+        order.journal,
+        order.name.text()
+    )?;
+    print_number(rt, order.edition)?;
+    let moment = order.moment;
+    println!(rt; " day {} nanosecond {}", moment.day(), moment.nanosecond())
 }
 
 /// Prints the status and the text of each exit reason.
@@ -66,14 +99,16 @@ fn words_of(alloc: Global, line: &str) -> Result<Vec<String>, AllocError> {
 /// Prints an order, with a hyphen for each missing part.
 fn print_order<R: Print>(rt: &R, order: &ServeOrder<'_>) -> io::Result<()> {
     print!(rt;
-        "name={} map={} keep-going={} ",
+        "name={} map={} journal={} keep-going={} ",
         order.name.text(),
         order.map.unwrap_or("-"),
+        order.journal.unwrap_or("-"),
         order.keeps_going
     )?;
+    print!(rt; "log={} {:?} ", order.log.unwrap_or("-"), order.log_replies)?;
     print_addresses(rt, order)?;
     print!(rt; "workers={} connections=", order.workers)?;
-    print_connections(rt, order.connections)?;
+    print_number(rt, order.connections)?;
     print_times(rt, order)
 }
 
@@ -89,10 +124,10 @@ fn print_addresses<R: Print>(rt: &R, order: &ServeOrder<'_>) -> io::Result<()> {
     )
 }
 
-/// Prints a number of connections.
-fn print_connections<R: Print>(rt: &R, connections: Option<u32>) -> io::Result<()> {
-    match connections {
-        Some(connections) => print!(rt; "{connections}"),
+/// Prints a number, or a hyphen if there is none.
+fn print_number<R: Print>(rt: &R, number: Option<u32>) -> io::Result<()> {
+    match number {
+        Some(number) => print!(rt; "{number}"),
         None => print!(rt; "-"),
     }
 }

@@ -14,6 +14,8 @@
 //! digest of the mappings, a number |
 //! | `commit SECONDS` | the desk commits so many seconds after 1970 |
 //! | `desk`, `no desk` | a desk connects, and leaves |
+//! | `journal failed` | the journal can keep nothing more |
+//! | `logged COUNT`, `left out COUNT` | so many lines of the log of answers are written, and left out |
 //! | `after SECONDS` | so many seconds pass |
 use super::watch::Watch;
 use lost_status::{
@@ -64,6 +66,11 @@ impl<'s> Threads<'s> {
             "taken" | "ended" | "failed" | "busy" | "idle" => self.at_worker(word, rest),
             "after" => watch.pass(number_of(rest)),
             "ready" => self.status.set_ready(),
+            "logged" => self.status.log()?.add_written(number_of(rest)),
+            "left" => {
+                let (_out, count) = rest.split_once(' ').unwrap_or((rest, ""));
+                self.status.log()?.add_left_out(number_of(count));
+            }
             _ => self.at_connection(event),
         }
         Ok(())
@@ -123,6 +130,7 @@ impl<'s> Threads<'s> {
             "commit" => DeskEvent::Committed(number_of(rest)),
             "book" => held(rest),
             "desk" => DeskEvent::Connected,
+            "journal" => DeskEvent::JournalFailed,
             _ => DeskEvent::Left,
         });
     }

@@ -1,6 +1,9 @@
 use Rattle.lost_worker.specs.Desking.{IsSameDesk}
+use Rattle.lost_desks.specs.Kept.{StaysKept}
 use Rattle.lost_desks.proofs.serving.serve_desks.Given as goal
 
--- the desk is the same, whatever its lists are
 abbrev pub invariant-loop-turn : goal.invariant-loop-turn
-invariant-loop-turn g l = IsSameDesk l.initial.desk l.desk
+invariant-loop-turn g l = record {
+  kept : StaysKept l.initial.keeper l.initial.desk l.keeper l.desk;
+  same : IsSameDesk l.initial.desk l.desk;
+}

@@ -1,0 +1,2 @@
+pub mod SurvivalLemmas
+pub mod UniqueLemmas

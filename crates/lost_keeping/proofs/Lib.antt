@@ -1,0 +1,2 @@
+pub mod KeepingLemmas
+pub mod KeptLemmas
