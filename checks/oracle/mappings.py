@@ -7,7 +7,7 @@ from texts import are_uris, is_id, is_number, is_source, lowered, moment_of, rea
 WITHOUT_END = ("NO-CACHE", "NO-EXPIRATION")
 CODE_NAMES = (
     "BadLine BadSource BadSourceId BadStamp BadExpires BadService BadUri BadNumber BadRegion RegionMissing TooLarge "
-    "BadKey IdentityHeld IdentityUnknown NotNewer KeyHeld KeyUnchanged Full EditsSpent Memory Withdrawn TracesFull"
+    "BadKey IdentityHeld IdentityUnknown NotNewer KeyHeld KeyUnchanged Full EditsSpent Memory Withdrawn TracesFull NotKept"
 ).split()
 
 

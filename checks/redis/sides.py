@@ -24,9 +24,9 @@ class Lostd(Running):
 
     title = "lostd"
 
-    def __init__(self, program, path, workers=1):
+    def __init__(self, program, path, workers=1, *more):
         self.queries, self.desk_port = free_ports(2)
-        words = [*addresses(self.queries, self.desk_port), "--map", path, "--workers", str(workers), *IDLE]
+        words = [*addresses(self.queries, self.desk_port), "--map", path, "--workers", str(workers), *IDLE, *more]
         super().__init__(program, words)
         self.port = self.queries
 

@@ -225,10 +225,10 @@ def be_client(client):
         client.differences.add(f"client {client.number}: {traceback.format_exc()}")
 
 
-def be_clients(numbers, run, line):
-    """What the process of some clients does, with a thread for each; `line` is told what they counted."""
+def be_clients(numbers, run, line, kind=Client):
+    """What the process of some clients of a kind does, with a thread for each; `line` is told what they counted."""
     notebook = Notebook(numbers[0], run)
-    clients = [Client(number, run, notebook) for number in numbers]
+    clients = [kind(number, run, notebook) for number in numbers]
     threads = [threading.Thread(target=be_client, args=(client,)) for client in clients]
     for thread in threads:
         thread.start()

@@ -5,7 +5,7 @@ import tempfile
 import time
 
 import search
-from clients import CHAPTER_SECONDS, LIVES, Run, be_clients, replies_kept
+from clients import CHAPTER_SECONDS, LIVES, Client, Run, be_clients, replies_kept
 from drawing import history
 from mappings import holds
 from server import Server
@@ -57,12 +57,12 @@ def committed(reply, before):
     return int(reply[len(front) : -2]) if reply.startswith(front) else before
 
 
-def start_clients(run, clients):
+def start_clients(run, clients, kind=Client):
     """Starts the clients, dealt to some processes; each process, with the line on which it tells what they counted."""
     started = []
     for first in range(min(clients, PROCESSES)):
         line, other = FORK.Pipe(duplex=False)
-        process = FORK.Process(target=be_clients, args=(range(first, clients, PROCESSES), run, other), daemon=True)
+        process = FORK.Process(target=be_clients, args=(range(first, clients, PROCESSES), run, other, kind), daemon=True)
         process.start()
         other.close()
         started.append((process, line))

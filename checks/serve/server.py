@@ -94,6 +94,15 @@ class Peer:
         self.put(b"".join(line + b"\n" for line in lines))
         return self.take(len(lines))
 
+    def came(self):
+        """The replies that came and were not taken, without their newlines; the server may be gone."""
+        try:
+            while received := self.socket.recv(4 * PIECE):
+                self.pieces.append(received)
+        except OSError:
+            pass
+        return b"".join(self.pieces).split(b"\n")[:-1]
+
     def end(self, patience=PATIENCE):
         """Ends the lines; what is still received until the server ends the connection."""
         while self.to_send:
@@ -125,27 +134,31 @@ def free_ports(count):
 
 
 class Running:
-    """A server that runs. Used in a `with`, it is ended at the end in any case."""
+    """A server that runs. Used in a `with`, it is ended at the end in any case. Another program may start it, by the words `under`."""
 
     queries = desk_port = None
     made = 0
 
-    def __init__(self, program, words, megabytes=None, errors=None):
+    def __init__(self, program, words, megabytes=None, errors=None, under=()):
         self.errors = tempfile.TemporaryFile() if errors is None else errors
         self.process = subprocess.Popen(
-            ["lostd", "serve", "--name", NAME, *words],
-            executable=program,
+            [*under, program if under else "lostd", "serve", "--name", NAME, *words],
+            executable=None if under else program,
             stdin=subprocess.DEVNULL,
             stdout=subprocess.PIPE,
             stderr=self.errors,
             preexec_fn=lambda: prepare(megabytes),
             env=os.environ | ({"MALLOC_ARENA_MAX": "1"} if megabytes else {}),
         )
+        self.begun()
         self.first_line = self.process.stdout.readline()
         if self.first_line != b"ready\n":
             self.stop()
             said = self.said() if errors is None else ""
             raise Ended(f"the server did not begin: {self.first_line!r} {said}")
+
+    def begun(self):
+        """What is done while it begins: nothing."""
 
     def __enter__(self):
         return self
@@ -214,15 +227,19 @@ class Server(Running):
 class Standing(Running):
     """A server without end: desks one after another, as many query connections as come, and a status."""
 
-    def __init__(self, program, workers, *more, errors=None):
-        self.queries, self.desk_port, self.status_port = free_ports(3)
+    def __init__(self, program, workers, *more, errors=None, under=(), ports=None):
+        self.queries, self.desk_port, self.status_port = ports or free_ports(3)
         words = [*addresses(self.queries, self.desk_port), "--status", f"127.0.0.1:{self.status_port}"]
-        super().__init__(program, [*words, "--workers", str(workers), *more], errors=errors)
+        super().__init__(program, [*words, "--workers", str(workers), *more], errors=errors, under=under)
+
+    def page(self, path):
+        """A page that the server gives of itself."""
+        with urllib.request.urlopen(f"http://127.0.0.1:{self.status_port}{path}", timeout=PATIENCE) as page:
+            return page.read()
 
     def status(self):
         """What the server says of itself."""
-        with urllib.request.urlopen(f"http://127.0.0.1:{self.status_port}/status", timeout=PATIENCE) as page:
-            return json.load(page)
+        return json.loads(self.page("/status"))
 
     def quiet_status(self):
         """The same once no query connection is open, or after a second."""

@@ -41,6 +41,11 @@ class Asked:
         return self.path
 
 
+def begun(path, *words):
+    """A program that runs with these words, and tells what it notes."""
+    return subprocess.Popen([path, *map(str, words)], stdout=subprocess.PIPE, stderr=subprocess.PIPE, text=True)
+
+
 class Waits:
     """The program that notes how long each reply takes; it is compiled into a folder."""
 
@@ -49,7 +54,7 @@ class Waits:
 
     def begin(self, *words):
         """Begins to ask."""
-        return subprocess.Popen([self.path, *map(str, words)], stdout=subprocess.PIPE, stderr=subprocess.PIPE, text=True)
+        return begun(self.path, *words)
 
     def end(self, process):
         """How many replies came, and the nanoseconds within which half of them and 99 of a hundred did."""

@@ -9,6 +9,7 @@ from typing import Dict, NamedTuple, Optional, Tuple, Type
 from aiohttp import hdrs, web
 from multidict import CIMultiDict, istr
 
+from gateway import asked
 from gateway.answering import LARGE, Answer, Answering, in_a_thread
 from gateway.compression import GZIP, LEAST_PACKED, SPELLINGS, NoGzip, TooLong, accepts_gzip, packed, unpacked
 from gateway.connection import Unanswered
@@ -107,6 +108,8 @@ class Handler:
     async def post(self, request: web.Request) -> web.Response:
         """The answer to a question, counted and written down."""
         begun = time.monotonic()
+        if self.side.journal:
+            asked.begin()
         encoding = encoding_of(request)
         why = unread(request, encoding)
         if why:

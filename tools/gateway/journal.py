@@ -6,6 +6,7 @@ import json
 import os
 from typing import Optional
 
+from gateway import asked
 from gateway.answering import Answer
 
 
@@ -26,6 +27,7 @@ class Journal:
             "edition": answer.edition,
             "server": answer.server,
             "seconds": round(seconds, 6),
+            "asked": asked.noted(),
             "askedAtCentreOf": answer.area,
             "detail": answer.detail,
             "request": body.decode(errors="backslashreplace"),

@@ -10,6 +10,7 @@ import asyncio
 import json
 from typing import Callable, List, NamedTuple, Optional, Tuple
 
+from gateway import asked
 from gateway.connection import MOST_ON_THEIR_WAY, Closed, Connection, Unanswered, Unreachable
 from maptools.addresses import Tcp as Address
 
@@ -112,7 +113,7 @@ class Server:
     def send(self, line: bytes) -> asyncio.Future[bytes]:
         """Sends a line; its reply."""
         connection = self.open_for_one()
-        future = connection.ask(line)
+        future = self.ask_over(connection, line)
         if connection.is_spent():
             self.retire(connection)
         return future
@@ -120,10 +121,16 @@ class Server:
     def send_all(self, lines: List[bytes]) -> List[asyncio.Future[bytes]]:
         """Sends lines one behind the other over the connection on which the fewest wait; their replies."""
         connection = self.least_busy()
-        futures = [connection.ask(line) for line in lines]
+        futures = [self.ask_over(connection, line) for line in lines]
         if connection.is_spent():
             self.retire(connection)
         return futures
+
+    def ask_over(self, connection: Connection, line: bytes) -> asyncio.Future[bytes]:
+        """Sends a line over a connection, and notes it for its query; its reply."""
+        future = connection.ask(line)
+        asked.note(self.label, line, future)
+        return future
 
     def open_for_one(self) -> Connection:
         """A connection over which lines go out in this turn already, so that one piece has them all; or else the least busy one."""

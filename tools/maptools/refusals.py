@@ -35,6 +35,11 @@ REFUSALS: Dict[int, Refusal] = {
     20: Refusal("Memory", "the server has no memory for it; nothing changed", "send the line again later"),
     21: Refusal("Withdrawn", "it was withdrawn, at this lastUpdated or later", "drop the line; to bring the mapping back, give a later stamp"),
     22: Refusal("TracesFull", "65,536 withdrawn mappings are remembered", "publish one of them again, with a later stamp"),
+    23: Refusal(
+        "NotKept",
+        "the server's journal could not keep it; nothing changed",
+        "send it again, and ask the operator to look at the server's standard error",
+    ),
 }
 
 ERRORS: Dict[str, str] = {

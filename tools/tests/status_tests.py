@@ -138,7 +138,7 @@ class Metrics(unittest.TestCase):
             for sample, _ in samples:
                 self.assertEqual(sample, f"{name}_total" if kind == "counter" else name)
         self.assertEqual(len(families["lostd_replies"][2]), 13)
-        self.assertEqual(len(families["lostd_refusals"][2]), 22)
+        self.assertEqual(len(families["lostd_refusals"][2]), 23)
 
     @unittest.skipUnless(has_parser() and has_status(), f"{NEEDS}, or the program has no --status")
     def test_a_server_gives_what_it_did(self) -> None:
