@@ -6,7 +6,7 @@ import sys
 import tempfile
 import unittest
 
-from tests.measuring import Refusing
+from tests import measuring
 from tests.running import TOP
 
 FRONT = """
@@ -134,7 +134,7 @@ class Crashes(unittest.TestCase):
         self.shown(JUDGED, JUDGED_WANTED)
 
 
-class JournalSpeedTests(Refusing):
+class JournalSpeedTests(measuring.Refusing):
     """checks/journal-speed: its command line."""
 
     check = "journal-speed/run"

@@ -9,7 +9,7 @@ use memchr::memchr;
 use sqlite_disk::Disk;
 use std::alloc::{AllocError, Global};
 
-/// The most bytes of one read.
+/// The fewest bytes of a read, but for the last one. The reads of a long line double what is held of it.
 const PIECE: usize = 32_768;
 
 /// The most bytes of a line and what is read with it.
@@ -146,10 +146,11 @@ impl<D: Disk + Drop> FileLines<D> {
         if at >= self.len {
             return Ok(false);
         }
-        if self.buffer.len() - self.next > MOST {
+        let begun = self.buffer.len() - self.next;
+        if begun > MOST {
             return Err(ReadFault::Line);
         }
-        let count = PIECE.min(self.len - at);
+        let count = PIECE.max(begun).min(self.len - at);
         let piece = read_piece(self.alloc, &mut self.disk, at, count)?;
         let Ok(buffer) = joined(self.alloc, &self.buffer[self.next..], &piece) else {
             return Err(ReadFault::Memory);
