@@ -197,6 +197,12 @@ def by_copy(log, number):
     os.truncate(log, 0)
 
 
+def by_rename(log, number):
+    """Renames a log, where there is one: the server makes it anew within a second."""
+    if os.path.exists(log):
+        os.rename(log, f"{log}.{number}")
+
+
 def rotated(program, rotate):
     """What is wrong with a log that is rotated while a client asks; what is wrong, the lines, and how many were answered."""
     with tempfile.TemporaryDirectory() as folder:
@@ -223,6 +229,12 @@ def copied_and_cut(program, is_long):
     return wrong + ([] if BATCH < len(lines) <= answered else [f"{len(lines)} lines of {answered}"])
 
 
+def renamed(program, is_long):
+    """a log that is rotated by renaming it while a client asks: each answer is there once"""
+    wrong, lines, answered = rotated(program, by_rename)
+    return wrong + differs("lines", len(lines), answered)
+
+
 def killed_while_it_writes(program, is_long):
     """a server that is killed again and again while it writes long lines: each line of its log is whole"""
     with tempfile.TemporaryDirectory() as folder:
@@ -238,6 +250,9 @@ def killed_while_it_writes(program, is_long):
                     time.sleep(0.0001)
                 server.stop()
                 load.join(PATIENCE)
+        # (what the last one has not ended is cut off by the next one)
+        with logged(program, folder, log):
+            pass
         lines = read(log)
         print(f"    {len(lines)} lines of {sum(len(load.lines) for load in loads)} answered, {KILLS} kills", flush=True)
         return mixed(lines) or not_right("audit", audit(program, server.kept.journal, lines))
@@ -256,4 +271,4 @@ def long_lines(program, is_long):
         return wrong + differs("lines", len(lines), 3) + wrong_with(program, server, told, load, lines)
 
 
-CHECKS = [full_disk, unread_pipe, copied_and_cut, killed_while_it_writes, long_lines]
+CHECKS = [full_disk, unread_pipe, copied_and_cut, renamed, killed_while_it_writes, long_lines]

@@ -17,8 +17,9 @@ from tests.server import PATIENCE, ask, unix
 
 WITHDRAW = '{"withdraw":{"lastUpdated":"2026-01-01T00:00:00Z","source":"map.example","sourceId":"S1"}}\n'
 NAME = ["--name", "lost.example"]
-# How long a line may take into the log.
+# How long a line may take into the log, and after how long a log that was taken away is noticed.
 SOON = 10.0
+LOOK = 1.2
 TIMES = re.compile(r"^[0-9]{4}-[0-9]{2}-[0-9]{2}T[0-9]{2}:[0-9]{2}:[0-9]{2}\.[0-9]{9}Z$")
 
 
@@ -234,6 +235,38 @@ class LogTests(Logs):
             self.kill(server)
         self.assertEqual(sorted(numbers), [1, 2, 3])
 
+    def test_renamed(self) -> None:
+        """A log that is renamed goes on at its path, and so does one that is removed."""
+        with self.ready("--log", self.log) as server, unix(self.queries) as client:
+            for take_away in (lambda: os.rename(self.log, f"{self.log}.1"), lambda: os.unlink(self.log)):
+                ask(client, self.question)
+                self.logged(1)
+                take_away()
+                time.sleep(LOOK)
+            ask(client, self.question)
+            self.logged(1)
+            with open(f"{self.log}.1", "rb") as file:
+                self.assertEqual(len(file.read().splitlines()), 1)
+            self.assertIn("\nlostd_log_lines_total 3\n", self.page("/metrics"))
+            self.kill(server)
+
+    def test_not_ended(self) -> None:
+        """A line that a killed server has not ended is cut off, and that is said; what is no line of a log is ended."""
+        self.history()
+        whole = b"".join(self.lines())
+        for torn in (b"{", b'{"time":"2026', self.lines()[0][:-1], b'{"leftOut":{"lines":1'):
+            with open(self.log, "wb") as file:
+                file.write(whole + torn)
+            with self.ready("--log", self.log) as server:
+                self.assertEqual(self.kill(server), [f"lostd: --log: dropped a last line that was not ended: bytes {len(torn)}"])
+            self.assertEqual(b"".join(self.lines()), whole)
+        for kept, wanted in ((b"notes", b"notes\n"), (whole, whole), (b"a\n\nb", b"a\n\nb\n"), (b"x" * 200_000, b"x" * 200_000 + b"\n")):
+            with open(self.log, "wb") as file:
+                file.write(kept)
+            with self.ready("--log", self.log) as server:
+                self.assertEqual(self.kill(server), [])
+            self.assertEqual(b"".join(self.lines()), wanted)
+
     def test_rotated(self) -> None:
         """A log that is cut goes on."""
         with self.ready("--log", self.log) as server, unix(self.queries) as client:
@@ -359,6 +392,20 @@ class AuditTests(Logs):
         for other in (b"\n", b"{}\n", lines[:50] + b"\n", lines.splitlines(keepends=True)[0].replace(b'"}\n', b'"\n')):
             status, said, _ = self.audit(other + lines)
             self.assertEqual((status, said), (3, ["line 1: not judged: it is no line of a log of answers", self.done(9, unjudged=1)]))
+
+    def test_long_lines(self) -> None:
+        """A line of the log may be six times as long as its request; one that is longer than any is named."""
+        codes = b'{"x":"' + b"\x07" * 1_000_000 + b'"}\n'
+        with self.ready("--log", self.log, "--log-replies", "whole") as server, unix(self.queries) as client:
+            client.sendall(codes)
+            self.assertIn(b"badRequest", client.recv(65_536))
+            self.logged(1)
+            self.kill(server)
+        line = self.lines()[0]
+        self.assertGreater(len(line), 6_000_000)
+        self.assertEqual(self.audit()[:2], (0, ["done lines=1 differ=0 unjudged=0 internalError=0 leftOut=0 edition=0"]))
+        status, said, _ = self.audit(line + b"x" * 67_108_865 + b"\n")
+        self.assertEqual((status, said), (3, ["line 2: not judged: it has more than 64 MiB", "done lines=2 differ=0 unjudged=1 internalError=0 leftOut=0 edition=0"]))
 
     def test_without_replies(self) -> None:
         """A log that keeps nothing of its replies cannot be judged."""

@@ -1,10 +1,12 @@
 //! Lines of a worker that wait to be written.
 ghost use Rattle.std.specs.Prelude.{◌≡◌, ◌++◌, ◌∷◌, [], OnOk};
+ghost use Rattle.lost_answer_log.specs.Answered.{IsAnswer};
 
 use lost_mapping::Moment;
 use std::alloc::{AllocError, Global};
 
-/// A request line that was answered.
+/// A request line that was answered: its reply is the one over a list of just as many edits, at its moment, or
+/// `internalError`.
 #[derive(Drop)]
 pub struct Logged {
     /// The moment that the answer used.
@@ -17,6 +19,7 @@ pub struct Logged {
     pub request: Vec<u8>,
     /// The line of its reply, with its byte 10.
     pub reply: Vec<u8>,
+    ghost answered: { IsAnswer moment edition request.items reply.items },
 }
 
 /// Lines that were left out: how many, and the moments of the first and the last of them.

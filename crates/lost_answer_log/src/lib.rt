@@ -12,6 +12,6 @@ mod logging;
 pub use batch::{Batch, LeftOut, Logged};
 pub use day::day_text;
 pub use line_text::{KeptReply, LineWriter, reply_digest, without_end};
-pub use log_file::{LogFile, open_log};
-pub use log_thread::{AnswerLog, AnswerLogWriter, LogFault, start_answer_log};
+pub use log_file::{LogFile, OpenLog};
+pub use log_thread::{AnswerLog, AnswerLogWriter, Begun, LogFault, start_answer_log};
 pub use logging::Logging;

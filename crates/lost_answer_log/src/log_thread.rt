@@ -1,7 +1,7 @@
 //! The thread that writes the log of answers.
 use crate::batch::{Batch, LeftOut};
 use crate::line_text::{KeptReply, LineWriter};
-use crate::log_file::LogFile;
+use crate::log_file::{LogFile, OpenLog};
 use crossbeam_channel::{Receiver, Sender, bounded};
 use lost_status::LogCounts;
 use std::alloc::{AllocError, Global};
@@ -18,6 +18,9 @@ const MOST_WAITING: usize = 64;
 const LAST_LOOKS: u32 = 250;
 
 const PAUSE: u64 = 20;
+
+/// How often to look where the path of the log leads, in seconds, while lines come.
+const LOOK: u64 = 1;
 
 /// Why a log was not begun.
 #[derive(Clone, Copy, Debug)]
@@ -66,7 +69,10 @@ pub struct AnswerLogWriter {
 #[derive(Drop)]
 struct Writing {
     alloc: Global,
+    path: String,
     file: LogFile,
+    /// When the file was opened, by the monotonic clock.
+    opened: Duration,
     writer: LineWriter,
     batches: Receiver<Batch>,
     counts: Arc<LogCounts>,
@@ -75,25 +81,44 @@ struct Writing {
     has_ended: Arc<AtomicBool>,
 }
 
-/// Starts a thread that writes lines to a file. They keep this of their replies.
+/// A log that was begun: where lines are handed over, what writes them, and how many bytes of a line that was not ended
+/// were cut off its file.
+#[derive(Drop)]
+pub struct Begun {
+    pub log: AnswerLog,
+    pub writer: AnswerLogWriter,
+    pub cut: u64,
+}
+
+/// Opens the file at a path, and starts a thread that writes lines to it. They keep this of their replies.
 ///
 /// # Errors
 ///
-/// If memory or a thread is refused.
-pub fn start_answer_log<R: Threads + Wait + Clone + Send + Drop + 'static>(
+/// [`LogFault`].
+pub fn start_answer_log<R: Threads + Wait + Clock + OpenLog + Clone + Send + Drop + 'static>(
     rt: &R,
     alloc: Global,
-    file: LogFile,
+    path: &str,
     kept: KeptReply,
     counts: Arc<LogCounts>,
-) -> Result<(AnswerLog, AnswerLogWriter), AllocError> {
+) -> Result<Begun, LogFault> {
+    let mut file = match rt.open_log(path) {
+        Ok(file) => file,
+        Err(error) => return Err(LogFault::Unopened(error)),
+    };
+    let cut = match file.begin_line(alloc) {
+        Ok(cut) => cut,
+        Err(error) => return Err(LogFault::Unopened(error)),
+    };
     let (sender, batches) = bounded(alloc, MOST_WAITING)?;
     let Ok(has_ended) = Arc::new(alloc, AtomicBool::new(false)) else {
-        return Err(AllocError);
+        return Err(LogFault::Memory);
     };
     let mut writing = Writing {
         alloc,
+        path: String::from_str(alloc, path)?,
         file,
+        opened: now(rt, Duration::ZERO),
         writer: LineWriter::new(alloc, kept)?,
         batches,
         counts: Arc::try_clone(&counts)?,
@@ -102,25 +127,47 @@ pub fn start_answer_log<R: Threads + Wait + Clone + Send + Drop + 'static>(
     };
     let own = rt.clone()?;
     let Ok(thread) = thread::spawn(rt, move || writing.write_all(&own)) else {
-        return Err(AllocError);
+        return Err(LogFault::Memory);
     };
-    let log = AnswerLog {
-        batches: sender,
-        counts,
-    };
-    Ok((log, AnswerLogWriter { thread, has_ended }))
+    Ok(Begun {
+        log: AnswerLog {
+            batches: sender,
+            counts,
+        },
+        writer: AnswerLogWriter { thread, has_ended },
+        cut,
+    })
+}
+
+/// The time by the monotonic clock; `before` if it cannot be read.
+fn now<R: Clock>(rt: &R, before: Duration) -> Duration {
+    rt.monotonic().unwrap_or(before)
 }
 
 impl Writing {
     /// Writes each batch that is handed over, until no more can come.
-    fn write_all<R: Wait>(&mut self, rt: &R) {
+    fn write_all<R: Wait + Clock + OpenLog>(&mut self, rt: &R) {
         for _batch in rt.forever() {
             let Ok(batch) = self.batches.recv(rt) else {
                 break;
             };
+            self.open_anew(rt);
             self.write(&batch);
         }
         self.has_ended.store(true, Ordering::SeqCst);
+    }
+
+    /// Opens the file anew if that was not done for a second, since its path may lead to another one by now. Where that
+    /// fails, the one that is open is kept.
+    fn open_anew<R: Clock + OpenLog>(&mut self, rt: &R) {
+        let now = now(rt, self.opened);
+        if now.saturating_sub(self.opened) < Duration::from_secs(LOOK) {
+            return;
+        }
+        self.opened = now;
+        if let Ok(file) = rt.open_log(self.path.as_str()) {
+            self.file = file;
+        }
     }
 
     /// Writes a batch. What the file does not take is left out, and counted.

@@ -1,5 +1,9 @@
 //! Logs the answers of a worker.
-ghost use Rattle.std.specs.Prelude.{◌≡◌, IfOk};
+ghost use Rattle.std.specs.Prelude.{◌≡◌, IfOk, length};
+ghost use Rattle.lost_json.specs.Line.{line_reply};
+ghost use Rattle.lost_json.specs.Stream.{internal_error};
+ghost use Rattle.lost_desk.specs.Seen.{seen_book};
+ghost use Rattle.lost_answer_log.specs.Answered.{IsAnswer};
 
 use crate::batch::{Batch, LeftOut, Logged};
 use crate::log_thread::AnswerLog;
@@ -55,6 +59,8 @@ impl<'p, 'r, P: Replier, R: Wait> Logging<'p, 'r, P, R> {
 
     /// Notes an answer, or that it is left out.
     fn note(&mut self, moment: &Moment, edition: u64, request: &[u8], replied: &Replied)
+        requires reply { IfOk replied.now (λ reply. IsAnswer moment.now edition request.now reply.items) }
+        requires error { IsAnswer moment.now edition request.now internal_error }
         ensures same { P.reader self.new.replier.now ≡ P.reader self.old.replier.now }
     {
         let connection = self.connection;
@@ -147,6 +153,8 @@ fn logged_of(
     request: &[u8],
     replied: &Replied,
 ) -> Result<Logged, AllocError>
+    requires reply { IfOk replied.now (λ reply. IsAnswer moment.now edition request.now reply.items) }
+    requires error { IsAnswer moment.now edition request.now internal_error }
     ensures moment { IfOk result (λ logged. logged.moment ≡ moment.now) }
     ensures edition { IfOk result (λ logged. logged.edition ≡ edition) }
     ensures connection { IfOk result (λ logged. logged.connection ≡ connection) }

@@ -5,18 +5,22 @@ ghost use Rattle.lost_keeping.specs.Kept.{all_published};
 
 use crate::auditor::{Auditor, Findings};
 use crate::fault::AuditFault;
+use crate::log_reader::LogReader;
 use crate::window::{MOST_LINES, Window};
 use lost_book::Limits;
 use lost_desk::{Desk, open_desk};
 use lost_journal_file::{JournalDisk, look_at_journal};
 use lost_keeping::Walk;
-use lost_lines::{NoGate, ServeError, Turns, Watched, run_lines};
+use lost_lines::{ServeError, Turns};
 use lost_mapping::Source;
 use std::fs::{File, Files};
 use std::io::{Read, Write};
 use std::sync::Wait;
 
-/// No limit on the lines of a log.
+/// How many bytes of a log are read at once.
+const PIECE: usize = 65_536;
+
+/// No limit on lines.
 pub(crate) const TURNS: Turns = Turns {
     lines: u64::MAX,
     reads: u64::MAX,
@@ -80,34 +84,64 @@ fn audit_over<R: Wait + AllocGlobal, I: Read + Drop, W: Write + Drop>(
         walk,
         window: Window::new(rt.alloc()),
         found: Findings::none(),
+        reports: Vec::new(rt.alloc()),
         stopped: None,
     };
-    let mut input = Watched::new(input);
-    let mut output = Watched::new(output);
-    if let Err(error) = run_lines(
-        rt.alloc(),
-        &mut input,
-        &mut output,
-        &mut auditor,
-        &NoGate,
-        TURNS,
-    ) {
-        return Err(AuditFault::Stream(error));
-    }
-    let mut output = output.into_inner();
+    let mut input = input;
+    let mut output = output;
+    audit_lines(&mut auditor, &mut input, &mut output)?;
     for _question in 0..=MOST_LINES {
-        let Some(report) = auditor.judge_last()? else {
+        if !auditor.judge_next()? {
             break;
-        };
-        if output.write_all(report.as_slice()).is_err() {
-            return Err(AuditFault::Stream(ServeError::Write));
         }
-    }
-    if output.flush().is_err() {
-        return Err(AuditFault::Stream(ServeError::Write));
+        write_reports(&mut auditor, &mut output)?;
     }
     match auditor.stopped {
         Some(stopped) => Err(AuditFault::NotRead(stopped)),
         None => Ok(auditor.found),
+    }
+}
+
+/// Takes each line of a log, and writes what there is to tell before more is read.
+fn audit_lines<R: Wait + AllocGlobal, I: Read, W: Write>(
+    auditor: &mut Auditor<'_, R, JournalDisk>,
+    input: &mut I,
+    output: &mut W,
+) -> Result<(), AuditFault> {
+    let mut reader = LogReader::new(auditor.alloc);
+    let mut piece: Vec<u8> = Vec::new(auditor.alloc);
+    piece.resize(PIECE, 0)?;
+    for _read in auditor.rt.forever() {
+        let count = match input.read(&mut piece) {
+            Ok(count) => count,
+            Err(_) => return Err(AuditFault::Stream(ServeError::Read)),
+        };
+        let Some(bytes) = piece.as_slice().get(..count) else {
+            break;
+        };
+        if bytes.is_empty() {
+            break;
+        }
+        reader.read(bytes, auditor)?;
+        write_reports(auditor, output)?;
+    }
+    reader.finish(auditor)?;
+    write_reports(auditor, output)
+}
+
+/// Writes what there is to tell.
+fn write_reports<R, W: Write>(
+    auditor: &mut Auditor<'_, R, JournalDisk>,
+    output: &mut W,
+) -> Result<(), AuditFault> {
+    if auditor.reports.is_empty() {
+        return Ok(());
+    }
+    let is_written = output.write_all(auditor.reports.as_slice()).is_ok() && output.flush().is_ok();
+    auditor.reports.clear();
+    if is_written {
+        Ok(())
+    } else {
+        Err(AuditFault::Stream(ServeError::Write))
     }
 }

@@ -10,7 +10,6 @@ use lost_answer_log::{reply_digest, without_end};
 use lost_desk::Desk;
 use lost_json::internal_error;
 use lost_keeping::{Stopped, Walk};
-use lost_lines::{Answer, Answerer, Text};
 use lost_mapping::Source;
 use sqlite_disk::Disk;
 use std::alloc::{AllocError, Global};
@@ -64,14 +63,16 @@ pub(crate) struct Auditor<'a, R, D: Disk> {
     pub(crate) walk: Walk<D>,
     pub(crate) window: Window,
     pub(crate) found: Findings,
+    /// What is to be told, and is not written yet.
+    pub(crate) reports: Vec<u8>,
     /// Why the journal could not be read on.
     pub(crate) stopped: Option<Stopped>,
 }
 
 impl<R: Wait, D: Disk + Drop> Auditor<'_, R, D> {
-    /// Takes a line of the log, and gives the report of what was judged then.
-    fn take(&mut self, line: &[u8]) -> Result<Vec<u8>, AllocError> {
-        let number = self.found.lines;
+    /// Takes a line of the log, without its byte 10, and adds the report of what is judged then.
+    pub(crate) fn take_line(&mut self, line: &[u8]) -> Result<(), AllocError> {
+        let number = self.next_number();
         match read_log_line(self.alloc, line)? {
             LogLine::Answer(question) => self.window.add(number, question)?,
             LogLine::LeftOut(lines) => {
@@ -79,39 +80,57 @@ impl<R: Wait, D: Disk + Drop> Auditor<'_, R, D> {
             }
             LogLine::Other => {
                 let verdict = Verdict::Unjudged("it is no line of a log of answers");
-                return self.report(number, None, verdict);
+                self.add_report(number, None, verdict)?;
             }
         }
         if self.window.is_full() {
-            return self.judge_next();
+            self.judge_next()?;
         }
-        Ok(Vec::new(self.alloc))
+        Ok(())
     }
 
-    /// Judges the question that is next in the window, and gives its report. None if none waits.
-    pub(crate) fn judge_last(&mut self) -> Result<Option<Vec<u8>>, AllocError> {
+    /// Takes a line of the log that is too long to be kept.
+    pub(crate) fn take_long_line(&mut self) -> Result<(), AllocError> {
+        let number = self.next_number();
+        self.add_report(number, None, Verdict::Unjudged("it has more than 64 MiB"))
+    }
+
+    /// The number of the next line, from 1.
+    fn next_number(&mut self) -> u64 {
+        self.found.lines = self.found.lines.saturating_add(1);
+        self.found.lines
+    }
+
+    /// Judges the question that is next in the window, and adds its report. Says whether one waited.
+    pub(crate) fn judge_next(&mut self) -> Result<bool, AllocError> {
         match self.window.take() {
-            Some((number, question)) => Ok(Some(self.judge(number, &question)?)),
-            None => Ok(None),
+            Some((number, question)) => {
+                self.judge(number, &question)?;
+                Ok(true)
+            }
+            None => Ok(false),
         }
     }
 
-    /// Judges the question that is next in the window, if one waits, and gives its report.
-    fn judge_next(&mut self) -> Result<Vec<u8>, AllocError> {
-        match self.judge_last()? {
-            Some(report) => Ok(report),
-            None => Ok(Vec::new(self.alloc)),
-        }
-    }
-
-    /// Judges the question of a line, and gives its report.
-    fn judge(&mut self, number: u64, question: &Question) -> Result<Vec<u8>, AllocError> {
+    /// Judges the question of a line, and adds its report.
+    fn judge(&mut self, number: u64, question: &Question) -> Result<(), AllocError> {
         self.reach(question.edition);
         if self.stopped.is_some() {
-            return Ok(Vec::new(self.alloc));
+            return Ok(());
         }
         let verdict = self.verdict(question)?;
-        self.report(number, Some(question), verdict)
+        self.add_report(number, Some(question), verdict)
+    }
+
+    /// Counts a verdict, and adds its report.
+    fn add_report(
+        &mut self,
+        number: u64,
+        question: Option<&Question>,
+        verdict: Verdict,
+    ) -> Result<(), AllocError> {
+        let report = self.report(number, question, verdict)?;
+        self.reports.extend_from_slice(report.as_slice())
     }
 
     /// Publishes the journal's edits until an edition is reached.
@@ -180,41 +199,5 @@ fn is_internal_error(kept: &Kept) -> bool {
         Kept::Whole(reply) => reply.as_slice() == error.bytes(),
         Kept::Digest(digest) => reply_digest(without_end(error.bytes())) == *digest,
         Kept::Nothing => false,
-    }
-}
-
-impl<R: Wait, D: Disk + Drop> Answerer for Auditor<'_, R, D> {
-    ghost step = { λ old cut reply new. Unit {0} };
-
-    fn answer(&mut self, _alloc: Global, line: &[u8]) -> Answer {
-        self.found.lines = self.found.lines.saturating_add(1);
-        match self.take(line) {
-            Ok(report) => Answer {
-                text: Text::Kept(report),
-                is_internal_error: false,
-            },
-            Err(AllocError) => self.not_taken(),
-        }
-    }
-
-    fn answer_long(&mut self) -> Answer {
-        self.found.lines = self.found.lines.saturating_add(1);
-        self.not_taken()
-    }
-
-    fn answer_unread(&mut self) -> Answer {
-        self.found.lines = self.found.lines.saturating_add(1);
-        self.not_taken()
-    }
-}
-
-impl<R, D: Disk> Auditor<'_, R, D> {
-    /// Counts a line that is too long, or for which memory was refused.
-    fn not_taken(&mut self) -> Answer {
-        self.found.unjudged = self.found.unjudged.saturating_add(1);
-        Answer {
-            text: Text::Constant(b"a line is too long, or memory ran out: not judged\n"),
-            is_internal_error: false,
-        }
     }
 }

@@ -7,6 +7,7 @@ mod explaining;
 mod fault;
 mod judging;
 mod log_line;
+mod log_reader;
 mod reporting;
 mod verdict;
 mod window;

@@ -1,4 +1,8 @@
 //! Checks a journal.
+ghost use Rattle.std.specs.Prelude.{◌≡◌, length};
+ghost use Rattle.lost_digest.specs.Digest.{map_digest};
+ghost use Rattle.lost_desk.specs.Seen.{published_book};
+
 use crate::fault::JournalFault;
 use crate::opening::read_journal;
 use lost_book::Limits;
@@ -46,7 +50,12 @@ pub fn check_journal<R: Wait + Files<File = File> + AllocGlobal>(
 }
 
 /// What a desk has of a journal that was read.
-fn found_in(desk: &Desk, recovered: Recovered) -> JournalFound {
+fn found_in(desk: &Desk, recovered: Recovered) -> JournalFound
+    ensures edition { result.edition ≡ length desk.now.published }
+    ensures mappings { result.mappings ≡ length (published_book desk.now).mappings }
+    ensures digest { result.digest ≡ map_digest (published_book desk.now).mappings }
+    ensures recovered { result.recovered ≡ recovered }
+{
     JournalFound {
         edition: desk.edition(),
         mappings: desk.published().len(),

@@ -1,4 +1,7 @@
 //! Writes a journal anew.
+ghost use Rattle.std.specs.Prelude.{◌≡◌, None, length, IsTrue, IfOk, OnOk};
+ghost use Rattle.lost_digest.specs.Digest.{map_digest};
+ghost use Rattle.lost_desk.specs.Seen.{published_book, staged_book};
 ghost use Rattle.lost_worker.specs.Desking.{IsSameDesk};
 
 use crate::fault::{CompactFault, JournalFault};
@@ -37,7 +40,7 @@ pub struct Compacted {
 
 /// Reads the journal at a path, and writes one that keeps the same map and the same traces in one commit: for each trace
 /// a publish and its withdrawal, and then a publish for each mapping, in order. Mappings that have expired at a moment,
-/// if one is given, are left out.
+/// if one is given, are left out; else the map has the same digest.
 ///
 /// # Errors
 ///
@@ -47,7 +50,9 @@ pub fn compact_journal<R: Wait + Clock + Files<File = File> + AllocGlobal, O: Wr
     path: &str,
     output: &mut O,
     expired_at: Option<&Moment>,
-) -> Result<Compacted, CompactFault> {
+) -> Result<Compacted, CompactFault>
+    ensures same_map { expired_at.entry ≡ None → IfOk result (λ compacted. compacted.digest ≡ compacted.digest_before) }
+{
     match open_desk(rt, rt.alloc(), Limits::widest(), 1) {
         Ok((mut desk, _readers)) => {
             let compacted = match read_journal(rt, path, &mut desk) {
@@ -67,7 +72,9 @@ fn write_anew<R: Wait + Clock + AllocGlobal, O: Write>(
     desk: &Desk,
     output: &mut O,
     expired_at: Option<&Moment>,
-) -> Result<Compacted, CompactFault> {
+) -> Result<Compacted, CompactFault>
+    ensures same_map { expired_at.entry ≡ None → IfOk result (λ compacted. compacted.digest ≡ compacted.digest_before) }
+{
     match open_desk(rt, rt.alloc(), Limits::widest(), 1) {
         Ok((mut fresh, _readers)) => {
             let mut copying = Copying {
@@ -89,7 +96,14 @@ fn write_anew<R: Wait + Clock + AllocGlobal, O: Write>(
 }
 
 /// What a desk's journal and the one that was made of it keep.
-fn compacted_of(before: &Desk, fresh: &Desk) -> Compacted {
+fn compacted_of(before: &Desk, fresh: &Desk) -> Compacted
+    ensures edition_before { result.edition_before ≡ length before.now.published }
+    ensures digest_before { result.digest_before ≡ map_digest (published_book before.now).mappings }
+    ensures edition { result.edition ≡ (staged_book fresh.now).edits }
+    ensures mappings { result.mappings ≡ length (staged_book fresh.now).mappings }
+    ensures traces { result.traces ≡ length (staged_book fresh.now).traces }
+    ensures digest { result.digest ≡ map_digest (staged_book fresh.now).mappings }
+{
     Compacted {
         edition_before: before.edition(),
         digest_before: before.digest(),
@@ -98,6 +112,13 @@ fn compacted_of(before: &Desk, fresh: &Desk) -> Compacted {
         traces: fresh.staged().traces(),
         digest: fresh.staged_digest(),
     }
+}
+
+/// Whether all edits of a desk make the map that another one has published, by their digests.
+fn is_same_map(before: &Desk, fresh: &Desk) -> bool
+    ensures { IsTrue result → map_digest (staged_book fresh.now).mappings ≡ map_digest (published_book before.now).mappings }
+{
+    fresh.staged_digest() == before.digest()
 }
 
 /// The writing of a journal.
@@ -119,12 +140,17 @@ impl<O: Write> Copying<'_, O> {
         fresh: &mut Desk,
         expired_at: Option<&Moment>,
     ) -> Result<(), CompactFault>
+        ensures same_map { expired_at.entry ≡ None
+            → OnOk result (map_digest (staged_book fresh.new).mappings ≡ map_digest (published_book desk.now).mappings) }
         ensures same { IsSameDesk fresh.old fresh.new }
     {
         let first = self.rewriting.first_line(rt.since_1970().ok())?;
         self.output.write_all(first.as_bytes())?;
         self.write_traces(desk.published(), fresh)?;
         self.write_mappings(desk.published(), fresh, expired_at)?;
+        if expired_at.is_none() && !is_same_map(desk, fresh) {
+            return Err(CompactFault::OtherMap);
+        }
         let last = self.rewriting.last_line(fresh, rt.since_1970().ok())?;
         self.output.write_all(last.as_bytes())?;
         Ok(())

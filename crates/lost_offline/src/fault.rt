@@ -32,6 +32,8 @@ pub enum CompactFault {
     TooLong(u64),
     /// A reader of what is written would refuse the line of this number.
     Refused(u64, RecoveryFault),
+    /// A reader of what is written would hold another map. The commit's line was not written, so nothing of it counts.
+    OtherMap,
     /// The output failed.
     Write,
     /// Memory was refused.

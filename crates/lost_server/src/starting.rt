@@ -6,13 +6,14 @@ ghost use Rattle.lost_keeping.specs.Keepers.{IsCleanKeeper, IsKept};
 
 use crate::listeners::{Listeners, Ready, listen_at, open_listeners, remove_sockets};
 use crate::loading::{load_from, load_kept};
+use crate::map::say;
 use crate::order::ServerOrder;
 use crate::run::{Run, limits_of_given};
 use crate::run_fault::{RunFault, fault_of_opening};
 use crate::server_fault::ServerFault;
 use crate::status_port::answer_status;
 use crate::system::System;
-use lost_answer_log::{AnswerLog, AnswerLogWriter, LogFault, open_log, start_answer_log};
+use lost_answer_log::{AnswerLog, AnswerLogWriter, Begun, LogFault, start_answer_log};
 use lost_book::Limits;
 use lost_desk::{Desk, Readers, open_desk};
 use lost_desks::tell_book;
@@ -23,6 +24,7 @@ use lost_log::{ConnectionLog, LogSender, start_log};
 use lost_sockets::{Address, Listener, remove_socket};
 use lost_status::{DeskCounter, DeskEvent, Status};
 use std::alloc::AllocError;
+use std::io::Eprint;
 use std::net::{Net, TcpListener, TcpStream};
 use std::sync::atomic::{AtomicBool, Ordering};
 use std::thread;
@@ -170,13 +172,12 @@ where
         let Ok(counts) = self.status.log() else {
             return Err(ServerFault::Log(LogFault::Memory));
         };
-        let file = match open_log(self.rt, path) {
-            Ok(file) => file,
-            Err(error) => return Err(ServerFault::Log(LogFault::Unopened(error))),
-        };
-        match start_answer_log(self.rt, self.rt.alloc(), file, kept, counts) {
-            Ok((log, writer)) => Ok((Some(log), Some(writer))),
-            Err(AllocError) => Err(ServerFault::Log(LogFault::Memory)),
+        match start_answer_log(self.rt, self.rt.alloc(), path, kept, counts) {
+            Ok(Begun { log, writer, cut }) => {
+                say_cut(self.rt, cut);
+                Ok((Some(log), Some(writer)))
+            }
+            Err(fault) => Err(ServerFault::Log(fault)),
         }
     }
 
@@ -277,5 +278,17 @@ where
         }
         run.answer(listeners, desk, keeper, readers, counter)
             .map_err(ServerFault::Run)
+    }
+}
+
+/// Says how many bytes of a line that was not ended were cut off the log, if any were.
+fn say_cut<R: Eprint + AllocGlobal>(rt: &R, bytes: u64) {
+    if bytes > 0 {
+        say(
+            rt,
+            format!(in rt.alloc();
+                "lostd: --log: dropped a last line that was not ended: bytes {bytes}\n"
+            ),
+        );
     }
 }

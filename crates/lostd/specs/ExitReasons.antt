@@ -14,7 +14,7 @@ use Rattle.lost_answer_log.specs.declared.log_thread.LogFault.TheVariants.{Unope
 use Rattle.lost_offline.specs.declared.fault.JournalFault.{JournalFault as OfflineFault}
 use Rattle.lost_offline.specs.declared.fault.JournalFault.TheVariants.{Missing, Unopened as OfflineUnopened, NotRead as OfflineNotRead, Memory as NoOfflineMemory}
 use Rattle.lost_offline.specs.declared.fault.CompactFault.{CompactFault}
-use Rattle.lost_offline.specs.declared.fault.CompactFault.TheVariants.{NotRead as NotCompacted, TooLong, Refused as CompactRefused, Write, Memory as NoCompactMemory}
+use Rattle.lost_offline.specs.declared.fault.CompactFault.TheVariants.{NotRead as NotCompacted, TooLong, Refused as CompactRefused, OtherMap, Write, Memory as NoCompactMemory}
 use Rattle.lost_audit.specs.declared.fault.AuditFault.{AuditFault}
 use Rattle.lost_audit.specs.declared.fault.AuditFault.TheVariants.{Missing as NoAuditJournal, Unopened as AuditUnopened, NotRead as AuditNotRead, NoEdition, TooEarly, Stream, Memory as NoAuditMemory}
 use Rattle.lost_command.specs.declared.exit_reason.ExitReason.{ExitReason}
@@ -67,6 +67,7 @@ abbrev pub compact_reason : CompactFault → ExitReason
 compact_reason (NotCompacted fault) = offline_reason fault
 compact_reason (TooLong line) = BadFile
 compact_reason (CompactRefused line fault) = BadFile
+compact_reason OtherMap = BadFile
 compact_reason Write = Run NotWritten
 compact_reason NoCompactMemory = Run NoMemory
 

@@ -103,7 +103,9 @@ fn compact_reason(fault: CompactFault) -> ExitReason
 {
     match fault {
         CompactFault::NotRead(fault) => offline_reason(fault),
-        CompactFault::TooLong(_) | CompactFault::Refused(_, _) => ExitReason::File,
+        CompactFault::TooLong(_) | CompactFault::Refused(_, _) | CompactFault::OtherMap => {
+            ExitReason::File
+        }
         CompactFault::Write => ExitReason::Run(ServeError::Write),
         CompactFault::Memory => ExitReason::MEMORY,
     }
@@ -137,6 +139,9 @@ fn say_of_compact<R: Eprint>(rt: &R, path: &str, fault: CompactFault) {
         }
         CompactFault::Refused(line, fault) => {
             eprintln!(rt; "lostd: compact: {path}: edit {line} would not be read again: {fault}")
+        }
+        CompactFault::OtherMap => {
+            eprintln!(rt; "lostd: compact: {path}: the new journal would hold another map")
         }
         CompactFault::Write | CompactFault::Memory => Ok(()),
     };
