@@ -420,7 +420,7 @@ class DamageTests(Journals):
         """Files that are no journal."""
         self.damaged((ONE + COMMIT).encode(), 2, "the byte before the end of the commit's line is neither a space nor a tab")
         self.damaged(b"\n", 1, "the line is neither an edit nor a commit")
-        self.damaged(b"x" * 5_000_000 + b"\n", 1, "a line is too long")
+        self.damaged(b"x" * 9_000_000 + b"\n", 1, "a line is too long")
         self.damaged(b"x", 1, "the journal ends before its last commit")
 
 

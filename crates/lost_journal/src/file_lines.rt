@@ -12,7 +12,7 @@ use std::alloc::{AllocError, Global};
 /// The fewest bytes of a read, but for the last one. The reads of a long line double what is held of it.
 const PIECE: usize = 32_768;
 
-/// The most bytes of a line and what is read with it.
+/// The most bytes that are held of a line when more of it is read.
 const MOST: usize = 4_194_304;
 
 /// The lines of a file, one after another.
