@@ -146,10 +146,10 @@ class Logs(Journals):
         self.log = f"{self.folder}/answers.log"
 
     def logged(self, count: int) -> List[Dict[str, Any]]:
-        """The lines of the log, once there are so many."""
+        """The lines of the log, once so many are whole."""
         patience = time.monotonic() + SOON
         while time.monotonic() < patience:
-            lines = self.lines()
+            lines = [line for line in self.lines() if line.endswith(b"\n")]
             if len(lines) >= count:
                 return [json.loads(line) for line in lines]
             time.sleep(0.01)
