@@ -1,25 +1,23 @@
 //! Lines of a worker that wait to be written.
-ghost use Rattle.std.specs.Prelude.{◌≡◌, ◌++◌, ◌∷◌, [], OnOk};
-ghost use Rattle.lost_answer_log.specs.Answered.{IsAnswer};
+ghost use Rattle.std.specs.Prelude.{◌≡◌, ◌++◌, ◌∷◌, [], length, take, OnOk, OnErr};
+ghost use Rattle.lost_answer_log.specs.Answered.{IsAnswer, noted};
 
 use lost_mapping::Moment;
 use std::alloc::{AllocError, Global};
 
-/// A request line that was answered: its reply is the one over a list of just as many edits, at its moment, or
-/// `internalError`.
-#[derive(Drop)]
-pub struct Logged {
+/// A request line that was answered, but for its bytes.
+#[derive(Clone, Copy, PartialEq, Eq, Debug)]
+pub struct Noted {
     /// The moment that the answer used.
     pub moment: Moment,
     /// How many edits the list has that it was answered from.
     pub edition: u64,
     /// The number of its connection.
     pub connection: u64,
-    /// The line as it came, without its byte 10.
-    pub request: Vec<u8>,
-    /// The line of its reply, with its byte 10.
-    pub reply: Vec<u8>,
-    ghost answered: { IsAnswer moment edition request.items reply.items },
+    /// How many bytes the line has, without its byte 10.
+    pub request: usize,
+    /// How many bytes the line of its reply has, with its byte 10.
+    pub reply: usize,
 }
 
 /// Lines that were left out: how many, and the moments of the first and the last of them.
@@ -64,21 +62,29 @@ impl LeftOut {
 #[derive(Drop)]
 pub struct Batch {
     pub left_out: Option<LeftOut>,
-    pub lines: Vec<Logged>,
-    /// How many bytes the lines have.
-    pub(crate) bytes: usize,
+    pub lines: Vec<Noted>,
+    /// The bytes of each line and of its reply, one behind the other.
+    pub bytes: Vec<u8>,
 }
 
 impl Batch {
     /// No lines.
     pub(crate) fn new(alloc: Global) -> Batch
-        ensures { result.lines.items ≡ [] }
+        ensures { (result.lines.items ≡ []) × (result.bytes.items ≡ []) }
     {
         Batch {
             left_out: None,
             lines: Vec::new(alloc),
-            bytes: 0,
+            bytes: Vec::new(alloc),
         }
+    }
+
+    /// Makes room for as much as another batch had, where memory is not refused.
+    pub(crate) fn make_room(&mut self, lines: usize, bytes: usize)
+        ensures { (self.new.lines.items ≡ self.old.lines.items) × (self.new.bytes.items ≡ self.old.bytes.items) }
+    {
+        let _lines = self.lines.reserve(lines);
+        let _bytes = self.bytes.reserve(bytes);
     }
 
     /// Whether there is nothing to write.
@@ -86,17 +92,48 @@ impl Batch {
         self.lines.is_empty() && self.left_out.is_none()
     }
 
-    /// Adds a line.
+    /// Adds an answer to a line.
     ///
     /// # Errors
     ///
     /// If memory is refused, nothing changes.
-    pub(crate) fn add(&mut self, line: Logged) -> Result<(), AllocError>
-        ensures added { OnOk result (self.new.lines.items ≡ self.old.lines.items ++ line ∷ []) }
+    pub(crate) fn add(
+        &mut self,
+        moment: &Moment,
+        edition: u64,
+        connection: u64,
+        request: &[u8],
+        reply: &[u8],
+    ) -> Result<(), AllocError>
+        requires answer { IsAnswer moment.now edition request.now reply.now }
+        ensures lines { OnOk result (self.new.lines.items
+            ≡ self.old.lines.items ++ noted moment.now edition connection request.now reply.now ∷ []) }
+        ensures bytes { OnOk result (self.new.bytes.items ≡ self.old.bytes.items ++ (request.now ++ reply.now)) }
+        ensures none { OnErr result ((self.new.lines.items ≡ self.old.lines.items) × (self.new.bytes.items ≡ self.old.bytes.items)) }
     {
-        let bytes = line.request.len().saturating_add(line.reply.len());
-        self.lines.push(line)?;
-        self.bytes = self.bytes.saturating_add(bytes);
+        let before = self.bytes.len();
+        let line = Noted {
+            moment: *moment,
+            edition,
+            connection,
+            request: request.len(),
+            reply: reply.len(),
+        };
+        if self.add_bytes(request, reply).is_err() || self.lines.push(line).is_err() {
+            self.bytes.truncate(before);
+            return Err(AllocError);
+        }
         Ok(())
+    }
+
+    /// Adds the bytes of a line and of its reply. If memory is refused, a front of them may have been added.
+    fn add_bytes(&mut self, request: &[u8], reply: &[u8]) -> Result<(), AllocError>
+        ensures bytes { OnOk result (self.new.bytes.items ≡ self.old.bytes.items ++ (request.now ++ reply.now)) }
+        ensures front { take (length self.old.bytes.items) self.new.bytes.items ≡ self.old.bytes.items }
+        ensures lines { self.new.lines.items ≡ self.old.lines.items }
+        ensures left_out { self.new.left_out ≡ self.old.left_out }
+    {
+        self.bytes.extend_from_slice(request)?;
+        self.bytes.extend_from_slice(reply)
     }
 }

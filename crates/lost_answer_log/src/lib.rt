@@ -9,7 +9,7 @@ mod log_file;
 mod log_thread;
 mod logging;
 
-pub use batch::{Batch, LeftOut, Logged};
+pub use batch::{Batch, LeftOut, Noted};
 pub use day::day_text;
 pub use line_text::{KeptReply, LineWriter, reply_digest, without_end};
 pub use log_file::{LogFile, OpenLog};

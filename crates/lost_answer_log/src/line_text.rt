@@ -1,6 +1,7 @@
 //! The text of a line of the log (own format).
-use crate::batch::{LeftOut, Logged};
+use crate::batch::{LeftOut, Noted};
 use crate::day::day_text;
+use itoa::Buffer;
 use lost_mapping::Moment;
 use std::alloc::{AllocError, Global};
 use std::hash::{DefaultHasher, Hasher};
@@ -53,20 +54,27 @@ impl LineWriter {
         })
     }
 
-    /// Adds the line of a request that was answered, with its byte 10.
+    /// Adds the line of a request that was answered, with its byte 10. The reply has its own.
     ///
     /// # Errors
     ///
     /// If memory is refused; then a part may have been added.
-    pub fn push_line(&mut self, text: &mut Vec<u8>, line: &Logged) -> Result<(), AllocError> {
-        let time = self.time_text(&line.moment)?;
-        let (edition, connection) = (line.edition, line.connection);
-        let head = format!(in self.alloc;
-            "{{\"time\":\"{time}\",\"edition\":{edition},\"connection\":{connection},\"request\":\""
-        )?;
-        text.extend_from_slice(head.as_bytes())?;
-        push_escaped(text, line.request.as_slice())?;
-        self.push_reply(text, without_end(line.reply.as_slice()))?;
+    pub fn push_line(
+        &mut self,
+        text: &mut Vec<u8>,
+        line: &Noted,
+        request: &[u8],
+        reply: &[u8],
+    ) -> Result<(), AllocError> {
+        text.extend_from_slice(b"{\"time\":\"")?;
+        self.push_time(text, &line.moment)?;
+        text.extend_from_slice(b"\",\"edition\":")?;
+        push_number(text, line.edition)?;
+        text.extend_from_slice(b",\"connection\":")?;
+        push_number(text, line.connection)?;
+        text.extend_from_slice(b",\"request\":\"")?;
+        push_escaped(text, request)?;
+        self.push_reply(text, without_end(reply))?;
         text.extend_from_slice(b"\"}\n")
     }
 
@@ -78,9 +86,8 @@ impl LineWriter {
                 push_escaped(text, reply)
             }
             KeptReply::Digest => {
-                let digest = reply_digest(reply);
-                let member = format!(in self.alloc; "\",\"digest\":\"{digest:016x}")?;
-                text.extend_from_slice(member.as_bytes())
+                text.extend_from_slice(b"\",\"digest\":\"")?;
+                push_digest(text, reply_digest(reply))
             }
             KeptReply::Nothing => Ok(()),
         }
@@ -96,27 +103,72 @@ impl LineWriter {
         text: &mut Vec<u8>,
         left_out: &LeftOut,
     ) -> Result<(), AllocError> {
-        let from = self.time_text(&left_out.from)?;
-        let to = self.time_text(&left_out.to)?;
-        let lines = left_out.lines;
-        let line = format!(in self.alloc;
-            "{{\"leftOut\":{{\"lines\":{lines},\"from\":\"{from}\",\"to\":\"{to}\"}}}}\n"
-        )?;
-        text.extend_from_slice(line.as_bytes())
+        text.extend_from_slice(b"{\"leftOut\":{\"lines\":")?;
+        push_number(text, left_out.lines)?;
+        text.extend_from_slice(b",\"from\":\"")?;
+        self.push_time(text, &left_out.from)?;
+        text.extend_from_slice(b"\",\"to\":\"")?;
+        self.push_time(text, &left_out.to)?;
+        text.extend_from_slice(b"\"}}\n")
     }
 
-    /// A moment in UTC, with nine decimals of a second.
-    fn time_text(&mut self, moment: &Moment) -> Result<String, AllocError> {
+    /// Adds a moment in UTC, with nine decimals of a second.
+    fn push_time(&mut self, text: &mut Vec<u8>, moment: &Moment) -> Result<(), AllocError> {
         if moment.day() != self.day {
             self.day_text = day_text(self.alloc, moment)?;
             self.day = moment.day();
         }
-        let day = self.day_text.as_str();
         let second = moment.nanosecond() / NANOSECONDS;
-        let (hours, minutes, seconds) = (second / 3_600, second / 60 % 60, second % 60);
-        let nanoseconds = moment.nanosecond() % NANOSECONDS;
-        format!(in self.alloc; "{day}T{hours:02}:{minutes:02}:{seconds:02}.{nanoseconds:09}Z")
+        text.extend_from_slice(self.day_text.as_bytes())?;
+        text.push(b'T')?;
+        push_two_digits(text, second / 3_600)?;
+        text.push(b':')?;
+        push_two_digits(text, second / 60 % 60)?;
+        text.push(b':')?;
+        push_two_digits(text, second % 60)?;
+        text.push(b'.')?;
+        push_nanoseconds(text, moment.nanosecond() % NANOSECONDS)?;
+        text.push(b'Z')?;
+        Ok(())
     }
+}
+
+/// Adds a number.
+fn push_number(text: &mut Vec<u8>, number: u64) -> Result<(), AllocError> {
+    let mut digits = Buffer::new();
+    text.extend_from_slice(digits.format(number).as_bytes())
+}
+
+/// Adds a number below 100 with two digits.
+fn push_two_digits(text: &mut Vec<u8>, number: u64) -> Result<(), AllocError> {
+    text.push(b'0' + (number / 10 % 10) as u8)?;
+    text.push(b'0' + (number % 10) as u8)?;
+    Ok(())
+}
+
+/// Adds nanoseconds of a second with nine digits.
+fn push_nanoseconds(text: &mut Vec<u8>, nanoseconds: u64) -> Result<(), AllocError> {
+    let mut digits = Buffer::new();
+    // The 1 before them keeps their zeros.
+    let ten_digits = digits
+        .format(nanoseconds.saturating_add(NANOSECONDS))
+        .as_bytes();
+    text.extend_from_slice(ten_digits.get(1..).unwrap_or(ten_digits))
+}
+
+/// Adds a digest with sixteen digits of base 16.
+fn push_digest(text: &mut Vec<u8>, digest: u64) -> Result<(), AllocError> {
+    for byte in digest.to_be_bytes() {
+        push_hexadecimal(text, byte)?;
+    }
+    Ok(())
+}
+
+/// Adds a byte as two digits of base 16.
+fn push_hexadecimal(text: &mut Vec<u8>, byte: u8) -> Result<(), AllocError> {
+    text.push(DIGITS[usize::from(byte / 16)])?;
+    text.push(DIGITS[usize::from(byte % 16)])?;
+    Ok(())
 }
 
 /// The digest of a reply's text, without its byte 10: its SipHash-1-3 under the key 0 (own rule).
@@ -137,7 +189,8 @@ pub fn without_end(line: &[u8]) -> &[u8] {
 /// Adds bytes as the inside of a text of JSON. Where they are no UTF-8, each byte from 128 on becomes the code unit
 /// `dc80` to `dcff`, as Python's `surrogateescape` has it.
 fn push_escaped(text: &mut Vec<u8>, bytes: &[u8]) -> Result<(), AllocError> {
-    text.reserve(bytes.len())?;
+    // A mark in eight, as JSON has them, and room for what stands behind.
+    text.reserve(bytes.len() + bytes.len() / 8 + 64)?;
     let is_utf8 = str::from_utf8(bytes).is_ok();
     for byte in bytes {
         push_byte(text, *byte, is_utf8)?;
@@ -165,7 +218,5 @@ fn push_byte(text: &mut Vec<u8>, byte: u8, is_utf8: bool) -> Result<(), AllocErr
 /// Adds an escape whose last two digits are a byte.
 fn push_code(text: &mut Vec<u8>, front: &[u8], byte: u8) -> Result<(), AllocError> {
     text.extend_from_slice(front)?;
-    text.push(DIGITS[usize::from(byte / 16)])?;
-    text.push(DIGITS[usize::from(byte % 16)])?;
-    Ok(())
+    push_hexadecimal(text, byte)
 }

@@ -1,8 +1,8 @@
 //! The thread that writes the log of answers.
-use crate::batch::{Batch, LeftOut};
+use crate::batch::{Batch, LeftOut, Noted};
 use crate::line_text::{KeptReply, LineWriter};
 use crate::log_file::{LogFile, OpenLog};
-use crossbeam_channel::{Receiver, Sender, bounded};
+use crossbeam_channel::{Receiver, Sender, TryRecvError, bounded};
 use lost_status::LogCounts;
 use std::alloc::{AllocError, Global};
 use std::sync::atomic::{AtomicBool, Ordering};
@@ -18,6 +18,14 @@ const MOST_WAITING: usize = 64;
 const LAST_LOOKS: u32 = 250;
 
 const PAUSE: u64 = 20;
+
+/// How long to wait for the next batch, in milliseconds: twice as long each time that none has come.
+const SHORTEST_WAIT: u64 = 1;
+
+const LONGEST_WAIT: u64 = 8;
+
+/// The most bytes of room that stay for the text of the next batch.
+const MOST_ROOM: usize = 1_048_576;
 
 /// How often to look where the path of the log leads, in seconds, while lines come.
 const LOOK: u64 = 1;
@@ -73,6 +81,8 @@ struct Writing {
     file: LogFile,
     /// When the file was opened, by the monotonic clock.
     opened: Duration,
+    /// The lines that are written.
+    text: Vec<u8>,
     writer: LineWriter,
     batches: Receiver<Batch>,
     counts: Arc<LogCounts>,
@@ -119,6 +129,7 @@ pub fn start_answer_log<R: Threads + Wait + Clock + OpenLog + Clone + Send + Dro
         path: String::from_str(alloc, path)?,
         file,
         opened: now(rt, Duration::ZERO),
+        text: Vec::new(alloc),
         writer: LineWriter::new(alloc, kept)?,
         batches,
         counts: Arc::try_clone(&counts)?,
@@ -145,14 +156,23 @@ fn now<R: Clock>(rt: &R, before: Duration) -> Duration {
 }
 
 impl Writing {
-    /// Writes each batch that is handed over, until no more can come.
+    /// Writes each batch that is handed over, until no more can come. It looks whether one has come, and is not woken for
+    /// it, which would take a worker longer than an answer.
     fn write_all<R: Wait + Clock + OpenLog>(&mut self, rt: &R) {
-        for _batch in rt.forever() {
-            let Ok(batch) = self.batches.recv(rt) else {
-                break;
-            };
-            self.open_anew(rt);
-            self.write(&batch);
+        let mut wait = SHORTEST_WAIT;
+        for _look in rt.forever() {
+            match self.batches.try_recv(rt) {
+                Ok(batch) => {
+                    self.open_anew(rt);
+                    self.write(&batch);
+                    wait = SHORTEST_WAIT;
+                }
+                Err(TryRecvError::Empty) => {
+                    sleep(rt, Duration::from_millis(wait));
+                    wait = wait.saturating_mul(2).min(LONGEST_WAIT);
+                }
+                Err(_) => break,
+            }
         }
         self.has_ended.store(true, Ordering::SeqCst);
     }
@@ -173,11 +193,8 @@ impl Writing {
     /// Writes a batch. What the file does not take is left out, and counted.
     fn write(&mut self, batch: &Batch) {
         let lines = batch.lines.len() as u64;
-        let is_written = match self.text_of(batch) {
-            Ok(text) => self.file.add(text.as_slice()).is_ok(),
-            Err(AllocError) => false,
-        };
-        if is_written {
+        self.clear_text();
+        if self.make_text(batch).is_ok() && self.file.add(self.text.as_slice()).is_ok() {
             self.left_out = None;
             self.counts.add_written(lines);
         } else {
@@ -186,19 +203,35 @@ impl Writing {
         }
     }
 
-    /// The lines of a batch, behind those that say what was left out.
-    fn text_of(&mut self, batch: &Batch) -> Result<Vec<u8>, AllocError> {
-        let mut text = Vec::new(self.alloc);
+    /// Takes the lines away that were written, and their room where it is much.
+    fn clear_text(&mut self) {
+        if self.text.capacity() > MOST_ROOM {
+            self.text = Vec::new(self.alloc);
+        }
+        self.text.clear();
+    }
+
+    /// Makes the lines of a batch, behind those that say what was left out.
+    fn make_text(&mut self, batch: &Batch) -> Result<(), AllocError> {
         if let Some(left_out) = &self.left_out {
-            self.writer.push_left_out(&mut text, left_out)?;
+            self.writer.push_left_out(&mut self.text, left_out)?;
         }
         if let Some(left_out) = &batch.left_out {
-            self.writer.push_left_out(&mut text, left_out)?;
+            self.writer.push_left_out(&mut self.text, left_out)?;
         }
+        let mut rest = batch.bytes.as_slice();
         for line in batch.lines.iter() {
-            self.writer.push_line(&mut text, line)?;
+            rest = self.push_answer(line, rest)?;
         }
-        Ok(text)
+        Ok(())
+    }
+
+    /// Makes the line of an answer, whose bytes come first, and gives the others.
+    fn push_answer<'b>(&mut self, line: &Noted, bytes: &'b [u8]) -> Result<&'b [u8], AllocError> {
+        let (request, rest) = bytes.split_at(line.request.min(bytes.len()));
+        let (reply, rest) = rest.split_at(line.reply.min(rest.len()));
+        self.writer.push_line(&mut self.text, line, request, reply)?;
+        Ok(rest)
     }
 
     /// Notes that the lines of a batch were left out, and those that were before them.

@@ -1,17 +1,16 @@
 //! Logs the answers of a worker.
-ghost use Rattle.std.specs.Prelude.{◌≡◌, IfOk, length};
-ghost use Rattle.lost_json.specs.Line.{line_reply};
+ghost use Rattle.std.specs.Prelude.{◌≡◌, IfOk};
 ghost use Rattle.lost_json.specs.Stream.{internal_error};
-ghost use Rattle.lost_desk.specs.Seen.{seen_book};
 ghost use Rattle.lost_answer_log.specs.Answered.{IsAnswer};
 
-use crate::batch::{Batch, LeftOut, Logged};
+use crate::batch::{Batch, LeftOut};
 use crate::log_thread::AnswerLog;
 use crossbeam_channel::TrySendError;
 use lost_json::internal_error;
 use lost_mapping::{Moment, Source};
 use lost_worker::{Replied, Replier, SharedReplier};
 use std::alloc::{AllocError, Global};
+use std::mem;
 use std::sync::Wait;
 use std::thread::sleep;
 use std::time::{Clock, Duration};
@@ -35,6 +34,8 @@ pub struct Logging<'p, 'r, P, R> {
     replier: &'p mut P,
     log: AnswerLog,
     batch: Batch,
+    /// How many lines were left out, and are not counted yet.
+    left_out: u64,
     /// The number of the connection whose lines come.
     connection: u64,
 }
@@ -53,6 +54,7 @@ impl<'p, 'r, P: Replier, R: Wait> Logging<'p, 'r, P, R> {
             replier,
             log,
             batch: Batch::new(alloc),
+            left_out: 0,
             connection: 0,
         }
     }
@@ -63,17 +65,39 @@ impl<'p, 'r, P: Replier, R: Wait> Logging<'p, 'r, P, R> {
         requires error { IsAnswer moment.now edition request.now internal_error }
         ensures same { P.reader self.new.replier.now ≡ P.reader self.old.replier.now }
     {
-        let connection = self.connection;
-        let logged = logged_of(self.alloc, moment, edition, connection, request, replied);
-        let is_added = match logged {
-            Ok(line) => self.batch.bytes < MOST_KEPT && self.batch.add(line).is_ok(),
-            Err(AllocError) => false,
-        };
-        if !is_added {
+        if self.batch.bytes.len() >= MOST_KEPT {
+            self.leave_out(moment);
+        } else if self.add(moment, edition, request, replied).is_err() {
             self.leave_out(moment);
         }
-        if self.batch.bytes >= FULL {
+        if self.batch.bytes.len() >= FULL {
             self.hand_over();
+        }
+    }
+
+    /// Adds an answer to the batch: a reply, or `internalError` where memory was refused for it.
+    fn add(
+        &mut self,
+        moment: &Moment,
+        edition: u64,
+        request: &[u8],
+        replied: &Replied,
+    ) -> Result<(), AllocError>
+        requires reply { IfOk replied.now (λ reply. IsAnswer moment.now edition request.now reply.items) }
+        requires error { IsAnswer moment.now edition request.now internal_error }
+        ensures same { P.reader self.new.replier.now ≡ P.reader self.old.replier.now }
+    {
+        let connection = self.connection;
+        match replied {
+            Ok(reply) => {
+                self.batch
+                    .add(moment, edition, connection, request, reply.as_slice())
+            }
+            Err(_) => {
+                let error = internal_error();
+                self.batch
+                    .add(moment, edition, connection, request, error.bytes())
+            }
         }
     }
 
@@ -82,7 +106,17 @@ impl<'p, 'r, P: Replier, R: Wait> Logging<'p, 'r, P, R> {
         ensures same { P.reader self.new.replier.now ≡ P.reader self.old.replier.now }
     {
         self.batch.left_out = Some(LeftOut::and(self.batch.left_out, *moment));
-        self.log.counts.add_left_out(1);
+        self.left_out = self.left_out.saturating_add(1);
+    }
+
+    /// Counts the lines that were left out.
+    fn count_left_out(&mut self)
+        ensures same { P.reader self.new.replier.now ≡ P.reader self.old.replier.now }
+    {
+        if self.left_out > 0 {
+            self.log.counts.add_left_out(self.left_out);
+            self.left_out = 0;
+        }
     }
 
     /// Hands over what there is. If too much waits, it is kept. Says whether nothing is left.
@@ -92,9 +126,14 @@ impl<'p, 'r, P: Replier, R: Wait> Logging<'p, 'r, P, R> {
         if self.batch.is_empty() {
             return true;
         }
-        let batch = std::mem::replace(&mut self.batch, Batch::new(self.alloc));
+        let (lines, bytes) = (self.batch.lines.len(), self.batch.bytes.len());
+        let batch = mem::replace(&mut self.batch, Batch::new(self.alloc));
         match self.log.batches.try_send(self.rt, batch) {
-            Ok(()) => true,
+            Ok(()) => {
+                // As many may come again.
+                self.batch.make_room(lines, bytes.min(FULL));
+                true
+            }
             Err(TrySendError::Full(batch)) => {
                 self.batch = batch;
                 false
@@ -107,6 +146,7 @@ impl<'p, 'r, P: Replier, R: Wait> Logging<'p, 'r, P, R> {
 impl<P: Replier, R: Wait + Clock> Logging<'_, '_, P, R> {
     /// Hands over the last lines. It tries for 2 seconds at most, since the file may take none.
     pub fn finish(&mut self) {
+        self.count_left_out();
         for _try in 0..LAST_TRIES {
             if self.hand_over() {
                 return;
@@ -138,46 +178,8 @@ impl<P: SharedReplier, R: Wait> SharedReplier for Logging<'_, '_, P, R> {
     }
 
     fn rest(&mut self) {
+        self.count_left_out();
         self.hand_over();
         self.replier.rest();
     }
-}
-
-/// What is logged of an answer: its moment, its edition, its connection, its line, and its reply, which is
-/// `internalError` where memory was refused.
-fn logged_of(
-    alloc: Global,
-    moment: &Moment,
-    edition: u64,
-    connection: u64,
-    request: &[u8],
-    replied: &Replied,
-) -> Result<Logged, AllocError>
-    requires reply { IfOk replied.now (λ reply. IsAnswer moment.now edition request.now reply.items) }
-    requires error { IsAnswer moment.now edition request.now internal_error }
-    ensures moment { IfOk result (λ logged. logged.moment ≡ moment.now) }
-    ensures edition { IfOk result (λ logged. logged.edition ≡ edition) }
-    ensures connection { IfOk result (λ logged. logged.connection ≡ connection) }
-    ensures request { IfOk result (λ logged. logged.request.items ≡ request.now) }
-{
-    let reply = match replied {
-        Ok(reply) => copy_of(alloc, reply.as_slice())?,
-        Err(_) => copy_of(alloc, internal_error().text.bytes())?,
-    };
-    Ok(Logged {
-        moment: *moment,
-        edition,
-        connection,
-        request: copy_of(alloc, request)?,
-        reply,
-    })
-}
-
-/// A copy of bytes.
-fn copy_of(alloc: Global, bytes: &[u8]) -> Result<Vec<u8>, AllocError>
-    ensures { IfOk result (λ copy. copy.items ≡ bytes.now) }
-{
-    let mut copy = Vec::with_capacity(alloc, bytes.len())?;
-    copy.extend_from_slice(bytes)?;
-    Ok(copy)
 }

@@ -5,6 +5,7 @@ ghost use Rattle.lost_keeping.specs.Kept.{all_published};
 
 use crate::auditor::{Auditor, Findings};
 use crate::fault::AuditFault;
+use crate::log_line::LastDay;
 use crate::log_reader::LogReader;
 use crate::window::{MOST_LINES, Window};
 use lost_book::Limits;
@@ -83,6 +84,7 @@ fn audit_over<R: Wait + AllocGlobal, I: Read + Drop, W: Write + Drop>(
         desk,
         walk,
         window: Window::new(rt.alloc()),
+        last_day: LastDay::none(),
         found: Findings::none(),
         reports: Vec::new(rt.alloc()),
         stopped: None,

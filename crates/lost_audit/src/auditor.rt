@@ -2,10 +2,10 @@
 ghost use Rattle.std.specs.Prelude.{◌≡◌, ◌≢◌, ◌==◌, ◌&&◌, [], IfOk};
 ghost use Rattle.lost_audit.specs.Verdicts.{IsTold};
 
-use crate::log_line::{Kept, LogLine, Question, read_log_line};
+use crate::log_line::{Kept, LastDay, LogLine, Question, read_log_line};
 use crate::reporting::report_text;
 use crate::verdict::{Verdict, judge};
-use crate::window::Window;
+use crate::window::{MOST_LINES, Window};
 use lost_answer_log::{reply_digest, without_end};
 use lost_desk::Desk;
 use lost_json::internal_error;
@@ -62,6 +62,8 @@ pub(crate) struct Auditor<'a, R, D: Disk> {
     pub(crate) desk: &'a mut Desk,
     pub(crate) walk: Walk<D>,
     pub(crate) window: Window,
+    /// The day of the last line.
+    pub(crate) last_day: LastDay,
     pub(crate) found: Findings,
     /// What is to be told, and is not written yet.
     pub(crate) reports: Vec<u8>,
@@ -73,8 +75,8 @@ impl<R: Wait, D: Disk + Drop> Auditor<'_, R, D> {
     /// Takes a line of the log, without its byte 10, and adds the report of what is judged then.
     pub(crate) fn take_line(&mut self, line: &[u8]) -> Result<(), AllocError> {
         let number = self.next_number();
-        match read_log_line(self.alloc, line)? {
-            LogLine::Answer(question) => self.window.add(number, question)?,
+        match read_log_line(self.alloc, line, &mut self.last_day)? {
+            LogLine::Answer(question) => self.take_question(number, question)?,
             LogLine::LeftOut(lines) => {
                 self.found.left_out = self.found.left_out.saturating_add(lines);
             }
@@ -83,8 +85,29 @@ impl<R: Wait, D: Disk + Drop> Auditor<'_, R, D> {
                 self.add_report(number, None, verdict)?;
             }
         }
+        Ok(())
+    }
+
+    /// Takes the question of a line. It is judged at once if its edition has been reached, and else it waits.
+    fn take_question(&mut self, number: u64, question: Question) -> Result<(), AllocError> {
+        if question.edition <= self.desk.edition() {
+            return self.judge(number, &question);
+        }
+        self.window.add(number, question)?;
         if self.window.is_full() {
             self.judge_next()?;
+            self.judge_reached()?;
+        }
+        Ok(())
+    }
+
+    /// Judges the questions that wait and whose edition has been reached.
+    fn judge_reached(&mut self) -> Result<(), AllocError> {
+        for _question in 0..=MOST_LINES {
+            match self.window.first_edition() {
+                Some(edition) if edition <= self.desk.edition() => self.judge_next()?,
+                _ => break,
+            };
         }
         Ok(())
     }

@@ -17,5 +17,5 @@ pub use auditor::Findings;
 pub use explaining::{AtEdition, explain};
 pub use fault::AuditFault;
 pub use judging::{differing_reply, reply_of_other_digest};
-pub use log_line::{Kept, LogLine, Question, read_log_line};
+pub use log_line::{Kept, LastDay, LogLine, Question, read_log_line};
 pub use verdict::{Verdict, judge};

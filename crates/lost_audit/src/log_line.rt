@@ -39,12 +39,108 @@ pub enum LogLine {
     Other,
 }
 
+/// How many bytes the text of a day has, as of 2026-12-01.
+const DAY: usize = 10;
+
+/// How many bytes most requests and replies have at most.
+const USUAL: usize = 1_024;
+
+/// The nanoseconds of a second.
+const NANOSECONDS: u64 = 1_000_000_000;
+
+/// The day of the line that was read last: most lines have the same one.
+#[derive(Clone, Copy, Debug)]
+pub struct LastDay {
+    text: [u8; DAY],
+    number: Option<i32>,
+}
+
+impl LastDay {
+    /// No day.
+    pub fn none() -> LastDay {
+        LastDay {
+            text: [0; DAY],
+            number: None,
+        }
+    }
+
+    /// The moment of a time of this day, if it is one that is written as the log has it.
+    fn moment(&self, time: &[u8]) -> Option<Moment> {
+        let (day, rest) = time.split_at_checked(DAY)?;
+        if day != self.text.as_slice() {
+            return None;
+        }
+        Moment::new(self.number?, nanosecond_of(rest)?)
+    }
+
+    /// Keeps the day of a time.
+    fn keep(&mut self, time: &[u8], moment: &Moment) {
+        if let Some(day) = time.first_chunk::<DAY>() {
+            self.text = *day;
+            self.number = Some(moment.day());
+        }
+    }
+}
+
+/// The nanosecond of the day of a time such as T12:30:00.000000001Z.
+fn nanosecond_of(time: &[u8]) -> Option<u64> {
+    let [
+        b'T',
+        h1,
+        h2,
+        b':',
+        m1,
+        m2,
+        b':',
+        s1,
+        s2,
+        b'.',
+        decimals @ ..,
+        b'Z',
+    ] = time
+    else {
+        return None;
+    };
+    if decimals.len() != 9 {
+        return None;
+    }
+    let hours = number_of(&[*h1, *h2], 24)?;
+    let minutes = number_of(&[*m1, *m2], 60)?;
+    let seconds = number_of(&[*s1, *s2], 60)?;
+    let nanoseconds = number_of(decimals, NANOSECONDS)?;
+    let whole_minutes = hours.saturating_mul(60).saturating_add(minutes);
+    let whole_seconds = whole_minutes.saturating_mul(60).saturating_add(seconds);
+    Some(
+        whole_seconds
+            .saturating_mul(NANOSECONDS)
+            .saturating_add(nanoseconds),
+    )
+}
+
+/// The number of these digits, which is below a limit; none if they are no digits.
+fn number_of(digits: &[u8], limit: u64) -> Option<u64> {
+    let mut number = 0u64;
+    for digit in digits {
+        if !digit.is_ascii_digit() {
+            return None;
+        }
+        number = number
+            .saturating_mul(10)
+            .saturating_add(u64::from(*digit - b'0'));
+    }
+    if number < limit { Some(number) } else { None }
+}
+
 /// Reads a line of the log, without its byte 10.
 ///
 /// # Errors
 ///
 /// If memory is refused.
-pub fn read_log_line(alloc: Global, line: &[u8]) -> Result<LogLine, AllocError> {
+pub fn read_log_line(
+    alloc: Global,
+    line: &[u8],
+    last_day: &mut LastDay,
+) -> Result<LogLine, AllocError> {
     let mut parts = Parts { alloc, rest: line };
     if parts.pass(b"{\"leftOut\":{\"lines\":") {
         return Ok(match parts.number() {
@@ -52,7 +148,7 @@ pub fn read_log_line(alloc: Global, line: &[u8]) -> Result<LogLine, AllocError> 
             None => LogLine::Other,
         });
     }
-    match parts.answer()? {
+    match parts.answer(last_day)? {
         Some(question) => Ok(LogLine::Answer(question)),
         None => Ok(LogLine::Other),
     }
@@ -67,8 +163,8 @@ struct Parts<'l> {
 
 impl Parts<'_> {
     /// Reads the line of an answer; none if it is no such line.
-    fn answer(&mut self) -> Result<Option<Question>, AllocError> {
-        let Some(moment) = self.moment()? else {
+    fn answer(&mut self, last_day: &mut LastDay) -> Result<Option<Question>, AllocError> {
+        let Some(moment) = self.moment(last_day)? else {
             return Ok(None);
         };
         let (Some(edition), Some(connection)) = (
@@ -111,12 +207,19 @@ impl Parts<'_> {
     }
 
     /// Reads the moment at the beginning of a line.
-    fn moment(&mut self) -> Result<Option<Moment>, AllocError> {
+    fn moment(&mut self, last_day: &mut LastDay) -> Result<Option<Moment>, AllocError> {
         let Some(time) = self.text_behind(b"{\"time\":\"")? else {
             return Ok(None);
         };
-        match Stamp::parse(self.alloc, time.as_slice()) {
-            Ok(stamp) => Ok(Some(stamp.moment())),
+        let time = time.as_slice();
+        if let Some(moment) = last_day.moment(time) {
+            return Ok(Some(moment));
+        }
+        match Stamp::parse(self.alloc, time) {
+            Ok(stamp) => {
+                last_day.keep(time, &stamp.moment());
+                Ok(Some(stamp.moment()))
+            }
             Err(StampError::Bad) => Ok(None),
             Err(StampError::Memory) => Err(AllocError),
         }
@@ -175,15 +278,18 @@ impl Parts<'_> {
         if !self.pass(front) {
             return Ok(None);
         }
-        let mut text = Vec::new(self.alloc);
-        for _byte in 0..self.rest.len() {
+        let most = self.rest.len();
+        let mut text = Vec::with_capacity(self.alloc, most.min(USUAL))?;
+        for _part in 0..most {
+            let count = copy_plain(&mut text, self.rest)?;
+            let (_copied, rest) = self.rest.split_at(count.min(self.rest.len()));
+            self.rest = rest;
             match self.byte() {
                 Some(b'"') => return Ok(Some(text)),
-                Some(b'\\') => match self.escaped() {
+                Some(_) => match self.escaped() {
                     Some(byte) => text.push(byte)?,
                     None => return Ok(None),
                 },
-                Some(byte) => text.push(byte)?,
                 None => return Ok(None),
             }
         }
@@ -224,4 +330,24 @@ impl Parts<'_> {
         self.rest = rest;
         u8::from_str_radix(str::from_utf8(digits).ok()?, 16).ok()
     }
+}
+
+/// Copies a text up to the quotation mark that ends it, or to the mark of an escape other than of a quotation mark or of
+/// such a mark. Gives how many bytes stand before that.
+fn copy_plain(text: &mut Vec<u8>, bytes: &[u8]) -> Result<usize, AllocError> {
+    let mut is_escaped = false;
+    for (place, byte) in bytes.iter().enumerate() {
+        let is_mark = *byte == b'"' || *byte == b'\\';
+        if is_escaped && !is_mark {
+            return Ok(place.saturating_sub(1));
+        }
+        if *byte == b'"' && !is_escaped {
+            return Ok(place);
+        }
+        is_escaped = is_mark && !is_escaped;
+        if !is_escaped {
+            text.push(*byte)?;
+        }
+    }
+    Ok(bytes.len())
 }

@@ -41,6 +41,12 @@ impl Window {
         self.questions.len() >= MOST_LINES || self.bytes >= MOST_BYTES
     }
 
+    /// The edition of the first question.
+    pub(crate) fn first_edition(&self) -> Option<u64> {
+        let ((edition, _line), _question) = self.questions.first_key_value()?;
+        Some(*edition)
+    }
+
     /// Takes the first question out, with the number of its line.
     pub(crate) fn take(&mut self) -> Option<(u64, Question)> {
         let ((_edition, line), question) = self.questions.pop_first()?;
