@@ -284,8 +284,10 @@ class LogTests(Logs):
         os.mkfifo(self.log)
         with self.ready("--log", self.log, "--log-replies", "none") as server, unix(self.queries) as client:
             long = json.dumps({"listServices": {}, "x": "y" * 200_000}) + "\n"
-            # The first one fills the pipe; 64 wait for the thread that writes, and 1 MiB at the worker.
-            for line in [long, *[self.question] * 65, *[long] * 6, *[self.question] * 5]:
+            # The first one fills the pipe, once the thread that writes has looked; 64 wait for it, and 1 MiB at the worker.
+            ask(client, long)
+            time.sleep(LOOK)
+            for line in [*[self.question] * 65, *[long] * 6, *[self.question] * 5]:
                 ask(client, line)
             self.assertNotIn("\nlostd_log_left_out_total 0\n", self.page("/metrics"))
             pipe = os.open(self.log, os.O_RDONLY | os.O_NONBLOCK)
