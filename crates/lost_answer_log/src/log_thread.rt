@@ -22,7 +22,7 @@ const PAUSE: u64 = 20;
 /// How long to wait for the next batch, in milliseconds: twice as long each time that none has come.
 const SHORTEST_WAIT: u64 = 1;
 
-const LONGEST_WAIT: u64 = 8;
+const LONGEST_WAIT: u64 = 4;
 
 /// The most bytes of room that stay for the text of the next batch.
 const MOST_ROOM: usize = 1_048_576;

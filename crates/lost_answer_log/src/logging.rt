@@ -18,6 +18,9 @@ use std::time::{Clock, Duration};
 /// After how many bytes of lines a batch is handed over.
 const FULL: usize = 65_536;
 
+/// The most bytes of a batch that is handed over when it is full, for most lines.
+const USUAL: usize = 69_632;
+
 /// How many bytes of lines are kept while the writing thread takes none.
 const MOST_KEPT: usize = 1_048_576;
 
@@ -131,7 +134,7 @@ impl<'p, 'r, P: Replier, R: Wait> Logging<'p, 'r, P, R> {
         match self.log.batches.try_send(self.rt, batch) {
             Ok(()) => {
                 // As many may come again.
-                self.batch.make_room(lines, bytes.min(FULL));
+                self.batch.make_room(lines, bytes.min(USUAL));
                 true
             }
             Err(TrySendError::Full(batch)) => {

@@ -14,6 +14,7 @@ use lost_journal_file::{JournalDisk, look_at_journal};
 use lost_keeping::Walk;
 use lost_lines::{ServeError, Turns};
 use lost_mapping::Source;
+use lost_tape::Scratch;
 use std::fs::{File, Files};
 use std::io::{Read, Write};
 use std::sync::Wait;
@@ -84,6 +85,7 @@ fn audit_over<R: Wait + AllocGlobal, I: Read + Drop, W: Write + Drop>(
         desk,
         walk,
         window: Window::new(rt.alloc()),
+        scratch: Scratch::new(rt.alloc()),
         last_day: LastDay::none(),
         found: Findings::none(),
         reports: Vec::new(rt.alloc()),

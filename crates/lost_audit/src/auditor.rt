@@ -11,6 +11,7 @@ use lost_desk::Desk;
 use lost_json::internal_error;
 use lost_keeping::{Stopped, Walk};
 use lost_mapping::Source;
+use lost_tape::Scratch;
 use sqlite_disk::Disk;
 use std::alloc::{AllocError, Global};
 use std::sync::Wait;
@@ -62,6 +63,8 @@ pub(crate) struct Auditor<'a, R, D: Disk> {
     pub(crate) desk: &'a mut Desk,
     pub(crate) walk: Walk<D>,
     pub(crate) window: Window,
+    /// What the reading of requests works with.
+    pub(crate) scratch: Scratch,
     /// The day of the last line.
     pub(crate) last_day: LastDay,
     pub(crate) found: Findings,
@@ -172,7 +175,7 @@ impl<R: Wait, D: Disk + Drop> Auditor<'_, R, D> {
     }
 
     /// What a question comes to.
-    fn verdict(&self, question: &Question) -> Result<Verdict, AllocError> {
+    fn verdict(&mut self, question: &Question) -> Result<Verdict, AllocError> {
         let published = self.desk.edition();
         if is_internal_error(&question.kept) {
             return Ok(Verdict::InternalError);
@@ -185,7 +188,13 @@ impl<R: Wait, D: Disk + Drop> Auditor<'_, R, D> {
         if published < question.edition {
             return Ok(Verdict::Unjudged("the journal has no such edition"));
         }
-        judge(self.alloc, self.desk, self.name, question)
+        judge(
+            self.alloc,
+            &mut self.scratch,
+            self.desk,
+            self.name,
+            question,
+        )
     }
 
     /// Counts a verdict, and gives its report, which is empty if there is nothing to tell.

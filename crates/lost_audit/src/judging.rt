@@ -3,10 +3,28 @@ ghost use Rattle.std.specs.Prelude.{◌≡◌, ◌≢◌, IfOk, IsNone, IfSome};
 ghost use Rattle.lost_json.specs.Line.{line_reply};
 
 use lost_answer_log::{reply_digest, without_end};
-use lost_json::reply_line;
+use lost_json::{reply_line, reply_request};
 use lost_mapping::{Moment, Source};
 use lost_query::Holdings;
+use lost_tape::{Scratch, read_common};
 use std::alloc::{AllocError, Global};
+
+/// The reply to a request line over a book, as the server of this name at a moment.
+fn reply_over<H: Holdings>(
+    alloc: Global,
+    scratch: &mut Scratch,
+    book: &H,
+    name: &Source,
+    moment: &Moment,
+    line: &[u8],
+) -> Result<Vec<u8>, AllocError>
+    ensures { IfOk result (λ reply. reply.items ≡ line_reply (H.book book.now) name.now moment.now line.now) }
+{
+    match read_common(alloc, line, scratch) {
+        Some(request) => reply_request(alloc, book, name, moment, &request),
+        None => reply_line(alloc, book, name, moment, line),
+    }
+}
 
 /// The reply to a request line over a book, as the server of this name at a moment, if it is not the one that was given;
 /// both with their byte 10.
@@ -16,6 +34,7 @@ use std::alloc::{AllocError, Global};
 /// If memory is refused.
 pub fn differing_reply<H: Holdings>(
     alloc: Global,
+    scratch: &mut Scratch,
     book: &H,
     name: &Source,
     moment: &Moment,
@@ -26,7 +45,7 @@ pub fn differing_reply<H: Holdings>(
     ensures differs { IfOk result (λ other. IfSome other (λ reply.
         (reply.items ≡ line_reply (H.book book.now) name.now moment.now request.now) × (given.now ≢ reply.items))) }
 {
-    let right = reply_line(alloc, book, name, moment, request)?;
+    let right = reply_over(alloc, scratch, book, name, moment, request)?;
     if right.as_slice() == given {
         return Ok(None);
     }
@@ -40,6 +59,7 @@ pub fn differing_reply<H: Holdings>(
 /// If memory is refused.
 pub fn reply_of_other_digest<H: Holdings>(
     alloc: Global,
+    scratch: &mut Scratch,
     book: &H,
     name: &Source,
     moment: &Moment,
@@ -49,7 +69,7 @@ pub fn reply_of_other_digest<H: Holdings>(
     ensures differs { IfOk result (λ other. IfSome other (λ reply.
         reply.items ≡ line_reply (H.book book.now) name.now moment.now request.now)) }
 {
-    let reply = reply_line(alloc, book, name, moment, request)?;
+    let reply = reply_over(alloc, scratch, book, name, moment, request)?;
     if reply_digest(without_end(reply.as_slice())) == digest {
         return Ok(None);
     }

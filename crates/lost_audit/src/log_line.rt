@@ -1,5 +1,6 @@
 //! Reads a line of the log of answers.
 use lost_mapping::{Moment, Stamp, StampError};
+use memchr::memchr;
 use std::alloc::{AllocError, Global};
 use std::str;
 
@@ -208,10 +209,17 @@ impl Parts<'_> {
 
     /// Reads the moment at the beginning of a line.
     fn moment(&mut self, last_day: &mut LastDay) -> Result<Option<Moment>, AllocError> {
-        let Some(time) = self.text_behind(b"{\"time\":\"")? else {
+        if !self.pass(b"{\"time\":\"") {
+            return Ok(None);
+        }
+        let Some(end) = memchr(b'"', self.rest) else {
             return Ok(None);
         };
-        let time = time.as_slice();
+        let (time, rest) = self.rest.split_at(end);
+        self.rest = rest;
+        if !self.pass(b"\"") {
+            return Ok(None);
+        }
         if let Some(moment) = last_day.moment(time) {
             return Ok(Some(moment));
         }

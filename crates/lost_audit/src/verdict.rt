@@ -6,6 +6,7 @@ use crate::judging::{differing_reply, reply_of_other_digest};
 use crate::log_line::{Kept, Question};
 use lost_desk::Desk;
 use lost_mapping::Source;
+use lost_tape::Scratch;
 use std::alloc::{AllocError, Global};
 
 /// What a line of the log comes to.
@@ -28,6 +29,7 @@ pub enum Verdict {
 /// If memory is refused.
 pub fn judge(
     alloc: Global,
+    scratch: &mut Scratch,
     desk: &Desk,
     name: &Source,
     question: &Question,
@@ -39,6 +41,7 @@ pub fn judge(
     let other = match &question.kept {
         Kept::Whole(given) => differing_reply(
             alloc,
+            scratch,
             book,
             name,
             &question.moment,
@@ -46,7 +49,15 @@ pub fn judge(
             given.as_slice(),
         )?,
         Kept::Digest(digest) => {
-            reply_of_other_digest(alloc, book, name, &question.moment, request, *digest)?
+            reply_of_other_digest(
+                alloc,
+                scratch,
+                book,
+                name,
+                &question.moment,
+                request,
+                *digest,
+            )?
         }
         Kept::Nothing => return Ok(Verdict::Unjudged("the log keeps nothing of its reply")),
     };

@@ -137,7 +137,7 @@ impl<D: Disk> Keeper<D> {
             self.sum.finish(),
         )?;
         let line = line_of(self.alloc, front.as_str(), rt.since_1970().ok())?;
-        if !orders_commit(self.alloc, line.as_bytes(), scratch) {
+        if !orders_commit(self.alloc, line.as_bytes(), scratch)? {
             return Err(NotKept::Line);
         }
         Ok(line)

@@ -313,8 +313,8 @@ impl Recovery {
         )?;
         let body = &line[..line.len().saturating_sub(1)];
         if !line.starts_with(front.as_bytes())
-            || !orders_commit(self.alloc, body, &mut self.scratch)
-            || !is_commit_order(self.alloc, line, &mut self.scratch)
+            || !orders_commit(self.alloc, body, &mut self.scratch)?
+            || !is_commit_order(self.alloc, line, &mut self.scratch)?
         {
             return Err(RecoveryFault::Damaged(Damage::OtherCommit));
         }
