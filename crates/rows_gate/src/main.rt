@@ -4,8 +4,9 @@
 //!
 //! `serve` runs servers ([`serving`]). `calls` makes the calls that take no memory, on values, books, indexes and desks
 //! made before; `prepared` makes these alone. The other libraries say what their commands do: test_cases of `NAME.cases`,
-//! test_books of `edits`, test_index from `covers` to `sets`, test_desks from `sessions` to `cache`, test_lines from
-//! `streams` to `lines`, test_status of `orders` and `status`. All but `prepared` run in the gate.
+//! test_books of `edits`, test_index from `covers` to `sets`, test_desks from `sessions` to `cache`, test_journal
+//! of `journal` and `kept`, test_lines from `streams` to `lines`, test_status of `orders` and `status`. All but `prepared`
+//! run in the gate.
 #![tactic(auto)]
 
 mod client;
@@ -21,7 +22,7 @@ use std::sync::Wait;
 use test_parts::given;
 
 /// The commands.
-const WORDS: [&str; 31] = [
+const WORDS: [&str; 33] = [
     "book.cases",
     "civic.cases",
     "digest.cases",
@@ -45,6 +46,8 @@ const WORDS: [&str; 31] = [
     "worlds",
     "desk",
     "cache",
+    "journal",
+    "kept",
     "calls",
     "prepared",
     "streams",
@@ -76,6 +79,7 @@ fn run<R: System + Print + Net<Listener = TcpListener, Stream = TcpStream> + Sen
         "covers" | "index" | "keys" | "chunks" | "sets" => return test_index::run(rt, command),
         "sessions" => return test_desks::print_sessions(rt),
         "worlds" | "desk" | "cache" => test_desks::run(rt, command)?,
+        "journal" | "kept" => return test_journal::run(rt, command),
         "streams" | "hostile" | "lines" => test_lines::run(rt, command)?,
         "orders" | "status" => test_status::run(rt, command)?,
         _ => return test_cases::print_table(rt, command),
