@@ -14,7 +14,8 @@ from spelling import Dice
 from tearing import TEARS, Crashed
 
 COMMITS, EDITS = 3, 2
-FLUSHES_OF_COMMIT, WRITES_OF_COMMIT = 2, EDITS + 2
+# The thread that serves desks also reads the journal at the start, and flushes what it cuts.
+FLUSHES_OF_START, FLUSHES_OF_COMMIT, WRITES_OF_COMMIT = 1, 2, EDITS + 2
 LEFT = "left"
 # What desks send one after another while the server is killed: one leaves edits, another one sends some that are refused.
 TURNS = [
@@ -124,7 +125,7 @@ def failed_flush(program, number, way, wrong):
                 replies = [one.take(talk, line) for line in [*group, COMMIT]]
                 if NOT_KEPT in replies:
                     break
-            one.wrong += differs("the commit that failed", (place, replies[-1]), ((number - 1) // FLUSHES_OF_COMMIT, NOT_KEPT))
+            one.wrong += differs("the commit that failed", (place, replies[-1]), ((number - FLUSHES_OF_START - 1) // FLUSHES_OF_COMMIT, NOT_KEPT))
             one.wrong += differs("what came behind it", set(talk.ask([COMMIT, publish(90), COMMIT])), {NOT_KEPT})
             talk.end()
             talk.connect(server)
@@ -206,7 +207,7 @@ def killed_at(program, call, number, way, wrong):
 def killed_at_calls(program, is_long):
     """the server killed before each of its calls on the journal in turn, and what it did not flush torn: nothing is lost"""
     wrong, ways = [], [LEFT, *TEARS]
-    for call, first in ((WRITE, 1), (CUT, 1), (FLUSH, 2)):
+    for call, first in ((WRITE, 1), (CUT, 1), (FLUSH, FLUSHES_OF_START + 1)):
         for number in itertools.count(first):
             tried = ways if is_long else [LEFT, ways[1 + number % len(TEARS)]]
             if not all([killed_at(program, call, number, way, wrong) for way in tried]):
@@ -217,7 +218,7 @@ def killed_at_calls(program, is_long):
 def failed_flushes(program, is_long):
     """each flush of some commits failing in turn: code 23 from then on, old replies, and after a crash all of that commit or nothing"""
     wrong, ways = [], [LEFT, *TEARS]
-    for number in range(2, COMMITS * FLUSHES_OF_COMMIT + 1):
+    for number in range(FLUSHES_OF_START + 1, FLUSHES_OF_START + COMMITS * FLUSHES_OF_COMMIT + 1):
         for way in ways if is_long else [LEFT, ways[1 + number % len(TEARS)]]:
             failed_flush(program, number, way, wrong)
     return wrong
