@@ -179,6 +179,10 @@ class Story:
         self.way = way = self.dice.choice(ways)
         if record:
             crashed, now = Crashed(before, record.calls()), self.bytes()
+            if now and crashed.lacks_one(now):
+                self.way = LEFT
+                self.counts["records without the last call before the kill"] += 1
+                return
             if now and not crashed.may_be(now):
                 self.ledger.differences.add(f"the record of calls says another file of {len(crashed.last)} bytes, where {len(now)} are left")
             if way != LEFT and now:
