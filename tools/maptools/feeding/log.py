@@ -3,7 +3,7 @@ from __future__ import annotations
 
 import contextlib
 import select
-from typing import Any, Iterator, List, NamedTuple, Optional
+from typing import Any, Dict, Iterator, List, NamedTuple, Optional
 
 from maptools.connection import Broken
 from maptools.feeding import database
@@ -110,6 +110,10 @@ class Log:
         """The digest of the map at an edition; empty where no commit makes it."""
         found = [(EMPTY.map,)] if edition == 0 else self.rows("SELECT map FROM feed.commits WHERE edition = %s", edition)
         return found[0][0] if found else ""
+
+    def maps(self) -> Dict[int, str]:
+        """The digest of the map at each edition that a commit makes, and at 0."""
+        return {EMPTY.edition: EMPTY.map, **dict(self.rows("SELECT edition, map FROM feed.commits"))}
 
     def after(self, edition: int) -> List[Commit]:
         """The next commits after an edition; none where there are none yet."""
