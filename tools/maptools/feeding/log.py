@@ -152,7 +152,8 @@ class Log:
         return self.rows("SELECT pg_is_in_recovery()")[0][0]
 
     def listen(self) -> None:
-        """From now on tells of new commits."""
+        """From now on tells of new commits. What is reported waits for no disk and no standby."""
+        self.rows("SET synchronous_commit = off")
         self.rows(f"LISTEN {CHANNEL}")
 
     def wait(self, seconds: float) -> bool:
