@@ -127,7 +127,7 @@ def measure_questions(program, folder):
     balancers, pairs = [], f"{folder}/pairs"
     try:
         for one in members:
-            one.start_server(path)
+            one.start_server("--map", path)
             one.health = one.status
         write_pairs(list(zip((line + b"\n" for line in questions()), replies_of(members[0], questions()))), pairs)
         for count in (1, SERVERS):
