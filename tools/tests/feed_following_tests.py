@@ -244,10 +244,19 @@ class Differing(unittest.TestCase):
         self.assertEqual(self.first([Kept([a], Standing(1, digest(A))), Kept([d, c], Standing(3, digest(A, C, D)))], log), 2)
         self.assertEqual(self.first([Kept([a, d], Standing(2, digest(A, D))), Kept([c], Standing(3, digest(A, C, D)))], log), 2)
 
-    def test_a_damaged_journal(self) -> None:
+    def test_commits_of_the_log_on_top_of_an_odd_one(self) -> None:
+        a, b, c, d, e = (line("publish", one).encode() for one in (A, B, C, D, E))
+        rows = [Commit(0, 1, a.decode(), digest(A)), Commit(1, 3, b"\n".join((b, c)).decode(), digest(A, B, C))]
+        log = MemoryLog([*rows, Commit(3, 5, b"\n".join((d, e)).decode(), digest(A, B, C, D, E))])
+        odd = line("publish", mapping("odd")).encode()
+        kept = [Kept([a], Standing(1, digest(A))), Kept([odd], Standing(2, "1" * 32)), Kept([b, c], Standing(4, "2" * 32))]
+        self.assertEqual(self.first(kept, log), 2)
+
+    def test_a_journal_whose_edits_are_all_the_log_s(self) -> None:
         a, b = (line("publish", one).encode() for one in (A, B))
         log = MemoryLog(commits_of(A, B))
-        self.assertEqual(self.first([Kept([a, b], Standing(2, digest(A, C)))], log), 2)
+        self.assertEqual(self.first([Kept([a, b], Standing(2, digest(A, C)))], log), 0)
+        self.assertEqual(self.first([Kept([a], Standing(1, digest(A)))], log), 0)
 
     def test_a_journal_without_edits(self) -> None:
         self.assertEqual(self.first([], MemoryLog([])), 0)

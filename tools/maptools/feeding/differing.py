@@ -1,16 +1,17 @@
 """Where a server's journal and the log part."""
 from __future__ import annotations
 
+from itertools import islice, zip_longest
 from typing import BinaryIO, Dict, List, Tuple
 
 from maptools.feeding.journals import commits_in
 from maptools.feeding.log import Log
 
 
-def parting(file: BinaryIO, maps: Dict[int, str]) -> Tuple[int, List[bytes]]:
-    """The last edition of a journal before the first that has another map than in the log, and the edits behind it, as far as that.
+def not_agreed(file: BinaryIO, maps: Dict[int, str]) -> Tuple[int, List[bytes]]:
+    """The last edition before a journal has another map than the log, and the edits behind it, as far as they are needed.
 
-    Where the log has no commit that makes an edition, only a later one can tell.
+    Commits of other sizes make editions that no commit of the log makes: then only a later edition can tell.
     """
     agreed, lines, last = 0, [], max(maps)  # type: int, List[bytes], int
     for kept in commits_in(file):
@@ -19,16 +20,15 @@ def parting(file: BinaryIO, maps: Dict[int, str]) -> Tuple[int, List[bytes]]:
         if maps.get(edition) == kept.standing.map:
             agreed, lines = edition, []
         elif edition in maps or edition > last:
-            return agreed, lines
-    return agreed, []
+            break
+    return agreed, lines
 
 
 def first_difference(file: BinaryIO, log: Log) -> int:
-    """The first edition of a journal that is not the log's: edition N is the N-th edit. 0 where the log has all of them."""
-    agreed, lines = parting(file, log.maps())
-    if not lines:
-        return 0
-    held = [line for commit in log.after(agreed) for line in commit.desk_lines()]
-    same = next((place for place, (one, other) in enumerate(zip(lines, held)) if one != other), min(len(lines), len(held)))
-    # (edits that are alike cannot make another map, unless the journal is damaged)
-    return agreed + min(same, len(lines) - 1) + 1
+    """The first edition of a journal that is not the log's: edition N is the N-th edit. 0 where the log has all these edits."""
+    agreed, lines = not_agreed(file, log.maps())
+    held = islice((line for commit in log.all_after(agreed) for line in commit.desk_lines()), len(lines))
+    for edition, (one, other) in enumerate(zip_longest(lines, held), agreed + 1):
+        if one != other:
+            return edition
+    return 0
