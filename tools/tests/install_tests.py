@@ -16,12 +16,12 @@ from tests.running import CASES, TOP, read
 NO_PROGRAM = "install: there is no program of these sources yet: `./install --from-source` proves and builds it, which takes up to half an hour\n"
 
 
-TOOLS = ("desk-to-geojson", "lost-client", "lost-gateway")
+TOOLS = ("desk-to-geojson", "lost-client", "lost-feed", "lost-gateway")
 ENDINGS = ("share/bash-completion/completions/{}", "share/fish/vendor_completions.d/{}.fish", "share/man/man1/{}.1", "share/zsh/site-functions/_{}")
 
 
 class Install(Checkout):
-    """A checkout with three of the tools, whose package is a stand-in for the program."""
+    """A checkout with four of the tools, whose package is a stand-in for the program."""
 
     def setUp(self) -> None:
         super().setUp()
