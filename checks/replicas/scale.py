@@ -18,11 +18,11 @@ from sides import write_pairs
 
 FOLLOWERS, COMMITS, SINGLES = (3, 20), 1_000, 20
 # How many commits a new server lacks, and how often a flush is tried.
-LACKS, FLUSHES = 3_000, 200
+LACKS, FLUSHES = 10_000, 200
 # Connections, lines at a time on each, threads and seconds of the load; servers beside one; and how often each is asked.
 LOAD, SERVERS, ROUNDS = ["64", "16", "2", "4"], 4, 3
 EDITS = 40
-PATIENCE = 120.0
+PATIENCE = 240.0
 
 
 class Figures(NamedTuple):
