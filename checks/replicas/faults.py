@@ -7,6 +7,7 @@ from typing import NamedTuple
 
 from fleet import FEED, FOLLOWER, http_get
 from history import History, line
+from maptools.feeding.standing import EMPTY
 
 # Seconds: in which a server must reach the log's edition, and one that differs must be out of rotation and named.
 LEVEL, OUT = 2.0, 2.0
@@ -66,8 +67,8 @@ class Faults:
         self.need(not missing, f"{sorted(missing)} were out of rotation {when}")
 
     def snapshot(self):
-        """A file with the log's lines."""
-        path = f"{self.fleet.folder}/snapshot.jsonl"
+        """The path of a journal with the log."""
+        path = f"{self.fleet.folder}/snapshot.journal"
         with open(path, "wb") as file:
             words = [FEED, "snapshot", "--log", self.fleet.database.url(FOLLOWER)]
             subprocess.run(words, stdout=file, stderr=subprocess.DEVNULL, check=True, timeout=PATIENCE)
@@ -76,18 +77,31 @@ class Faults:
     # ---- the faults
 
     def server_killed(self):
-        """a server is killed, and starts from the lines that it had a while ago"""
+        """a server is killed, and goes on from its journal, with all that it held"""
+        one = self.some()
+        self.wait_a_while()
+        held = one.standing() or EMPTY
+        one.kill("server")
+        kept = one.kept()
+        self.need(kept >= held, f"{one.name} held {held} before it was killed, and its journal has {kept}")
+        self.wait_a_while()
+        one.start_server()
+
+    def server_restored(self):
+        """a server is killed, and starts with a snapshot of a while ago in place of its journal"""
         one, path = self.some(), self.snapshot()
         self.wait_a_while()
         one.kill("server")
         self.wait_a_while()
-        one.start_server(path)
+        one.take(path)
+        one.start_server()
 
     def server_empty(self):
         """a server is killed, and starts empty"""
         one = self.some()
         one.kill("server")
         self.wait_a_while()
+        one.empty()
         one.start_server()
 
     def follower_killed(self):
@@ -120,22 +134,23 @@ class Faults:
         path, members = self.snapshot(), list(self.fleet.members)
         for one in members:
             one.kill()
+            self.dice.choice([lambda: None, one.empty, lambda one=one: one.take(path)])()
         self.fleet.database.primary.kill()
         self.wait_a_while()
-        starts = [self.fleet.database.primary.start, *(lambda one=one: self.start_both(one, path) for one in members)]
+        starts = [self.fleet.database.primary.start, *(lambda one=one: self.start_both(one) for one in members)]
         self.dice.shuffle(starts)
         for start in starts:
             start()
 
-    def start_both(self, one, path):
+    def start_both(self, one):
         """Starts a member, in some order."""
-        starts = [lambda: one.start_server(path if self.dice.random() < 0.5 else None), lambda: one.start_follower(self.fleet.database.url(FOLLOWER))]
+        starts = [one.start_server, lambda: one.start_follower(self.fleet.database.url(FOLLOWER))]
         self.dice.shuffle(starts)
         for start in starts:
             start()
 
     def edit_behind_the_log(self):
-        """a server is given an edit behind the log's back: it is out of rotation within two seconds, and named"""
+        """a server is given an edit behind the log's back: it is out of rotation within two seconds and named, and again after a restart"""
         one, others = self.some(), {other.name for other in self.fleet.members}
         mapping = {**self.history.mapping("odd"), "source": "odd.example"}
         sent = time.monotonic()
@@ -146,23 +161,40 @@ class Faults:
         out = self.fleet.balancer.await_rotation(others - {one.name}, 5 * OUT)
         self.need(out is not None and out <= OUT, f"{one.name} was in rotation {out} seconds after edition {edition}, which is odd")
         self.slowest["out"] = max(self.slowest["out"], out or 5 * OUT)
-        status = one.follower.wait(PATIENCE)
+        self.need_named(one, edition)
         self.slowest["named"] = max(self.slowest["named"], time.monotonic() - begun)
+        self.start_again_odd(one, edition)
+        one.kill()
+        if self.dice.random() < 0.5:
+            one.empty()
+        else:
+            one.take(self.snapshot())
+        one.start_server()
+        one.start_follower(self.fleet.database.url(FOLLOWER))
+
+    def need_named(self, one, edition):
+        """The follower of a server that differs from an edition on must end, and say so."""
+        status = one.follower.wait(PATIENCE)
         named = one.said().splitlines()[-1]
         wanted = f"{one.desk} differs from the log from edition {edition} on"
         self.need(status == 3 and wanted in named, f"the follower ended with {status}, and edition {edition} is odd: {named}")
         self.need(http_get(one.host, one.health, "/health")[0] != 200, "/health of a server that differs gave 200")
+
+    def start_again_odd(self, one, edition):
+        """A server whose journal differs is named again after a restart of both, and gets no clients."""
         one.kill()
         one.start_server()
         one.start_follower(self.fleet.database.url(FOLLOWER))
+        self.need_named(one, edition)
+        self.need(one.name not in self.fleet.balancer.rotation(), f"{one.name} is in rotation, whose journal has edition {edition}, which is odd")
 
     def upgraded(self):
-        """servers and followers are started again one after another, and no connection is lost"""
-        path, before = self.snapshot(), self.lost()
+        """servers and followers are started again one after another, from their journals, and no connection is lost"""
+        before = self.lost()
         for one in self.fleet.members:
             self.fleet.balancer.drain(one.name)
             one.kill()
-            one.start_server(path)
+            one.start_server()
             one.start_follower(self.fleet.database.url(FOLLOWER))
             self.fleet.balancer.ask(f"set server lost/{one.name} state ready")
             back = self.fleet.balancer.await_rotation({other.name for other in self.fleet.members})
@@ -183,7 +215,7 @@ class Faults:
     def kinds(self):
         """All faults, or those with a word in what they say of themselves."""
         kinds = [
-            self.server_killed, self.server_empty, self.follower_killed, self.follower_stopped, self.database_killed,
+            self.server_killed, self.server_restored, self.server_empty, self.follower_killed, self.follower_stopped, self.database_killed,
             self.all_killed, self.edit_behind_the_log, self.standby_promoted, self.upgraded,
         ]
         return [kind for kind in kinds if self.named in kind.__doc__]

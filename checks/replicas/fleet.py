@@ -1,15 +1,18 @@
-"""Servers, each with its follower, behind HAProxy by the section of docs/REPLICAS.md as it is written there."""
+"""Servers, each with its journal and its follower, behind HAProxy by the section of docs/REPLICAS.md as it is written there."""
 import csv
 import io
 import json
 import os
 import re
+import shutil
 import signal
 import socket
 import subprocess
 import time
 
 from database import Database, Unable
+from maptools.feeding.journals import commits_in
+from maptools.feeding.standing import EMPTY
 from processes import Program, await_port
 from server import free_ports
 
@@ -39,12 +42,12 @@ def http_get(host, port, path):
 
 
 class Member:
-    """A server and its follower, at an address of their own."""
+    """A server, its journal and its follower, at an address of their own."""
 
     def __init__(self, program, folder, name, host, ports):
         self.program, self.folder, self.name, self.host = program, folder, name, host
         self.queries, self.status, self.health = ports
-        self.desk = f"unix:{folder}/{name}.sock"
+        self.desk, self.journal = f"unix:{folder}/{name}.sock", f"{folder}/{name}.journal"
         self.server = self.follower = None
 
     def said(self):
@@ -62,15 +65,30 @@ class Member:
             raise Unable(f"{os.path.basename(words[0])} did not begin: {first!r} {self.said()[-400:]}")
         return process
 
-    def start_server(self, map_path=None, workers=1):
-        """Starts the server, with the lines of a file or empty, and waits until it is ready."""
-        words = [self.program, "serve", "--name", "lost.example", "--workers", str(workers), "--per-address", "0", "--quiet"]
+    def empty(self):
+        """Takes the server's journal away: it starts empty."""
+        if os.path.exists(self.journal):
+            os.remove(self.journal)
+
+    def kept(self):
+        """The edition and the digest with which the server's journal ends."""
+        with open(self.journal, "rb") as file:
+            return [EMPTY, *(kept.standing for kept in commits_in(file))][-1]
+
+    def take(self, journal):
+        """Puts another journal in the place of the server's."""
+        shutil.copyfile(journal, self.journal)
+
+    def start_server(self, *more):
+        """Starts the server with its journal, or a new one, and waits until it is ready."""
+        words = [self.program, "serve", "--name", "lost.example", "--workers", "1", "--per-address", "0", "--quiet", "--journal", self.journal]
         words += ["--queries", f"{self.host}:{self.queries}", "--desk", self.desk, "--status", f"{self.host}:{self.status}"]
-        self.server = self.begin([*words, *(["--map", map_path] if map_path else [])], b"ready\n")
+        self.server = self.begin([*words, *more], b"ready\n")
 
     def start_follower(self, log, *more):
         """Starts the follower, and waits until it is ready."""
         words = [FEED, "follow", "--log", log, "--desk", self.desk, "--status", f"{self.host}:{self.status}", "--name", self.name]
+        words += ["--journal", self.journal]
         self.follower = self.begin([*words, "--listen", f"{self.host}:{self.health}", *more], b"ready ")
 
     def kill(self, *which):

@@ -1,4 +1,5 @@
-"""Figures: how fast commits reach followers, and how many questions four servers answer beside one."""
+"""Figures: how fast commits reach followers, how soon a new server has the log, and how many questions four servers answer beside one."""
+import os
 import socket
 import statistics
 import subprocess
@@ -8,7 +9,7 @@ from concurrent.futures import ThreadPoolExecutor
 from typing import NamedTuple
 
 from database import Unable
-from fleet import DATABASE, FEED, FOLLOWER, PUBLISHER, Balancer, Log, members_of
+from fleet import DATABASE, FEED, FOLLOWER, PUBLISHER, Balancer, Log, http_get, members_of
 from history import History, questions
 from measuring import compiled
 from processes import TOP
@@ -16,10 +17,12 @@ from publisher import COMMIT
 from sides import write_pairs
 
 FOLLOWERS, COMMITS, SINGLES = (3, 20), 1_000, 20
+# How many commits a new server lacks, and how often a flush is tried.
+LACKS, FLUSHES = 10_000, 200
 # Connections, lines at a time on each, threads and seconds of the load; servers beside one; and how often each is asked.
 LOAD, SERVERS, ROUNDS = ["64", "16", "2", "4"], 4, 3
 EDITS = 40
-PATIENCE = 120.0
+PATIENCE = 240.0
 
 
 class Figures(NamedTuple):
@@ -97,6 +100,55 @@ def measure_commits(program, folder, count):
         log.remove()
 
 
+def flush_time():
+    """Seconds that a flush of a short line takes, as half of many do: a commit takes a journal two of them."""
+    times = []
+    with tempfile.NamedTemporaryFile(prefix="check-replicas-") as file:
+        for _ in range(FLUSHES):
+            os.write(file.fileno(), COMMIT)
+            begun = time.monotonic()
+            os.fdatasync(file.fileno())
+            times.append(time.monotonic() - begun)
+    return statistics.median(times)
+
+
+def publish_many(log, program, folder):
+    """Publishes the commits that a new server lacks, in one go."""
+    history, path = History(1), f"{folder}/commits.jsonl"
+    with open(path, "wb") as file:
+        file.write(b"".join(commit_lines(history) for _ in range(LACKS)))
+    subprocess.run([FEED, "publish", "--log", log.url(PUBLISHER), "--lostd", program, path], check=True, stdout=subprocess.DEVNULL)
+
+
+def started(member, log, begun):
+    """Starts a server and its follower, and waits until it is in rotation; the seconds since it was begun."""
+    member.start_server()
+    member.start_follower(log.url(FOLLOWER))
+    end = begun + PATIENCE
+    while http_get(member.host, member.health, "/health")[0] != 200:
+        if time.monotonic() > end:
+            raise Unable(f"{member.name} did not begin in {PATIENCE:g} seconds")
+        time.sleep(0.02)
+    return time.monotonic() - begun
+
+
+def measure_starts(program, folder):
+    """Seconds until a new server has the log, which begins with a snapshot, and which begins empty."""
+    log, members = Log(), members_of(program, folder, 2)
+    try:
+        log.make()
+        publish_many(log, program, folder)
+        begun = time.monotonic()
+        with open(members[0].journal, "wb") as file:
+            words = [FEED, "snapshot", "--log", log.url(FOLLOWER)]
+            subprocess.run(words, check=True, stdout=file, stderr=subprocess.DEVNULL, timeout=PATIENCE)
+        return started(members[0], log, begun), started(members[1], log, time.monotonic())
+    finally:
+        for one in members:
+            one.kill()
+        log.remove()
+
+
 def map_file(folder):
     """The path of a file with a map."""
     history, path = History(1), f"{folder}/map.jsonl"
@@ -127,7 +179,7 @@ def measure_questions(program, folder):
     balancers, pairs = [], f"{folder}/pairs"
     try:
         for one in members:
-            one.start_server(path)
+            one.start_server("--map", path)
             one.health = one.status
         write_pairs(list(zip((line + b"\n" for line in questions()), replies_of(members[0], questions()))), pairs)
         for count in (1, SERVERS):
@@ -144,12 +196,16 @@ def measure_questions(program, folder):
 
 def measure(program):
     """Prints the figures; nothing is wrong with any."""
+    print(f"a flush takes {1000 * flush_time():.2f} ms", flush=True)
     for count in FOLLOWERS:
         with tempfile.TemporaryDirectory(prefix="check-replicas-") as folder:
             found = measure_commits(program, folder, count)
         print(f"{count} followers: half of {SINGLES} commits are everywhere within {1000 * found.wait:.0f} ms; {COMMITS:,} commits one after "
               f"another: {found.published:.0f} a second are published, {found.arrived:.0f} a second are everywhere; a commit of "
               f"{found.size} bytes sends {found.sent:.0f} bytes to a standby", flush=True)
+    with tempfile.TemporaryDirectory(prefix="check-replicas-") as folder:
+        whole, empty = measure_starts(program, folder)
+    print(f"a new server has {LACKS:,} commits after {whole:.1f} s from a snapshot, and after {empty:.1f} s line by line", flush=True)
     with tempfile.TemporaryDirectory(prefix="check-replicas-") as folder:
         one, four = measure_questions(program, folder)
     connections, depth = LOAD[:2]

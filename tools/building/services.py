@@ -43,7 +43,11 @@ SERVER = Service("lostd.service", ["lostd", "serve"], {
 GATEWAY = Service("lost-gateway.service", ["lost-gateway"], {"--listen": "127.0.0.1:8080", "--lostd": "127.0.0.1:5222"}, {
     "--log": "/var/log/lost-gateway/queries.jsonl",
 }, ["--check"])  # fmt: skip
-SERVICES = (SERVER, GATEWAY)
+FOLLOWER = Service("lost-feed.service", ["lost-feed", "follow"], {
+    "--log": "postgresql://site@log.example/lost", "--desk": "unix:/run/lostd/desk.sock", "--status": "127.0.0.1:5224", "--listen": ":5226",
+    "--journal": "/var/lib/lostd/journal.jsonl",
+}, {}, [])  # fmt: skip
+SERVICES = (SERVER, GATEWAY, FOLLOWER)
 
 
 def option_lines(service: Service, option: Option) -> Iterator[str]:

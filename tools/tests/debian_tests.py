@@ -82,7 +82,7 @@ class Debian(unittest.TestCase):
         rows = self.rows(self.text("DEBIAN/control"))
         self.assertEqual((rows["Package"], rows["Version"], rows["Architecture"]), ("lostd", number_of(TOP), "amd64"))
         self.assertIn("python3-aiohttp", rows["Recommends"])
-        self.assertEqual(self.text("DEBIAN/conffiles"), "/etc/lostd/lost-gateway.conf\n/etc/lostd/lostd.conf\n")
+        self.assertEqual(self.text("DEBIAN/conffiles"), "/etc/lostd/lost-feed.conf\n/etc/lostd/lost-gateway.conf\n/etc/lostd/lostd.conf\n")
         status, said = run("sh", "-c", f"cd '{self.root}' && md5sum --quiet -c DEBIAN/md5sums")
         self.assertEqual((status, said), (0, ""))
         for script in ("postinst", "prerm", "postrm"):

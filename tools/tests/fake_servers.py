@@ -74,7 +74,8 @@ class DeskServer:
 
     `heard` has the lines of each connection. A line that `interrupt` names ends the connection without a reply. Over HTTP it tells
     its map, and how often; if `lies` says something, that is the digest. What `meanwhile` has becomes its book once it has told it.
-    `before_lines` is done once, before the next desk's first line.
+    `before_lines` is done once, before the next desk's first line. `refuses` has a code for each kind of line
+    that it refuses whatever it says.
     """
 
     def __init__(self, path: str) -> None:
@@ -82,6 +83,7 @@ class DeskServer:
         self.book, self.edition = empty_book(), 0
         self.heard: List[List[bytes]] = []
         self.interrupt, self.lies, self.told = b"", "", 0
+        self.refuses: Dict[str, int] = {}
         self.meanwhile: Optional[Book] = None
         self.before_lines: Callable[[], None] = lambda: None
         threading.Thread(target=self.run, daemon=True).start()
@@ -111,7 +113,7 @@ class DeskServer:
             if self.interrupt and self.interrupt in line:
                 return
             kind, value = read_line(line) or ("", None)
-            code = code_of(staged, kind, value)
+            code = self.refuses.get(kind) or code_of(staged, kind, value)
             if kind == "commit" and not code:
                 self.book, self.edition, pending = copy_of(staged), self.edition + pending, 0
             elif not code:

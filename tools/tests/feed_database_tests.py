@@ -6,14 +6,15 @@ import os
 import re
 import signal
 import subprocess
+import unittest
 import urllib.error
 import urllib.request
 from typing import Any, List, Tuple
 
 from tests.fake_servers import free_address
 from tests.feed_database import COMMIT, PATIENCE, WithDatabase, await_that
-from tests.feed_fakes import A, B, C, D, digest, line
-from tests.running import TOP, lostd, run_tool, start_tool
+from tests.feed_fakes import A, B, C, D, E, digest, line
+from tests.running import TOP, lostd, run_tool, serve_has, start_tool
 from tests.server import Server, ask, unix
 
 from database import Database, Unable  # (its folder is on the path since feed_database was read)
@@ -66,11 +67,26 @@ class Feeds(WithDatabase):
         self.assertRegex(said, "^lost-feed: standard input, line 3: refused with code 13, IdentityHeld.*\nlost-feed: nothing was published\n$")
         status, output, said = self.feed("snapshot")
         lines = [json.loads(one) for one in output.splitlines()]
-        self.assertEqual([next(iter(one)) for one in lines], ["publish", "publish", "commit", "publish", "commit"])
-        self.assertEqual((lines[4]["commit"]["edition"], lines[4]["commit"]["map"]), (3, digest(A, B, C)))
+        self.assertEqual([next(iter(one)) for one in lines], ["commit", "publish", "publish", "commit", "publish", "commit"])
+        self.assertEqual((lines[5]["commit"]["edition"], lines[5]["commit"]["map"]), (3, digest(A, B, C)))
         self.assertEqual(said, f"lost-feed: edition 3, map {digest(A, B, C)}\n")
-        for until, wanted in (("2", 3), ("1", 0), ("3", 5)):
+        for until, wanted in (("2", 4), ("1", 1), ("3", 6)):
             self.assertEqual(len(self.feed("snapshot", "--until", until)[1].splitlines()), wanted)
+
+    @unittest.skipUnless(serve_has("--journal"), "no program with --journal is built")
+    def test_a_snapshot_is_a_journal(self) -> None:
+        self.publish(line("publish", A), line("publish", B), COMMIT, line("publish", C), COMMIT)
+        times = self.database.sql(self.name, """SELECT to_char(published AT TIME ZONE 'UTC', 'YYYY-MM-DD"T"HH24:MI:SS"Z"') FROM feed.commits ORDER BY 1""")
+        for until, wanted in ((("--until", "2"), (4, 2, [A, B])), ((), (6, 3, [A, B, C]))):
+            path = self.written(*until)
+            checked = subprocess.run([str(lostd()), "check", "--journal", path], capture_output=True, text=True, timeout=PATIENCE)
+            lines, edition, held = wanted
+            done = f"done lines={lines} edition={edition} mappings={len(held)} map={digest(*held)} dropped=0\n"
+            self.assertEqual((checked.returncode, checked.stdout, checked.stderr), (0, done, ""))
+        with open(path, encoding="utf-8") as file:
+            commits = [one["commit"] for one in map(json.loads, file) if "commit" in one]
+        self.assertEqual([(one["edition"], one["map"]) for one in commits[1:]], [(2, digest(A, B)), (3, digest(A, B, C))])
+        self.assertEqual("\n".join(one["time"] for one in commits[1:]), times)
 
     def test_the_reverse_of_a_mistaken_edit(self) -> None:
         self.publish(line("publish", A), line("publish", B), COMMIT)
@@ -95,10 +111,10 @@ class Feeds(WithDatabase):
         server.__exit__()
         return [one["publish"] for one in map(json.loads, run_tool("geojson-to-desk", ["-", "--from-desk"], lines)[1].splitlines())]
 
-    def written(self) -> str:
-        """The path of a file with the log."""
-        with open(f"{self.folder}/log.jsonl", "w", encoding="utf-8") as file:
-            file.write(self.feed("snapshot")[1])
+    def written(self, *words: str) -> str:
+        """The path of a journal with the log."""
+        with open(f"{self.folder}/journal.jsonl", "w", encoding="utf-8", newline="") as file:
+            file.write(self.feed("snapshot", *words)[1])
         return file.name
 
     def test_two_publishers_from_one_edition(self) -> None:
@@ -181,15 +197,46 @@ class Feeds(WithDatabase):
         self.await_edition(address, 3, A, B, C)
         server.__exit__()
         self.assertEqual(page(address, "/health")[0], 503)
-        again = Server(["--queries", free_address(), *words])
-        self.addCleanup(again.__exit__)
-        self.assertEqual(again.first_line(), b"ready\n")
+        self.again(words)
         self.await_edition(address, 3, A, B, C)
         status, output, _ = self.feed("status")
         self.assertEqual(status, 0)
         self.assertRegex(output, rf"^log: edition 3, map {digest(A, B, C)}\nfollower .*\na +[0-9]")
         follower.terminate()
         self.assertEqual(follower.wait(PATIENCE), 0)
+
+    @unittest.skipUnless(serve_has("--journal"), "no program with --journal is built")
+    def test_a_server_with_a_journal(self) -> None:
+        self.publish(line("publish", A), COMMIT, line("publish", B), COMMIT)
+        journal = ["--journal", self.written()]
+        server, words = self.server(*journal)
+        follower, address = self.follower(words)
+        self.await_edition(address, 2, A, B)
+        self.publish(line("publish", C), COMMIT)
+        self.await_edition(address, 3, A, B, C)
+        self.assertIn("\nlostd_feed_commits_total 1\n", page(address, "/metrics")[1])
+        server.__exit__()
+        self.publish(line("publish", D), COMMIT)
+        server = self.again(words, *journal)
+        self.await_edition(address, 4, A, B, C, D)
+        self.assertIn("\nlostd_feed_commits_total 2\n", page(address, "/metrics")[1])
+        follower.terminate()
+        follower.wait(PATIENCE)
+        given = f"{line('publish', E)}\n{COMMIT}\n"
+        self.assertEqual(run_tool("lost-client", ["desk", "--server", words[1], "-"], given)[0], 0)
+        server.__exit__()
+        self.again(words, *journal)
+        for more, where in (([], "at edition 5, if not before"), (journal, "from edition 5 on")):
+            follower, address = self.follower([*words, *more])
+            self.assertEqual(follower.wait(PATIENCE), 3)
+            self.assertRegex(follower.stderr.read().decode(), rf"^lost-feed: unix:.*/desk.sock differs from the log {where}: .*: start this server again, .*\n$")
+
+    def again(self, words: List[str], *more: str) -> Server:
+        """A server that is started again."""
+        server = Server(["--queries", free_address(), *words, *more])
+        self.addCleanup(server.__exit__)
+        self.assertEqual(server.first_line(), b"ready\n")
+        return server
 
     def test_a_server_that_starts_from_a_snapshot_and_one_that_differs(self) -> None:
         self.publish(line("publish", A), COMMIT, line("publish", B), COMMIT)
@@ -218,6 +265,20 @@ class Feeds(WithDatabase):
             await_that(lambda: page(address, "/health")[0] == 503, "it is not behind")
             self.assertRegex(page(address, "/health")[1], "^the server is [0-9]+ seconds behind the log\n$")
         self.await_edition(address, 2, A, B)
+
+    def test_a_follower_waits_for_no_standby(self) -> None:
+        self.publish(line("publish", A), COMMIT)
+        self.set_waiting("nobody")
+        self.addCleanup(self.set_waiting, "")
+        _, words = self.server()
+        _, address = self.follower(words)
+        self.await_edition(address, 1, A)
+        await_that(lambda: "\na " in self.feed("status")[1], "the follower does not report")
+
+    def set_waiting(self, names: str) -> None:
+        """Has each commit wait for these standbys."""
+        self.database.sql("postgres", f"ALTER SYSTEM SET synchronous_standby_names = '{names}'")
+        self.database.sql("postgres", "SELECT pg_reload_conf()")
 
     def test_a_follower_at_a_standby(self) -> None:
         self.publish(line("publish", A), COMMIT)

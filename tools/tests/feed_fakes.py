@@ -8,6 +8,7 @@ import unittest
 from typing import Any, Dict, Iterator, List, Optional, Tuple
 
 from maptools.addresses import server_of
+from maptools.desk_rules import empty_book
 from maptools.digest import map_digest, mapping_digest
 from maptools.feeding.following import Follower
 from maptools.feeding.log import Commit, Taken
@@ -45,7 +46,11 @@ class MemoryLog:
 
     def map_at(self, edition: int) -> str:
         """The digest at an edition."""
-        return {EMPTY.edition: EMPTY.map, **{one.edition: one.map for one in self.commits}}.get(edition, "")
+        return self.maps().get(edition, "")
+
+    def maps(self) -> Dict[int, str]:
+        """The digest at each edition."""
+        return {EMPTY.edition: EMPTY.map, **{one.edition: one.map for one in self.commits}}
 
     def after(self, edition: int) -> List[Commit]:
         """The next commits."""
@@ -93,7 +98,7 @@ class Feeding(unittest.TestCase):
     def setUp(self) -> None:
         folder = tempfile.TemporaryDirectory()
         self.addCleanup(folder.cleanup)
-        self.folder = folder.name
+        self.folder, self.journal = folder.name, None  # type: str, Optional[str]
         self.server = DeskServer(f"{self.folder}/desk.sock")
         self.addCleanup(self.server.close)
         self.pages = Pages(self.server)
@@ -104,10 +109,15 @@ class Feeding(unittest.TestCase):
     def follower(self, log: Optional[MemoryLog] = None) -> Follower:
         """A follower of the server, which has looked at it if there is a log."""
         words = {"desk": server_of(self.server.address), "status": server_of(self.status.address), "name": "a"}
-        follower = Follower(argparse.Namespace(log="", most_behind=10.0, most_apart=None, **words))
+        follower = Follower(argparse.Namespace(log="", most_behind=10.0, most_apart=None, journal=self.journal, **words))
         if log is not None:
             follower.look(log)
         return follower
+
+    def empty(self) -> None:
+        """Starts the server again, empty."""
+        self.server.book = empty_book()
+        self.server.edition = 0
 
     def edit(self, *mappings: Dict[str, Any]) -> None:
         """Edits the server behind the log's back."""

@@ -3,22 +3,25 @@ from __future__ import annotations
 
 import contextlib
 import io
-import json
 import os
+import subprocess
 import tempfile
 import unittest
 from typing import Any, List, Optional
 
+from maptools.addresses import server_of
 from maptools.connection import Broken
+from maptools.feeding.journals import BEGINNING, OPEN, commits_in
 from maptools.feeding.judge import Judge
 from maptools.feeding.log import Commit
 from maptools.feeding.publishing import Judging, Publisher, Stopped, groups_of, is_commit, publish_all, publish_each
-from maptools.feeding.snapshots import FILE, refresh, snapshot_in, write_commits
-from maptools.feeding.standing import EMPTY, Standing
-from tests.feed_fakes import A, B, C, MemoryLog, commits_of, digest, line
+from maptools.feeding.snapshots import FILE, refresh, snapshot_in, write_journal
+from maptools.feeding.standing import EMPTY, Standing, standing_of
+from tests import journal_tests
+from tests.feed_fakes import A, B, C, D, MemoryLog, commits_of, digest, line
 from tests.fake_servers import free_address
-from tests.running import has_serve, lostd, replay, run_tool
-from tests.server import has_maps
+from tests.running import has_serve, lostd, replay, run_tool, serve_has
+from tests.server import READY, Server, has_maps
 
 COMMIT = '{"commit":{}}'
 
@@ -160,43 +163,92 @@ class Publishing(unittest.TestCase):
         self.assertRaisesRegex(Broken, "did not begin: it says nothing", Judge, "/bin/true", "map")
 
 
-class Snapshots(unittest.TestCase):
-    """The log as desk lines."""
+def journal_bytes(commits: List[Commit], until: Optional[int] = None) -> bytes:
+    """The journal of a log with these commits."""
+    file = io.BytesIO()
+    write_journal(MemoryLog(commits), file, until)
+    return file.getvalue()
 
-    def test_it_has_the_lines_editions_and_digests_of_the_log(self) -> None:
-        log, file = MemoryLog([one._replace(published="2026-01-01T00:00:00Z") for one in commits_of(A, B)]), io.BytesIO()
-        self.assertEqual(write_commits(log, 0, file), Standing(2, digest(A, B)))
-        lines = file.getvalue().decode().splitlines()
-        self.assertEqual([json.loads(one) for one in lines[::2]], [{"publish": A}, {"publish": B}])
-        self.assertEqual(lines[3], f'{{"commit":{{"edition":2,"map":"{digest(A, B)}","time":"2026-01-01T00:00:00Z"}}}}')
+
+class Snapshots(unittest.TestCase):
+    """The log as a journal."""
+
+    def setUp(self) -> None:
+        folder = tempfile.TemporaryDirectory()
+        self.addCleanup(folder.cleanup)
+        self.folder = folder.name
+
+    def state(self) -> bytes:
+        """What is kept between calls."""
+        with open(f"{self.folder}/state/{FILE}", "rb") as file:
+            return file.read()
+
+    def test_it_is_what_a_server_would_have_written(self) -> None:
+        edits = [journal_tests.ONE, journal_tests.TWO, journal_tests.THREE]
+        rows, edition = [], 0
+        for group in ([edits[0]], [], [edits[1], edits[2]]):
+            edition += len(group)
+            if group:
+                row = Commit(edition - len(group), edition, "".join(group).rstrip("\n"), journal_tests.digest_of(edits[:edition]), "", journal_tests.TIME)
+                rows.append(row)
+        begun = journal_tests.commit_line([], [], BEGINNING)
+        for until, commits in ((None, ([edits[0]], edits[1:])), (2, ([edits[0]],)), (0, ())):
+            wanted = journal_tests.journal_of(*commits).replace(journal_tests.commit_line([], []), begun)
+            self.assertEqual(journal_bytes(rows, until), wanted)
+
+    def test_its_commits_are_read_again(self) -> None:
+        commits = commits_of(A, B, C)
+        wanted = [(one.desk_lines(), one.standing()) for one in commits]
+        self.assertEqual(list(commits_in(io.BytesIO(journal_bytes(commits)))), wanted)
+        behind = f"{line('publish', C)}\n".encode()
+        self.assertEqual(list(commits_in(io.BytesIO(journal_bytes(commits[:2]) + behind))), wanted[:2])
+        with self.assertRaisesRegex(ValueError, "says no edition and no map"):
+            list(commits_in(file_of(line("publish", A), COMMIT)))
 
     @unittest.skipUnless(lostd(), "no program is built")
-    def test_a_server_reads_it(self) -> None:
-        file = io.BytesIO()
-        write_commits(MemoryLog(commits_of(A, B, C)), 0, file)
-        self.assertEqual(replay(file.getvalue().decode())[-1], {"committed": {"edition": 3}})
+    def test_it_is_a_file_of_desk_lines(self) -> None:
+        self.assertEqual(replay(journal_bytes(commits_of(A, B, C)).decode())[-1], {"committed": {"edition": 3}})
+
+    @unittest.skipUnless(serve_has("--journal"), "no program with --journal is built")
+    def test_a_server_takes_it_for_its_journal(self) -> None:
+        path, whole = f"{self.folder}/lost.journal", journal_bytes(commits_of(A, B, C))
+        for journal, wanted, said in ((whole, 0, ""), (whole[:-2], 3, "the journal ends before its last commit"), (journal_bytes([]), 0, "")):
+            with open(path, "wb") as file:
+                file.write(journal)
+            ran = subprocess.run([str(lostd()), "check", "--journal", path], capture_output=True, text=True, timeout=60)
+            self.assertEqual(ran.returncode, wanted, ran.stderr)
+            self.assertIn(said, ran.stderr)
+        with open(path, "wb") as file:
+            file.write(whole)
+        ran = subprocess.run([str(lostd()), "check", "--journal", path], capture_output=True, text=True, timeout=60)
+        self.assertEqual(ran.stdout, f"done lines=7 edition=3 mappings=3 map={digest(A, B, C)} dropped=0\n")
+        with Server(["--queries", f"unix:{self.folder}/queries", "--journal", path, "--status", f"unix:{self.folder}/status"]) as server:
+            self.assertEqual(server.first_line(), READY)
+            self.assertEqual(standing_of(server_of(f"unix:{self.folder}/status"), 5), Standing(3, digest(A, B, C)))
 
     def test_what_is_kept_grows_with_the_log(self) -> None:
-        with tempfile.TemporaryDirectory() as folder:
-            path = f"{folder}/state/{FILE}"
-            for commits in (commits_of(A), commits_of(A, B, C), [], commits_of(B), commits_of(A, C)):
-                log, fresh = MemoryLog(commits), io.BytesIO()
-                write_commits(log, 0, fresh)
-                for _ in range(2):
-                    with snapshot_in(log, f"{folder}/state") as kept:
-                        self.assertEqual(kept, path)
-                    with open(path, "rb") as file:
-                        self.assertEqual(file.read(), fresh.getvalue())
-            with open(path, "ab") as file:
-                file.write(b'{"publish":')
-            with open(path, "a+b") as file:
-                self.assertEqual(refresh(log, file), log.last())
-            with open(path, "rb") as file:
-                self.assertEqual(file.read(), fresh.getvalue())
+        for commits in (commits_of(A), commits_of(A, B, C), [], commits_of(B), commits_of(A, C), commits_of(A, C, D)):
+            log = MemoryLog(commits)
+            for _ in range(2):
+                with snapshot_in(log, f"{self.folder}/state") as kept:
+                    self.assertEqual(kept, f"{self.folder}/state/{FILE}")
+                self.assertEqual(self.state(), journal_bytes(commits))
+
+    def test_what_is_kept_and_broken_off_is_written_anew(self) -> None:
+        log = MemoryLog(commits_of(A, B))
+        whole = journal_bytes(log.commits)
+        for broken in (whole[:-2], whole[:-1], whole + b'{"publish":', whole[:-2] + OPEN, b"\n", b"{}", f"{line('publish', A)}\n{COMMIT}\n".encode()):
+            with self.subTest(broken=broken[-20:]):
+                os.makedirs(f"{self.folder}/state", exist_ok=True)
+                with open(f"{self.folder}/state/{FILE}", "wb") as file:
+                    file.write(broken)
+                with open(f"{self.folder}/state/{FILE}", "a+b") as file:
+                    self.assertEqual(refresh(log, file), log.last())
+                self.assertEqual(self.state(), whole)
 
     def test_without_a_folder_nothing_is_kept(self) -> None:
-        with snapshot_in(MemoryLog([]), None) as path:
-            self.assertEqual(os.path.getsize(path), 0)
+        with snapshot_in(MemoryLog([]), None) as path, open(path, "rb") as file:
+            self.assertEqual(file.read(), journal_bytes([]))
         self.assertFalse(os.path.exists(path))
         self.assertEqual(EMPTY, Standing(0, "0" * 32))
 

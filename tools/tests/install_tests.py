@@ -16,12 +16,12 @@ from tests.running import CASES, TOP, read
 NO_PROGRAM = "install: there is no program of these sources yet: `./install --from-source` proves and builds it, which takes up to half an hour\n"
 
 
-TOOLS = ("desk-to-geojson", "lost-client", "lost-gateway")
+TOOLS = ("desk-to-geojson", "lost-client", "lost-feed", "lost-gateway")
 ENDINGS = ("share/bash-completion/completions/{}", "share/fish/vendor_completions.d/{}.fish", "share/man/man1/{}.1", "share/zsh/site-functions/_{}")
 
 
 class Install(Checkout):
-    """A checkout with three of the tools, whose package is a stand-in for the program."""
+    """A checkout with four of the tools, whose package is a stand-in for the program."""
 
     def setUp(self) -> None:
         super().setUp()
@@ -89,16 +89,18 @@ class Install(Checkout):
         status, said = self.install("--units", "/opt/lostd")
         self.assertEqual(status, 0, said)
         self.assertIn("systemd-sysusers && systemctl daemon-reload", said)
-        units = [f"opt/lostd/lib/systemd/system/{name}.service" for name in ("lost-gateway", "lostd")]
+        units = [f"opt/lostd/lib/systemd/system/{name}.service" for name in ("lost-feed", "lost-gateway", "lostd")]
         found = self.files(self.destination)
         for path in (*units, "opt/lostd/lib/sysusers.d/lostd.conf", "opt/lostd/lib/lostd/check-map", "opt/lostd/lib/lostd/with-options"):
             self.assertIn(path, found)
         self.assertNotRegex("".join(self.text(path) for path in units), "@[A-Z]+@")
-        self.assertIn("\nExecStart=/opt/lostd/lib/lostd/with-options /etc/lostd/lostd.conf /opt/lostd/bin/lostd serve\n", self.text(units[1]))
+        self.assertIn("\nExecStart=/opt/lostd/lib/lostd/with-options /etc/lostd/lostd.conf /opt/lostd/bin/lostd serve\n", self.text(units[2]))
+        self.assertIn("\nExecStart=/opt/lostd/lib/lostd/with-options /etc/lostd/lost-feed.conf /opt/lostd/bin/lost-feed follow\n", self.text(units[0]))
         self.assertEqual(self.text("etc/lostd/lostd.conf"), "mine\n")
+        self.assertIn("\n--journal /var/lib/lostd/journal.jsonl\n", self.text("etc/lostd/lost-feed.conf"))
         self.assertIn("\n--listen 127.0.0.1:8080\n", self.text("etc/lostd/lost-gateway.conf"))
         self.assertEqual(self.install("--uninstall", "/opt/lostd")[0], 0)
-        self.assertEqual(self.files(self.destination), ["etc/lostd/lost-gateway.conf", "etc/lostd/lostd.conf"])
+        self.assertEqual(self.files(self.destination), ["etc/lostd/lost-feed.conf", "etc/lostd/lost-gateway.conf", "etc/lostd/lostd.conf"])
 
     def text(self, path: str) -> str:
         """The text of a file below DESTDIR."""

@@ -12,6 +12,7 @@ from typing import List, Optional
 from maptools.connection import Broken, connect
 from maptools.feeding.database import first_line, need_driver, psycopg2
 from maptools.feeding.health import listen
+from maptools.feeding.differing import first_difference
 from maptools.feeding.level import Level
 from maptools.feeding.log import MOST_ROWS, Commit, Log
 from maptools.feeding.publishing import COMMIT_LINE, Stopped
@@ -25,8 +26,9 @@ LOOK, LOOK_AT_STANDBY, POLL = 0.5, 0.1, 2.0
 SOON, REPORT, REPLY, AGAIN = 1.0, 5.0, 30.0, 0.5
 # More commits at once are sent in one go, to a server that is out of rotation meanwhile.
 FEW = 16
-MEMORY = 20
-REMEDY = "start this server again, empty or from `lost-feed snapshot`, and then its follower"
+# What a server refuses for want of memory or of room on its disk, and takes once it has that.
+LACKS = (20, 23)
+REMEDY = "start this server again, empty or with the journal of `lost-feed snapshot`, and then its follower"
 
 
 class Surprise(Exception):
@@ -49,7 +51,7 @@ def need_committed(commit: Commit, reply: Reply) -> None:
     """Surprise where a commit makes another edition than in the log."""
     name, value = reply
     if name != "committed":
-        raise Surprise(f"the commit that makes edition {commit.edition} is {refused_text(name, value)}")
+        raise Surprise(f"the commit that makes edition {commit.edition} is {refused_text(name, value)}", value.get("code", 0))
     if value.get("edition") != commit.edition:
         raise Surprise(f"the commit that makes edition {commit.edition} made edition {value.get('edition')}")
 
@@ -109,11 +111,24 @@ class Follower:
         held, position = log.map_at(standing.edition), self.level.position
         # (what it acknowledged may be where it differs, if its edition is the log's and its digest is not)
         agreed = [edition for edition in (self.acknowledged, position.edition if position else -1) if edition < standing.edition]
-        has_agreed = position is not None and bool(agreed)
-        first = max(agreed) + 1 if has_agreed else min(standing.edition, log.last().edition + 1)
-        where = f"from edition {first} on" if has_agreed else f"at edition {first}, if not before"
+        first = self.first_in_journal(log) or (max(agreed) + 1 if position is not None and agreed else 0)
+        last = min(standing.edition, log.last().edition + 1)
+        where = f"from edition {first} on" if first else f"at edition {last}, if not before"
         other = f"edition {standing.edition} with map {held}" if held else f"no commit that makes edition {standing.edition}"
         return f"differs from the log {where}: it holds {standing.text()}, and the log has {other}: {REMEDY}"
+
+    def first_in_journal(self, log: Log) -> int:
+        """The first edition of the server's journal that the log does not have; 0 where there is no journal that says so."""
+        path = self.options.journal
+        try:
+            if path:
+                with open(path, "rb") as file:
+                    return first_difference(file, log)
+        except OSError as error:
+            self.say(f"--journal {path}: {error.strerror}")
+        except ValueError as error:
+            self.say(f"--journal {path}: {error}")
+        return 0
 
     def send(self, log: Log, commits: List[Commit]) -> None:
         """Sends commits, and looks where the server stands then."""
@@ -134,7 +149,7 @@ class Follower:
             self.look(log)
             if self.level.position != before:
                 return
-            if surprise.code == MEMORY and not is_many:
+            if surprise.code in LACKS:
                 raise Broken(str(surprise)) from None
             raise Stopped(f"differs from the log: {surprise}: {REMEDY}") from None
         self.look(log)

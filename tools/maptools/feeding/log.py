@@ -3,7 +3,7 @@ from __future__ import annotations
 
 import contextlib
 import select
-from typing import Any, Iterator, List, NamedTuple, Optional
+from typing import Any, Dict, Iterator, List, NamedTuple, Optional
 
 from maptools.connection import Broken
 from maptools.feeding import database
@@ -111,6 +111,10 @@ class Log:
         found = [(EMPTY.map,)] if edition == 0 else self.rows("SELECT map FROM feed.commits WHERE edition = %s", edition)
         return found[0][0] if found else ""
 
+    def maps(self) -> Dict[int, str]:
+        """The digest of the map at each edition that a commit makes, and at 0."""
+        return {EMPTY.edition: EMPTY.map, **dict(self.rows("SELECT edition, map FROM feed.commits"))}
+
     def after(self, edition: int) -> List[Commit]:
         """The next commits after an edition; none where there are none yet."""
         return [Commit(*row) for row in self.rows(AFTER, edition)]
@@ -148,7 +152,8 @@ class Log:
         return self.rows("SELECT pg_is_in_recovery()")[0][0]
 
     def listen(self) -> None:
-        """From now on tells of new commits."""
+        """From now on tells of new commits. What is reported waits for no disk and no standby."""
+        self.rows("SET synchronous_commit = off")
         self.rows(f"LISTEN {CHANNEL}")
 
     def wait(self, seconds: float) -> bool:

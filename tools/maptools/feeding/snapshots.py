@@ -1,57 +1,62 @@
-"""The log as a file of desk lines: each edit as it was published, and a commit line for each row."""
+"""The log as a server's journal: each edit as it was published, and a commit for each row."""
 from __future__ import annotations
 
 import contextlib
 import fcntl
-import json
 import os
 import tempfile
 from typing import BinaryIO, Iterator, Optional
 
-from maptools.feeding.log import Commit, Log
+from maptools.feeding import journals
+from maptools.feeding.journals import CLOSED, Kept
+from maptools.feeding.log import Log
 from maptools.feeding.standing import EMPTY, Standing
-from maptools.lines import line_of
 
 FILE = "log.jsonl"
-# A commit line is shorter than this.
+# The line of a commit is shorter than this.
 TAIL = 512
 
 
-def commit_line(commit: Commit) -> bytes:
-    """The commit line of a row; servers ignore its members."""
-    return line_of({"commit": {"edition": commit.edition, "map": commit.map, "time": commit.published}}).encode()
-
-
-def write_commits(log: Log, edition: int, file: BinaryIO, until: Optional[int] = None) -> Standing:
-    """Writes the commits after an edition, perhaps only those up to another; where a server stands that reads the file."""
-    standing = Standing(edition, log.map_at(edition))
-    for commit in log.all_after(edition):
+def add_commits(log: Log, standing: Standing, file: BinaryIO, until: Optional[int] = None) -> Standing:
+    """Adds to a journal, up to its last gate, the commits after where it ends, perhaps only those up to an edition; where it ends then."""
+    for commit in log.all_after(standing.edition):
         if until is not None and commit.edition > until:
             break
-        file.write(b"".join(line + b"\n" for line in (*commit.desk_lines(), commit_line(commit))))
+        journals.add(file, Kept(commit.desk_lines(), commit.standing()), commit.published)
         standing = commit.standing()
+    journals.end(file)
     return standing
 
 
-def end_of(file: BinaryIO) -> Standing:
-    """Where a server stands that reads a file, by its last line; EMPTY where that is no whole commit line of the log's."""
+def write_journal(log: Log, file: BinaryIO, until: Optional[int] = None) -> Standing:
+    """Writes the log as a journal, perhaps only the commits up to an edition; where a server stands that starts with it."""
+    journals.begin(file)
+    return add_commits(log, EMPTY, file, until)
+
+
+def end_of(file: BinaryIO) -> Optional[Standing]:
+    """Where a journal ends, by its last line; None where that is no whole line of a commit."""
     file.seek(0, os.SEEK_END)
     file.seek(max(0, file.tell() - TAIL))
-    *_, line, rest = [b"", *file.read().split(b"\n")]
+    *_, line = file.read().splitlines(keepends=True) or [b""]
     try:
-        value = json.loads(line)["commit"]
-        return EMPTY if rest else Standing(int(value["edition"]), str(value["map"]))
-    except (ValueError, KeyError, TypeError):
-        return EMPTY
+        return journals.standing_in(line) if line.endswith(CLOSED) else None
+    except ValueError:
+        return None
 
 
 def refresh(log: Log, file: BinaryIO) -> Standing:
-    """Adds to a file what the log has more, or writes it anew where it is no beginning of the log."""
+    """Adds to a journal what the log has more, or writes it anew where it is no beginning of the log."""
     standing = end_of(file)
-    if standing == EMPTY or log.map_at(standing.edition) != standing.map:
+    if standing is None or log.map_at(standing.edition) != standing.map:
         file.truncate(0)
-        standing = EMPTY
-    after = write_commits(log, standing.edition, file)
+        after = write_journal(log, file)
+    elif standing == log.last():
+        return standing
+    else:
+        # (a journal without its last gate is written anew, so it is no harm to end here)
+        file.truncate(file.seek(0, os.SEEK_END) - len(CLOSED))
+        after = add_commits(log, standing, file)
     file.flush()
     return after
 

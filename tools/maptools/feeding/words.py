@@ -17,7 +17,7 @@ EXAMPLES = """examples:
   lost-feed publish --log postgresql://localhost/lost map.jsonl
   lost-feed follow --log postgresql://localhost/lost --desk unix:/run/lostd/desk.sock --status 127.0.0.1:5224 --listen :5226
   lost-feed status --log postgresql://localhost/lost
-  lost-feed snapshot --log postgresql://localhost/lost > log.jsonl
+  lost-feed snapshot --log postgresql://localhost/lost > journal.jsonl
 """
 INIT = f"""Makes the tables of the log in a database of PostgreSQL, and the roles {PUBLISHER} and {FOLLOWER}. Members of
 the first may add commits; members of the second may read them, and write down how far a server is. Nobody may change or
@@ -33,12 +33,14 @@ commit is published as soon as it comes, and a line on standard output says so: 
 """
 FOLLOW = """Feeds one server from the log, as its only desk. It asks the server for its edition and the digest of its map, and goes
 on from there: each row is one commit, after which the digest is compared again. It goes on by itself after a restart of the
-database, of the server or of itself. It prints `ready HOST:PORT` once its own address answers HTTP: GET /health gives 200 while
-the server holds what the log says, and 503 with the cause if it does not answer, differs, has not yet reached the end of the log
-since it started, or is more than --most-behind behind; GET /metrics is for Prometheus. Let the balancer check that address.
+database, of itself, or of the server, which begins with its journal, or empty. It prints `ready HOST:PORT` once its own address
+answers HTTP: GET /health gives 200 while the server holds what the log says, and 503 with the cause if it does not answer, differs,
+has not yet reached the end of the log since it started, or is more than --most-behind behind; GET /metrics is for Prometheus. Let
+the balancer check that address.
 
-If the server differs from the log, standard error says at which edition and what to do, and the status is 3. If the log cannot
-be reached, the server stays as it is, and /health too, unless --most-apart says how long that may last.
+If the server differs from the log, standard error says at which edition and what to do, and the status is 3. Of a server that
+was edited before this follower began, only its journal tells the first edition that differs: name it with --journal. If the log
+cannot be reached, the server stays as it is, and /health too, unless --most-apart says how long that may last.
 
 Exit status: 3 if the server differs from the log, 0 at SIGTERM or an interrupt, 1 if it cannot listen, 2 for the command line.
 """
@@ -46,8 +48,9 @@ STATUS = """Shows the edition of the log, and where each follower was when it la
 
 Exit status: 0 if all is well, 3 if a server differs or a follower was silent for 30 seconds, 1 if the log cannot be read.
 """
-SNAPSHOT = """Writes the log as desk lines: each edit as it was published, and a commit line for each row. A server that starts
-with them (lostd serve --map) has the same edition and the same digest, and a follower goes on from there.
+SNAPSHOT = """Writes the log as a journal: each edit as it was published, and a commit for each row, with its edition, digest and
+time. A server that starts with it (lostd serve --journal) has the same edition and the same digest, and a follower goes on from
+there. `lostd check --journal` checks it. One that was broken off is no journal, and no server starts with it.
 """
 
 
@@ -79,6 +82,7 @@ def add_follow(commands: Any) -> None:
     words.add_argument("--desk", help="the server's desk: unix:PATH, or HOST:PORT", **server)
     words.add_argument("--status", help="the server's status: HOST:PORT, or unix:PATH", **server)
     words.add_argument("--listen", type=address(listen_argument), required=True, metavar="HOST:PORT", help="where to answer /health and /metrics")
+    words.add_argument("--journal", metavar="FILE", help="the server's journal, which is read if the server differs: it tells from which edition on")
     words.add_argument("--name", help="what status calls this follower; without it, the host's name and the desk")
     seconds = {"type": seconds_argument, "metavar": "SECONDS"}
     words.add_argument("--most-behind", default=MOST_BEHIND, help=f"/health fails if the server is more behind; without it, {MOST_BEHIND:g}", **seconds)
@@ -97,7 +101,7 @@ def parser(description: str) -> CommandLine:
     add_follow(commands)
     status = add_command(commands, "status", "show the log, and where each follower is", STATUS)
     status.add_argument("--json", action="store_true", help="print one JSON object")
-    snapshot = add_command(commands, "snapshot", "write the log as desk lines that a server starts with", SNAPSHOT)
+    snapshot = add_command(commands, "snapshot", "write the log as a journal that a server starts with", SNAPSHOT)
     snapshot.add_argument("--until", type=number_argument, metavar="N", help="only the commits up to edition N, as for the map of an earlier day")
     add_version(words)
     return words
