@@ -43,6 +43,9 @@ pub enum LogLine {
 /// How many bytes the text of a day has, as of 2026-12-01.
 const DAY: usize = 10;
 
+/// How many digits a digest has.
+const DIGITS: usize = 16;
+
 /// How many bytes most requests and replies have at most.
 const USUAL: usize = 1_024;
 
@@ -235,12 +238,16 @@ impl Parts<'_> {
 
     /// Reads a digest and the quotation mark behind it.
     fn digest(&mut self) -> Option<u64> {
-        let (digits, rest) = self.rest.split_at_checked(16)?;
+        let (digits, rest) = self.rest.split_at_checked(DIGITS)?;
         self.rest = rest;
         if !self.pass(b"\"") {
             return None;
         }
-        u64::from_str_radix(str::from_utf8(digits).ok()?, 16).ok()
+        let mut digest = 0u64;
+        for digit in digits {
+            digest = digest.wrapping_mul(16) | u64::from(hexadecimal_of(*digit)?);
+        }
+        Some(digest)
     }
 
     /// Goes past these bytes. Says whether they were there.
@@ -358,4 +365,13 @@ fn copy_plain(text: &mut Vec<u8>, bytes: &[u8]) -> Result<usize, AllocError> {
         }
     }
     Ok(bytes.len())
+}
+
+/// The number of a digit of base 16, as a digest has it.
+fn hexadecimal_of(digit: u8) -> Option<u8> {
+    match digit {
+        b'0'..=b'9' => Some(digit.wrapping_sub(b'0')),
+        b'a'..=b'f' => Some(digit.wrapping_sub(b'a').wrapping_add(10)),
+        _ => None,
+    }
 }
