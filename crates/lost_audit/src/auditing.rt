@@ -10,7 +10,7 @@ use crate::log_reader::LogReader;
 use crate::window::{MOST_LINES, Window};
 use lost_book::Limits;
 use lost_desk::{Desk, open_desk};
-use lost_journal_file::{JournalDisk, look_at_journal};
+use lost_journal_file::{JournalDisk, JournalLength, look_at_journal};
 use lost_keeping::Walk;
 use lost_lines::{ServeError, Turns};
 use lost_mapping::Source;
@@ -42,10 +42,11 @@ pub fn audit<R: Wait + Files<File = File> + AllocGlobal, I: Read + Drop, W: Writ
     input: I,
     output: W,
 ) -> Result<Findings, AuditFault> {
+    let length = JournalLength::of(rt, path);
     let walk = begin_walk(rt, path)?;
     match open_desk(rt, rt.alloc(), Limits::widest(), 1) {
         Ok((mut desk, _readers)) => {
-            let found = audit_over(rt, name, walk, &mut desk, input, output);
+            let found = audit_over(rt, name, walk, length, &mut desk, input, output);
             desk.close(rt);
             found
         }
@@ -70,10 +71,11 @@ pub(crate) fn begin_walk<R: Files<File = File> + AllocGlobal>(
 }
 
 /// Audits a log over a desk that has no edits.
-fn audit_over<R: Wait + AllocGlobal, I: Read + Drop, W: Write + Drop>(
+fn audit_over<R: Wait + Files<File = File> + AllocGlobal, I: Read + Drop, W: Write + Drop>(
     rt: &R,
     name: &Source,
     walk: Walk<JournalDisk>,
+    length: JournalLength<'_>,
     desk: &mut Desk,
     input: I,
     output: W,
@@ -84,6 +86,7 @@ fn audit_over<R: Wait + AllocGlobal, I: Read + Drop, W: Write + Drop>(
         name,
         desk,
         walk,
+        length,
         window: Window::new(rt.alloc()),
         scratch: Scratch::new(rt.alloc()),
         last_day: LastDay::none(),
@@ -107,7 +110,7 @@ fn audit_over<R: Wait + AllocGlobal, I: Read + Drop, W: Write + Drop>(
 }
 
 /// Takes each line of a log, and writes what there is to tell before more is read.
-fn audit_lines<R: Wait + AllocGlobal, I: Read, W: Write>(
+fn audit_lines<R: Wait + Files<File = File> + AllocGlobal, I: Read, W: Write>(
     auditor: &mut Auditor<'_, R, JournalDisk>,
     input: &mut I,
     output: &mut W,

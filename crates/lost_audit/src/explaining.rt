@@ -1,10 +1,11 @@
 //! Answers requests as of an edition of a journal.
 
 use crate::auditing::{TURNS, begin_walk};
+use crate::auditor::is_end;
 use crate::fault::AuditFault;
 use lost_book::Limits;
 use lost_desk::{Desk, open_desk};
-use lost_journal_file::JournalDisk;
+use lost_journal_file::{JournalDisk, JournalLength};
 use lost_json::{bad_request, internal_error, reply_line};
 use lost_keeping::Walk;
 use lost_lines::{Answer, Answerer, Counts, NoGate, Text, Watched, run_lines};
@@ -47,10 +48,11 @@ pub fn explain<R: Wait + Files<File = File> + AllocGlobal, I: Read + Drop, W: Wr
         AtEdition::Edition(edition) => edition,
         AtEdition::ByTime => edition_at(rt, path, moment)?,
     };
+    let length = JournalLength::of(rt, path);
     let mut walk = begin_walk(rt, path)?;
     match open_desk(rt, rt.alloc(), Limits::widest(), 1) {
         Ok((mut desk, _readers)) => {
-            let explained = match reach(rt, &mut walk, &mut desk, edition) {
+            let explained = match reach(rt, &mut walk, &length, &mut desk, edition) {
                 Ok(()) => {
                     let explaining = Explaining {
                         book: desk.published(),
@@ -92,9 +94,10 @@ fn answer_all<R: AllocGlobal, I: Read + Drop, W: Write + Drop>(
 }
 
 /// Publishes a journal's edits up to the commit that made an edition.
-fn reach<R: Wait>(
+fn reach<R: Wait + Files<File = File>>(
     rt: &R,
     walk: &mut Walk<JournalDisk>,
+    length: &JournalLength<'_>,
     desk: &mut Desk,
     edition: u64,
 ) -> Result<(), AuditFault> {
@@ -103,7 +106,7 @@ fn reach<R: Wait>(
         if !has_more || desk.edition() >= edition {
             break;
         }
-        has_more = next_commit(rt, walk, desk)?;
+        has_more = next_commit(rt, walk, length, desk)?;
     }
     if desk.edition() == edition {
         return Ok(());
@@ -112,13 +115,15 @@ fn reach<R: Wait>(
 }
 
 /// Publishes a journal's edits up to the next commit. Says whether there was one.
-fn next_commit<R: Wait>(
+fn next_commit<R: Wait + Files<File = File>>(
     rt: &R,
     walk: &mut Walk<JournalDisk>,
+    length: &JournalLength<'_>,
     desk: &mut Desk,
 ) -> Result<bool, AuditFault> {
     match walk.next_commit(rt, desk) {
         Ok(has_more) => Ok(has_more),
+        Err(stopped) if is_end(rt, length, &stopped) => Ok(false),
         Err(stopped) => Err(AuditFault::NotRead(stopped)),
     }
 }
@@ -129,10 +134,11 @@ fn edition_at<R: Wait + Files<File = File> + AllocGlobal>(
     path: &str,
     moment: &Moment,
 ) -> Result<u64, AuditFault> {
+    let length = JournalLength::of(rt, path);
     let mut walk = begin_walk(rt, path)?;
     match open_desk(rt, rt.alloc(), Limits::widest(), 1) {
         Ok((mut desk, _readers)) => {
-            let edition = last_edition(rt, &mut walk, &mut desk, moment);
+            let edition = last_edition(rt, &mut walk, &length, &mut desk, moment);
             desk.close(rt);
             edition
         }
@@ -141,15 +147,16 @@ fn edition_at<R: Wait + Files<File = File> + AllocGlobal>(
 }
 
 /// The same, over a desk that has no edits.
-fn last_edition<R: Wait + AllocGlobal>(
+fn last_edition<R: Wait + Files<File = File> + AllocGlobal>(
     rt: &R,
     walk: &mut Walk<JournalDisk>,
+    length: &JournalLength<'_>,
     desk: &mut Desk,
     moment: &Moment,
 ) -> Result<u64, AuditFault> {
     let mut edition = None;
     for _commit in rt.forever() {
-        if !next_commit(rt, walk, desk)? || is_later(rt.alloc(), walk.line(), moment)? {
+        if !next_commit(rt, walk, length, desk)? || is_later(rt.alloc(), walk.line(), moment)? {
             break;
         }
         edition = Some(desk.edition());

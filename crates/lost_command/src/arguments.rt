@@ -88,7 +88,7 @@ check` and --map read too. Bytes that a crash left behind the last commit are dr
 which ends the server with status 3, and the file stays as it is.\n\n\
 --log FILE adds a line for each request line that is answered, with the moment and the edition that the answer went by, \
 so that `lostd audit` can judge the answer again years later. One thread writes it, and no answer waits for it: where \
-the file takes too few lines, the others are left out, and a line says how many and between which times. Rotate it by copying and cutting it. It holds locations of callers: only \
+the file takes too few lines, the others are left out, and a line says how many and between which times. Rotate it by renaming it, or by copying and cutting it. It holds locations of callers: only \
 its owner may read it.\n\n\
 Without --connections the server runs until a signal ends it. Desks are served one after another: a second desk waits \
 until the first has ended. A desk is disconnected if it sends no whole line in the first 10 seconds of its turn; if, \

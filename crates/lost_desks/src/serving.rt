@@ -14,7 +14,6 @@ use crate::map_reply::answer;
 use crate::map_request::{MapAsked, read_request};
 use crate::turn_end::TurnEnd;
 use lost_desk::Desk;
-use lost_journal::NotKept;
 use lost_keeping::{Keeper, serve_desk_kept};
 use lost_lines::{Counts, ServeError, Turns, Watched};
 use lost_log::ConnectionLog;
@@ -238,9 +237,9 @@ impl<R: Wait + Clock + Eprint> DeskService<'_, R> {
         };
         if let Some(fault) = keeper.take_fault() {
             self.log.report_journal(&fault);
-            if let NotKept::Spent = fault {
-                counter.count(DeskEvent::JournalFailed);
-            }
+        }
+        if keeper.is_spent() {
+            counter.count(DeskEvent::JournalFailed);
         }
     }
 }

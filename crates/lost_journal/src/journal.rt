@@ -63,6 +63,11 @@ impl<D: Disk> Journal<D> {
         }
     }
 
+    /// Whether a flush has failed, so that nothing more is asked of the file.
+    pub fn is_spent(&self) -> bool {
+        !self.disk.may_be_used()
+    }
+
     /// Whether edits wait for a commit.
     pub fn has_pending(&self) -> bool
         ensures { result ≡ false → pending_of self.now ≡ [] }

@@ -172,6 +172,11 @@ impl<D: Disk> Keeper<D> {
         self.fault.take()
     }
 
+    /// Whether a flush has failed, so that nothing more is kept until a restart.
+    pub fn is_spent(&self) -> bool {
+        self.journal.is_spent()
+    }
+
     /// Keeps on where a journal was read to its end.
     pub(crate) fn of(alloc: Global, journal: Journal<D>) -> Keeper<D>
         ensures journal { journal_of result ≡ journal }
