@@ -71,6 +71,13 @@ class Trial:
         self.ledger.look_at_page(server.page("/health"))
         self.wrong += [] if metric in server.page("/metrics") else [f"/metrics does not have {metric.decode().strip()}"]
 
+    def look_soon(self, server, metric):
+        """The page has this soon: a desk's turn may end a little after its connection."""
+        end = time.monotonic() + SOON
+        while metric not in server.page("/metrics") and time.monotonic() < end:
+            time.sleep(0.02)
+        self.wrong += [] if metric in server.page("/metrics") else [f"/metrics does not have {metric.decode().strip()} once the desk has left"]
+
     def said_once(self, server):
         """One line says that the disk failed; it may come a little after the desk's connection has ended."""
         end = time.monotonic() + SOON
@@ -128,6 +135,7 @@ def failed_flush(program, number, way, wrong):
             one.wrong += differs("the commit that failed", (place, replies[-1]), ((number - FLUSHES_OF_START - 1) // FLUSHES_OF_COMMIT, NOT_KEPT))
             one.wrong += differs("what came behind it", set(talk.ask([COMMIT, publish(90), COMMIT])), {NOT_KEPT})
             talk.end()
+            one.look_soon(server, FAILED)
             talk.connect(server)
             one.wrong += differs("the next desk", set(talk.ask([publish(91), publish(92)])), {NOT_KEPT})
             talk.end()

@@ -7,6 +7,7 @@ import os
 import re
 import stat
 import subprocess
+import threading
 import time
 import unittest
 from typing import Any, Dict, List, Sequence, Tuple
@@ -20,6 +21,8 @@ NAME = ["--name", "lost.example"]
 # How long a line may take into the log, and after how long a log that was taken away is noticed.
 SOON = 10.0
 LOOK = 1.2
+# How often a journal is looked at while a desk commits, and at most how often it commits meanwhile.
+LOOKS, MOST_COMMITS = 20, 50_000
 TIMES = re.compile(r"^[0-9]{4}-[0-9]{2}-[0-9]{2}T[0-9]{2}:[0-9]{2}:[0-9]{2}\.[0-9]{9}Z$")
 
 
@@ -27,6 +30,13 @@ def run(words: Sequence[str], given: bytes = b"") -> Tuple[int, str, str]:
     """The status, the output and what is said on standard error."""
     ran = subprocess.run([str(lostd()), *words], input=given, capture_output=True, timeout=PATIENCE)
     return ran.returncode, ran.stdout.decode(errors="surrogateescape"), ran.stderr.decode()
+
+
+def numbered(number: int) -> str:
+    """A publish of the same place under a name of this number."""
+    line = json.loads(ONE)
+    line["publish"].update(sourceId=f"N{number}", key=f"N{number}")
+    return json.dumps(line) + "\n"
 
 
 def stamped(edit: str, stamp: str) -> str:
@@ -47,6 +57,34 @@ class CheckTests(Journals):
         self.assertEqual(self.file(), journal)
         with self.ready():
             self.assertEqual(run(["check", "--journal", self.journal]), (0, done, ""))
+
+    def test_while_a_server_commits(self) -> None:
+        """The journal that a server goes on to write is no damage: each look at it finds a commit."""
+        with self.ready() as server:
+            is_over = threading.Event()
+            desk = threading.Thread(target=self.commit_until, args=(is_over,))
+            desk.start()
+            try:
+                for _ in range(LOOKS):
+                    status, output, said = run(["check", "--journal", self.journal])
+                    self.assertEqual((status, said), (0, ""))
+                    self.assertRegex(output, r"edition=(\d+) mappings=\1 ")
+                    self.assertEqual(run(["compact", "--journal", self.journal])[0], 0)
+                    asked = ["explain", "--journal", self.journal, *NAME, "--now", "2100-01-01T00:00:00Z"]
+                    self.assertEqual(run(asked, self.question.encode())[0], 0)
+            finally:
+                is_over.set()
+                desk.join(PATIENCE)
+            self.kill(server)
+
+    def commit_until(self, is_over: threading.Event) -> None:
+        """Commits one mapping after another until told to end."""
+        with unix(self.desk) as desk:
+            for number in range(MOST_COMMITS):
+                self.assertIn("staged", ask(desk, numbered(number)))
+                self.assertIn("committed", ask(desk, COMMIT))
+                if is_over.is_set():
+                    return
 
     def test_behind_the_last_commit(self) -> None:
         """What a server would drop is told, and stays."""

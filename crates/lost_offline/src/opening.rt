@@ -38,13 +38,13 @@ pub(crate) fn read_journal<R: Wait + Files<File = File> + AllocGlobal>(
     }
 }
 
-/// What was read of a journal that a server went on to write: its last gate was opened before it was read. Each commit
-/// that was read stands.
+/// What was read of a journal that a server went on to write: its last gate was opened before it was read, or that of a
+/// commit behind it. Each commit that was read stands.
 fn read_so_far(stopped: Stopped, desk: &mut Desk) -> Result<Recovered, JournalFault>
     ensures nothing_pending { OnOk result (desk.new.pending ≡ []) }
     ensures same { IsSameDesk desk.old desk.new }
 {
-    let RecoveryFault::Damaged(Damage::NoEnd) = stopped.fault else {
+    let RecoveryFault::Damaged(Damage::NoEnd | Damage::CommitBehind) = stopped.fault else {
         return Err(JournalFault::NotRead(stopped));
     };
     desk.drop_pending()?;
