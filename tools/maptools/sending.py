@@ -42,7 +42,8 @@ def total(count: Count) -> int:
 def end_text(count: Count) -> str:
     """What came of all lines."""
     head = f"{total(count)} lines: {count.staged} edits staged, {count.committed} commits, {count.refused} refused"
-    return f"{head}; edition {count.edition}" + (f"; {count.pending} staged edits are not committed" if count.pending else "")
+    edition = f"; edition {count.edition}" if count.committed else ""
+    return f"{head}{edition}" + (f"; {count.pending} staged edits are not committed" if count.pending else "")
 
 
 def after_reply(options: argparse.Namespace, feed: Feed, names: List[str], count: Count, line: bytes) -> Count:
