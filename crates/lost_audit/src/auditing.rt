@@ -11,7 +11,7 @@ use crate::window::{MOST_LINES, Window};
 use lost_book::Limits;
 use lost_desk::{Desk, open_desk};
 use lost_journal_file::{JournalDisk, JournalLength, look_at_journal};
-use lost_keeping::Walk;
+use lost_keeping::{Damage, RecoveryFault, Stopped, Walk};
 use lost_lines::{ServeError, Turns};
 use lost_mapping::Source;
 use lost_tape::Scratch;
@@ -46,12 +46,40 @@ pub fn audit<R: Wait + Files<File = File> + AllocGlobal, I: Read + Drop, W: Writ
     let walk = begin_walk(rt, path)?;
     match open_desk(rt, rt.alloc(), Limits::widest(), 1) {
         Ok((mut desk, _readers)) => {
-            let found = audit_over(rt, name, walk, length, &mut desk, input, output);
+            let audited = audit_over(rt, name, walk, &mut desk, input, output);
             desk.close(rt);
-            found
+            match audited {
+                Ok((found, None)) => Ok(found),
+                Ok((found, Some(stopped))) => found_up_to(rt, &length, stopped, found),
+                Err(fault) => Err(fault),
+            }
         }
         Err(_) => Err(AuditFault::Memory),
     }
+}
+
+/// What was found over a journal that ended without a last commit: that is damage, unless a server writes it.
+fn found_up_to<R: Files<File = File>>(
+    rt: &R,
+    length: &JournalLength<'_>,
+    stopped: Stopped,
+    found: Findings,
+) -> Result<Findings, AuditFault> {
+    if is_end(rt, length, &stopped) {
+        Ok(found)
+    } else {
+        Err(AuditFault::NotRead(stopped))
+    }
+}
+
+/// Whether a journal was read as far as it went when its reading began, and a server has gone on to write it: its last
+/// gate was opened before it was read.
+pub(crate) fn is_end<R: Files<File = File>>(
+    rt: &R,
+    length: &JournalLength<'_>,
+    stopped: &Stopped,
+) -> bool {
+    matches!(stopped.fault, RecoveryFault::Damaged(Damage::NoEnd)) && length.has_grown(rt)
 }
 
 /// Begins to read the journal at a path.
@@ -70,29 +98,28 @@ pub(crate) fn begin_walk<R: Files<File = File> + AllocGlobal>(
     }
 }
 
-/// Audits a log over a desk that has no edits.
-fn audit_over<R: Wait + Files<File = File> + AllocGlobal, I: Read + Drop, W: Write + Drop>(
+/// Audits a log over a desk that has no edits. Gives what was found, and where the journal ended without a last commit.
+fn audit_over<R: Wait + AllocGlobal, I: Read + Drop, W: Write + Drop>(
     rt: &R,
     name: &Source,
     walk: Walk<JournalDisk>,
-    length: JournalLength<'_>,
     desk: &mut Desk,
     input: I,
     output: W,
-) -> Result<Findings, AuditFault> {
+) -> Result<(Findings, Option<Stopped>), AuditFault> {
     let mut auditor = Auditor {
         rt,
         alloc: rt.alloc(),
         name,
         desk,
         walk,
-        length,
         window: Window::new(rt.alloc()),
         scratch: Scratch::new(rt.alloc()),
         last_day: LastDay::none(),
         found: Findings::none(),
         reports: Vec::new(rt.alloc()),
         stopped: None,
+        ran_out: None,
     };
     let mut input = input;
     let mut output = output;
@@ -105,12 +132,12 @@ fn audit_over<R: Wait + Files<File = File> + AllocGlobal, I: Read + Drop, W: Wri
     }
     match auditor.stopped {
         Some(stopped) => Err(AuditFault::NotRead(stopped)),
-        None => Ok(auditor.found),
+        None => Ok((auditor.found, auditor.ran_out)),
     }
 }
 
 /// Takes each line of a log, and writes what there is to tell before more is read.
-fn audit_lines<R: Wait + Files<File = File> + AllocGlobal, I: Read, W: Write>(
+fn audit_lines<R: Wait + AllocGlobal, I: Read, W: Write>(
     auditor: &mut Auditor<'_, R, JournalDisk>,
     input: &mut I,
     output: &mut W,

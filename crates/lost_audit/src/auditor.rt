@@ -8,14 +8,12 @@ use crate::verdict::{Verdict, judge};
 use crate::window::{MOST_LINES, Window};
 use lost_answer_log::{reply_digest, without_end};
 use lost_desk::Desk;
-use lost_journal_file::JournalLength;
 use lost_json::internal_error;
 use lost_keeping::{Damage, RecoveryFault, Stopped, Walk};
 use lost_mapping::Source;
 use lost_tape::Scratch;
 use sqlite_disk::Disk;
 use std::alloc::{AllocError, Global};
-use std::fs::{File, Files};
 use std::sync::Wait;
 
 /// What an audit found.
@@ -64,8 +62,6 @@ pub(crate) struct Auditor<'a, R, D: Disk> {
     pub(crate) name: &'a Source,
     pub(crate) desk: &'a mut Desk,
     pub(crate) walk: Walk<D>,
-    /// How long the journal was when its reading began.
-    pub(crate) length: JournalLength<'a>,
     pub(crate) window: Window,
     /// What the reading of requests works with.
     pub(crate) scratch: Scratch,
@@ -76,9 +72,11 @@ pub(crate) struct Auditor<'a, R, D: Disk> {
     pub(crate) reports: Vec<u8>,
     /// Why the journal could not be read on.
     pub(crate) stopped: Option<Stopped>,
+    /// Where the journal ended without a last commit. Nothing behind that is read.
+    pub(crate) ran_out: Option<Stopped>,
 }
 
-impl<R: Wait + Files<File = File>, D: Disk + Drop> Auditor<'_, R, D> {
+impl<R: Wait, D: Disk + Drop> Auditor<'_, R, D> {
     /// Takes a line of the log, without its byte 10, and adds the report of what is judged then.
     pub(crate) fn take_line(&mut self, line: &[u8]) -> Result<(), AllocError> {
         let number = self.next_number();
@@ -172,11 +170,18 @@ impl<R: Wait + Files<File = File>, D: Disk + Drop> Auditor<'_, R, D> {
             match self.walk.next_commit(self.rt, self.desk) {
                 Ok(true) => {}
                 Ok(false) => break,
-                Err(stopped) if is_end(self.rt, &self.length, &stopped) => break,
-                Err(stopped) => self.stopped = Some(stopped),
+                Err(stopped) => self.stop(stopped),
             }
         }
         self.found.edition = self.desk.edition();
+    }
+
+    /// Notes where the reading of the journal stopped.
+    fn stop(&mut self, stopped: Stopped) {
+        match stopped.fault {
+            RecoveryFault::Damaged(Damage::NoEnd) => self.ran_out = Some(stopped),
+            _ => self.stopped = Some(stopped),
+        }
     }
 
     /// What a question comes to.
@@ -237,14 +242,4 @@ fn is_internal_error(kept: &Kept) -> bool {
         Kept::Digest(digest) => reply_digest(without_end(error.bytes())) == *digest,
         Kept::Nothing => false,
     }
-}
-
-/// Whether a journal was read as far as it went when its reading began, and a server has gone on to write it: its last
-/// gate was opened before it was read.
-pub(crate) fn is_end<R: Files<File = File>>(
-    rt: &R,
-    length: &JournalLength<'_>,
-    stopped: &Stopped,
-) -> bool {
-    matches!(stopped.fault, RecoveryFault::Damaged(Damage::NoEnd)) && length.has_grown(rt)
 }

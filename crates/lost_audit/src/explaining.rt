@@ -1,7 +1,6 @@
 //! Answers requests as of an edition of a journal.
 
-use crate::auditing::{TURNS, begin_walk};
-use crate::auditor::is_end;
+use crate::auditing::{TURNS, begin_walk, is_end};
 use crate::fault::AuditFault;
 use lost_book::Limits;
 use lost_desk::{Desk, open_desk};

@@ -3,7 +3,6 @@ use crate::auditor::Auditor;
 use memchr::memchr;
 use sqlite_disk::Disk;
 use std::alloc::{AllocError, Global};
-use std::fs::{File, Files};
 use std::sync::Wait;
 
 /// The most bytes of a line that is kept. A request of 1 MiB may take six times as many, and a reply has no limit of its
@@ -28,7 +27,7 @@ impl LogReader {
     }
 
     /// Reads on, and hands each line over that ends.
-    pub(crate) fn read<R: Wait + Files<File = File>, D: Disk + Drop>(
+    pub(crate) fn read<R: Wait, D: Disk + Drop>(
         &mut self,
         bytes: &[u8],
         auditor: &mut Auditor<'_, R, D>,
@@ -47,7 +46,7 @@ impl LogReader {
     }
 
     /// Hands a last line over that was not ended.
-    pub(crate) fn finish<R: Wait + Files<File = File>, D: Disk + Drop>(
+    pub(crate) fn finish<R: Wait, D: Disk + Drop>(
         &mut self,
         auditor: &mut Auditor<'_, R, D>,
     ) -> Result<(), AllocError> {
@@ -70,7 +69,7 @@ impl LogReader {
     }
 
     /// Hands the line over, and goes on to the next one.
-    fn hand_over<R: Wait + Files<File = File>, D: Disk + Drop>(
+    fn hand_over<R: Wait, D: Disk + Drop>(
         &mut self,
         auditor: &mut Auditor<'_, R, D>,
     ) -> Result<(), AllocError> {
