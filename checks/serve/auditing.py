@@ -19,6 +19,8 @@ from verdicts import Books
 SECONDS, CLIENTS = 300.0, 100
 CONNECTIONS_A_SECOND = 10
 DOWN_SECONDS, PATIENCE = 1.0, 60.0
+# How many lines a client asks in a second at most: at full speed all clients ask more than a thread can log of whole replies.
+PACE = 400
 FIRST, DOWN, SECOND = range(3)
 DROPPED = "lostd: --journal: dropped what stood behind the last commit: "
 # The bytes of requests and replies that may wait for the thread that writes: 64 batches, and what each worker keeps.
@@ -52,6 +54,12 @@ class Surviving(Client):
                     raise
             if life == FIRST:
                 self.run.before[self.number] = self.replies
+
+    def put(self, peer, left):
+        """Sends some requests in a row, and rests as long as the pace wants."""
+        sent = super().put(peer, left)
+        time.sleep(len(sent[1]) / PACE)
+        return sent
 
     def ask_waiting(self, peer, waiting, left):
         """Asks so many lines; keeps how many it has sent that had no reply."""
